@@ -1,0 +1,23 @@
+-- An answer is what it says: two that say the same are equal.
+-- Assumes nothing.
+use mathlib.Core.Path.{_≡_, refl, ap₂}
+use Prim.Native.Nat.{ℕ}
+use native.Mathlib.Omega.{arith}
+use Rattle.ground.specs.Refusals.{Outcome, accepted, refused}
+use Rattle.ground.specs.Answers.{doneSays, answerSays}
+use Rattle.ground.specs.declared.answers.Done.{Done}
+use Rattle.ground.specs.declared.answers.Done.the-variants.{Yes, Refused}
+use Rattle.ground.specs.declared.answers.Answer.{Answer}
+use Rattle.ground.specs.declared.answers.Answer.the-variants.{Read, Refused as answer-refused}
+
+pub done-one : (a b : Done) → doneSays a ≡ doneSays b → a ≡ b
+done-one Yes Yes e = refl
+done-one Yes (Refused n v) e = let z : _≡_ {A = ℕ} 0 1 = cc in absurd (omega arith)
+done-one (Refused n v) Yes e = let z : _≡_ {A = ℕ} 0 1 = cc in absurd (omega arith)
+done-one (Refused n v) (Refused n′ v′) e = cc
+
+pub answer-one : (a b : Answer) → answerSays a ≡ answerSays b → a ≡ b
+answer-one (Read x) (Read y) e = cc
+answer-one (Read x) (answer-refused n v) e = let z : _≡_ {A = ℕ} 0 1 = cc in absurd (omega arith)
+answer-one (answer-refused n v) (Read x) e = let z : _≡_ {A = ℕ} 0 1 = cc in absurd (omega arith)
+answer-one (answer-refused n v) (answer-refused n′ v′) e = cc

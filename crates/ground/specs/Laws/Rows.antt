@@ -1,0 +1,132 @@
+-- Laws of rows of numbers.
+-- Assumes nothing.
+use mathlib.Core.Path.{_≡_, refl, sym, ap, _∙_}
+use mathlib.Core.Logic.{⊎-elim}
+use mathlib.Core.List.{List, [], _∷_, _++_, List·Memᴰ, List·Memᴰ·cases-cons, List·Memᴰ·not-nil}
+use Prim.Native.Nat.{ℕ, zero, suc, _+_, _-_, _≤_, _<_}
+use native.Mathlib.Nat.{add-zero, zero-add, add-suc, suc-add, not-suc-le-zero, le-of-suc-le-suc, sub-zero, zero-sub, suc-sub-suc}
+use native.Mathlib.Decide.{ℕ-discrete}
+use native.Mathlib.Omega.{arith}
+use lib.ListN.{length, take, drop, getD, set, replicate, length-append, length-replicate, length-set, getD-replicate, List·getD-append, replicate-append-replicate}
+use lib.Seq.{take-at, ext-getD, getD-set-same, getD-set-other}
+use Rattle.ground.specs.Rows.{Below, none, also, tab, zeros, padded}
+
+-- ---- numbers below n
+
+pub getD-below : {n : ℕ} {xs : List ℕ} → Below n xs → 0 < n → (i : ℕ) → getD xs i 0 < n
+getD-below none h i = h
+getD-below (also a b) h zero = a
+getD-below (also a b) h (suc i) = getD-below b h i
+
+pub below-mem : {n : ℕ} {xs : List ℕ} → Below n xs → (x : ℕ) → List·Memᴰ x xs → x < n
+below-mem none x m = absurd (List·Memᴰ·not-nil m)
+below-mem (also a b) x m = ⊎-elim (λ e. rw e a) (below-mem b x) (List·Memᴰ·cases-cons m)
+
+pub below-append : {n : ℕ} {xs ys : List ℕ} → Below n xs → Below n ys → Below n (xs ++ ys)
+below-append none k = k
+below-append (also a h) k = also a (below-append h k)
+
+pub below-drop : {n : ℕ} {xs : List ℕ} → Below n xs → (i : ℕ) → Below n (drop i xs)
+below-drop none zero = none
+below-drop none (suc i) = none
+below-drop (also a h) zero = also a h
+below-drop (also a h) (suc i) = below-drop h i
+
+pub below-take : {n : ℕ} {xs : List ℕ} → Below n xs → (i : ℕ) → Below n (take i xs)
+below-take h zero = none
+below-take none (suc i) = none
+below-take (also a h) (suc i) = also a (below-take h i)
+
+-- from its entries
+pub below-all : (n : ℕ) (xs : List ℕ) → ((i : ℕ) → getD xs i 0 < n) → Below n xs
+below-all n [] h = none
+below-all n (x ∷ xs) h = also (h 0) (below-all n xs (λ i. h (suc i)))
+
+-- ---- tables
+
+pub length-tab : (f : ℕ → ℕ) (i n : ℕ) → length (tab f i n) ≡ n
+unfolding tab
+length-tab f i zero = refl
+length-tab f i (suc n) = ap suc (length-tab f (suc i) n)
+
+pub getD-tab : (f : ℕ → ℕ) (i n j d : ℕ) → j < n → getD (tab f i n) j d ≡ f (i + j)
+unfolding tab
+getD-tab f i zero j d h = absurd (not-suc-le-zero h)
+getD-tab f i (suc n) zero d h = rw add-zero
+getD-tab f i (suc n) (suc j) d h = getD-tab f (suc i) n j d (le-of-suc-le-suc h) ∙ rw (suc-add, add-suc)
+
+-- from 0 on
+pub tab-at : (f : ℕ → ℕ) (n j : ℕ) → j < n → getD (tab f 0 n) j 0 ≡ f j
+tab-at f n j h = getD-tab f 0 n j 0 h ∙ ap f (zero-add j)
+
+-- a list that has the table's entries is the table
+pub tab-ext : (f : ℕ → ℕ) (n : ℕ) (l : List ℕ) → length l ≡ n → ((i : ℕ) → i < n → getD l i 0 ≡ f i) → l ≡ tab f 0 n
+tab-ext f n l e h =
+    ext-getD 0 l (tab f 0 n) (e ∙ sym (length-tab f 0 n)) (λ i p. h i (omega arith) ∙ sym (tab-at f n i (omega arith)))
+
+-- one entry stored
+pub tab-set : (f g : ℕ → ℕ) (n b v : ℕ) → b < n → g b ≡ v → ((j : ℕ) → (j ≡ b → ⊥) → g j ≡ f j) → set (tab f 0 n) b v ≡ tab g 0 n
+tab-set f g n b v h e o =
+    tab-ext g n (set (tab f 0 n) b v) (length-set (tab f 0 n) b v ∙ length-tab f 0 n) (λ i p. at-entry i p (ℕ-discrete i b))
+  where
+    at-entry : (i : ℕ) → i < n → Dec (i ≡ b) → getD (set (tab f 0 n) b v) i 0 ≡ g i
+    at-entry i p (yes q) = rw q (getD-set-same (tab f 0 n) b v 0 (rw (length-tab f 0 n) h) ∙ sym e)
+    at-entry i p (no q) = getD-set-other (tab f 0 n) b i v 0 q ∙ tab-at f n i p ∙ sym (o i q)
+
+pub tab-below : (f : ℕ → ℕ) (n i c : ℕ) → ((j : ℕ) → f j < n) → Below n (tab f i c)
+unfolding tab
+tab-below f n i zero h = none
+tab-below f n i (suc c) h = also (h i) (tab-below f n (suc i) c h)
+
+-- ---- zeros
+
+pub length-zeros : (n : ℕ) → length (zeros n) ≡ n
+unfolding zeros
+length-zeros n = length-replicate n 0
+
+pub drop-zeros : (i n : ℕ) → drop i (zeros n) ≡ zeros (n - i)
+unfolding zeros
+drop-zeros zero n = rw sub-zero
+drop-zeros (suc i) zero = rw zero-sub
+drop-zeros (suc i) (suc n) = rw suc-sub-suc (drop-zeros i n)
+
+pub tab-zeros : (f : ℕ → ℕ) (n : ℕ) → ((i : ℕ) → f i ≡ 0) → zeros n ≡ tab f 0 n
+unfolding zeros
+tab-zeros f n z = tab-ext f n (replicate n 0) (length-replicate n 0) (λ i p. getD-replicate n i 0 0 p ∙ sym (z i))
+
+-- past their end too
+pub getD-zeros : (n i : ℕ) → getD (zeros n) i 0 ≡ 0
+unfolding zeros
+getD-zeros zero i = refl
+getD-zeros (suc n) zero = refl
+getD-zeros (suc n) (suc i) = getD-zeros n i
+
+-- a row with zeros after it
+pub getD-zeros-after : (xs : List ℕ) (n i : ℕ) → getD (xs ++ zeros n) i 0 ≡ getD xs i 0
+getD-zeros-after [] n i = getD-zeros n i
+getD-zeros-after (x ∷ xs) n zero = refl
+getD-zeros-after (x ∷ xs) n (suc i) = getD-zeros-after xs n i
+
+pub zeros-append : (m n : ℕ) → zeros m ++ zeros n ≡ zeros (m + n)
+unfolding zeros
+zeros-append m n = replicate-append-replicate m n 0
+
+-- ---- padded rows
+
+pub length-padded : (n : ℕ) (row : List ℕ) → length row ≤ n → length (padded n row) ≡ n
+unfolding padded
+length-padded n row h = length-append row (zeros (n - length row)) ∙ omega (arith, length-zeros (n - length row))
+
+-- a row laid over zeros
+pub padded-over : (n : ℕ) (row : List ℕ) → row ++ drop (length row) (zeros n) ≡ padded n row
+unfolding padded
+padded-over n row = ap (λ (l : List ℕ). row ++ l) (drop-zeros (length row) n)
+
+-- the row is what stands in its places
+pub take-padded : (n : ℕ) (row : List ℕ) → take (length row) (padded n row) ≡ row
+unfolding padded
+take-padded n row = take-at row (zeros (n - length row)) (length row) refl
+
+pub getD-padded : (n : ℕ) (row : List ℕ) (i : ℕ) → i < length row → getD (padded n row) i 0 ≡ getD row i 0
+unfolding padded
+getD-padded n row i h = List·getD-append row (zeros (n - length row)) 0 i h

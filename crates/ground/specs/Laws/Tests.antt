@@ -1,0 +1,25 @@
+-- A test that passes, a test that fails.
+-- Assumes nothing.
+use mathlib.Core.Path.{_≡_, refl}
+use mathlib.Core.Bool.{Bool, true, false, not, cond}
+use lib.Dec.{T}
+
+pub cond-yes {ℓ} : {X : Type ℓ} (b : Bool) (x y : X) → T b → cond b x y ≡ x
+cond-yes true x y t = refl
+cond-yes false x y t = absurd t
+
+pub cond-no {ℓ} : {X : Type ℓ} (b : Bool) (x y : X) → T (not b) → cond b x y ≡ y
+cond-no true x y t = absurd t
+cond-no false x y t = refl
+
+-- by cases on a test
+pub by-test {ℓ} : {X : Type ℓ} (b : Bool) → (T b → X) → (T (not b) → X) → X
+by-test true f g = f tt
+by-test false f g = g tt
+
+-- two tests that pass together are one
+pub same-test : (a b : Bool) → (T a → T b) → (T b → T a) → a ≡ b
+same-test true true f g = refl
+same-test true false f g = absurd (f tt)
+same-test false true f g = absurd (g tt)
+same-test false false f g = refl

@@ -1,0 +1,14 @@
+-- `stopper::choose::refused` meets its contract.
+-- Assumes nothing.
+use mathlib.Core.Path.{refl}
+use Rattle.ground.specs.Rows.{zeros, padded}
+use Rattle.stopper.specs.Operations.{refusedChoice}
+use Rattle.stopper.proofs.choose.refused.Statement.{statement}
+use Rattle.stopper.proofs.choose.refused.Tie as tie
+
+returns : tie.Need-returns
+unfolding refusedChoice zeros padded
+returns c = refl
+
+pub refused-spec : {M : Type 1} → statement M
+refused-spec = tie.close (tie.spec returns)

@@ -1,0 +1,102 @@
+-- `stopper::codeword_of::codeword_of` meets its contract.
+-- Assumes nothing.
+use mathlib.Core.Path.{_≡_, sym, ap₂, subst, _∙_}
+use mathlib.Core.Bool.{Bool, true, false}
+use Prim.Native.Nat.{ℕ, _≤_, _<_}
+use native.Mathlib.Omega.{arith}
+use borrow.Author.Needs.{needs}
+use borrow.Author.Tests.{lt-ltb, le-ltb, not-true, not-false}
+use lib.Dec.{T, ltb}
+use lib.ListN.{length}
+use lib.Seq.{length-take-le}
+use Rattle.ground.specs.Rows.{zeros}
+use Rattle.stopper.specs.Table.{goodTable, characters, has, rankIn}
+use Rattle.stopper.specs.Laws.Table.{is-good, table-code, table-few, length-small}
+use Rattle.stopper.specs.Laws.Characters.{has-rank}
+use Rattle.stopper.specs.Laws.Operations.{codeword-1, codeword-3, codeword-yes}
+use Rattle.stopper.specs.declared.table.Table.{Table}
+use Rattle.stopper.proofs.codeword_of.codeword_of.Statement.{statement}
+use Rattle.stopper.proofs.codeword_of.codeword_of.Tie as tie
+
+long : (c : tie.Start) → length (c .args .table .places) ≡ 256
+long c = search needs
+
+good : (c : tie.Else1) → goodTable (c .before .before .args .table) ≡ true
+good c = sym (c .before .good-table .ensures) ∙ not-false _ (c .if1 .left)
+
+-- whether the character is there, by its rank
+there : (c : tie.After-rank-of) {x : Bool} → let s = c .before .before .before .before .before in ltb (c .rank-of .result) (s .args .table .sigma) ≡ x
+    → has (s .args .character) (characters (s .args .table)) ≡ x
+there c q =
+    let e = c .before .before .before in
+    let s = e .before .before in
+    let t = s .args .table in
+    has-rank (characters t) (s .args .character)
+    ∙ ap₂ ltb (sym (c .rank-of .ensures)) (length-take-le (t .sigma) (t .places) (omega (arith, long s, table-few t (is-good t (good e))))) ∙ q
+
+good-table-requires : tie.Need-good-table-requires
+good-table-requires c κs = search needs
+
+refused-requires : tie.Need-refused-requires
+refused-requires c κs = search needs
+
+returns : tie.Need-returns
+returns c =
+    let s = c .before .before .before in
+    rw (c .refused .ensures) (codeword-1 (s .args .table) (s .args .character) (sym (c .before .before .good-table .ensures) ∙ not-true _ (c .before .if1 .taken)))
+
+cast-sigma : tie.Need-cast-sigma
+cast-sigma c = search needs
+
+rank-of-requires : tie.Need-rank-of-requires
+rank-of-requires c κs = let e = c .before .before in let t = e .before .before .args .table in table-few t (is-good t (good e))
+
+refused-requires-2 : tie.Need-refused-requires-2
+refused-requires-2 c κs = search needs
+
+returns-2 : tie.Need-returns-2
+returns-2 c =
+    let r = c .before .before in
+    let e = r .before .before .before in
+    let a = e .before .before .args in
+    rw (c .refused2 .ensures) (codeword-3 (a .table) (a .character) (good e) (there r (le-ltb _ _ (c .before .if2 .taken))))
+
+cast-symbols-of : tie.Need-cast-symbols-of
+cast-symbols-of c = search needs
+
+slice-aggregate-symbols-of : tie.Need-slice-aggregate-symbols-of
+slice-aggregate-symbols-of c = search needs
+
+symbols-of-requires : tie.Need-symbols-of-requires
+symbols-of-requires c κs =
+    let r = c .before .before in
+    let e = r .before .before .before in
+    let t = e .before .before .args .table in
+    let g = is-good t (good e) in
+    let h : r .rank-of .result < 256 = omega (arith, table-few t g, c .before .if2 .left) in
+    (table-code t g, h, length-small (t .code) (table-code t g) (r .rank-of .result) h)
+
+returns-3 : tie.Need-returns-3
+unfolding zeros
+returns-3 c =
+    let w = c .before in
+    let r = w .before .before .before in
+    let e = r .before .before .before in
+    let a = e .before .before .args in
+    codeword-yes (a .table) (a .character) (good e) (there r (lt-ltb _ _ (w .before .before .if2 .left))) (r .rank-of .result) _ _ (r .rank-of .ensures) (w .symbols-of .ensures .0) (w .symbols-of .ensures .1)
+
+pub codeword-of-spec : {M : Type 1} → statement M
+codeword-of-spec =
+    tie.close
+    (tie.spec
+    good-table-requires
+    refused-requires
+    returns
+    cast-sigma
+    rank-of-requires
+    refused-requires-2
+    returns-2
+    cast-symbols-of
+    slice-aggregate-symbols-of
+    symbols-of-requires
+    returns-3)

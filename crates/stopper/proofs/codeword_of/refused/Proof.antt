@@ -1,0 +1,14 @@
+-- `stopper::codeword_of::refused` meets its contract.
+-- Assumes nothing.
+use mathlib.Core.Path.{refl}
+use Rattle.ground.specs.Rows.{zeros, padded}
+use Rattle.stopper.specs.Operations.{refusedWord}
+use Rattle.stopper.proofs.codeword_of.refused.Statement.{statement}
+use Rattle.stopper.proofs.codeword_of.refused.Tie as tie
+
+returns : tie.Need-returns
+unfolding refusedWord padded zeros
+returns c = refl
+
+pub refused-spec : {M : Type 1} → statement M
+refused-spec = tie.close (tie.spec returns)

@@ -1,0 +1,9 @@
+pub mod Code
+pub mod Reading
+pub mod Ranking
+pub mod Choosing
+pub mod Table
+pub mod Characters
+pub mod State
+pub mod Operations
+pub mod Counting

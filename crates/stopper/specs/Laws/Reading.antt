@@ -1,0 +1,135 @@
+-- The laws of reading.
+-- Assumes nothing.
+use mathlib.Core.Path.{_≡_, refl, sym, ap, ap₂, _∙_, subst}
+use Prim.Native.Nat.{ℕ, zero, suc, _+_, _-_, _*_, _/_, _%_, _≤_, _<_}
+use native.Mathlib.Nat.{le-trans, mul-le-mul, le-mul-of-pos-right, mod-lt, div-add-mod', div-lt-iff-lt-mul, add-sub-cancel-left, add-zero, add-assoc}
+use native.Mathlib.Numerals.{add-one}
+use native.Mathlib.Omega.{arith}
+use mathlib.Core.Bool.{Bool, true, false, not, cond}
+use mathlib.Core.List.{List, [], _∷_, _++_, append-assoc, append-nil}
+use lib.Dec.{T, ltb, ltb→lt, nltb→le}
+use lib.Arith.{lt-one, digits-lt}
+use lib.ListN.{length, length-append}
+use mir.Facts.{yes-ltb, no-ltb}
+use Rattle.ground.specs.Rows.{Below, none, also}
+use Rattle.stopper.specs.Code.{Good, IsCodeword, stop, more, opens, shorter, spell, codeword, rankAt, rankFrom}
+use Rattle.ground.specs.Laws.Tests.{cond-yes, cond-no, by-test}
+use Rattle.stopper.specs.Laws.Code.{rank-stop, rank-more, conts-pos, by-parts, codeword-at, length-codeword, spell-append, length-spell, spell-more}
+use Rattle.stopper.specs.Reading.{Reading, done, bad, ahead, readFrom, read, write}
+
+unfoldable pub aheads : List ℕ → Reading → Reading
+aheads [] o = o
+aheads (r ∷ rs) o = ahead r (aheads rs o)
+
+aheads-done : (rs ts : List ℕ) → aheads rs (done ts) ≡ done (rs ++ ts)
+unfolding aheads ahead
+aheads-done [] ts = refl
+aheads-done (r ∷ rs) ts = ap (ahead r) (aheads-done rs ts)
+
+pub ahead-done : (r : ℕ) (o : Reading) (rs : List ℕ) → ahead r o ≡ done rs → (ts : List ℕ) × (o ≡ done ts) × (r ∷ ts ≡ rs)
+unfolding ahead
+ahead-done r (done ts) rs e = (ts, refl, cc)
+ahead-done r (bad p ts) rs e = let z : _≡_ {A = ℕ} 0 1 = cc in absurd (omega arith)
+
+module _ (m : ℕ) (s : ℕ → ℕ) (g : Good m s) (σ : ℕ) where
+  pub read-stop : (from i x y : ℕ) (w : List ℕ) → y < s i → rankAt m s i x y < σ
+      → readFrom m s σ from i x (y ∷ w) ≡ ahead (rankAt m s i x y) (readFrom m s σ (from + suc i) 0 0 w)
+  unfolding readFrom
+  read-stop from i x y w h k = cond-yes (ltb y (s i)) _ _ (yes-ltb h) ∙ cond-yes (ltb (rankAt m s i x y) σ) _ _ (yes-ltb k)
+
+  pub read-stuck : (from i x y : ℕ) (w : List ℕ) → y < s i → σ ≤ rankAt m s i x y → readFrom m s σ from i x (y ∷ w) ≡ bad from []
+  unfolding readFrom
+  read-stuck from i x y w h k = cond-yes (ltb y (s i)) _ _ (yes-ltb h) ∙ cond-no (ltb (rankAt m s i x y) σ) _ _ (no-ltb k)
+
+  pub read-more : (from i x y : ℕ) (w : List ℕ) → s i ≤ y
+      → readFrom m s σ from i x (y ∷ w) ≡ readFrom m s σ from (suc i) (x * (m - s i) + (y - s i)) w
+  unfolding readFrom
+  read-more from i x y w h = cond-no (ltb y (s i)) _ _ (no-ltb h)
+
+  read-spell : (from i x : ℕ) (w : List ℕ) → x < opens m s i → readFrom m s σ from 0 0 (spell m s i x w) ≡ readFrom m s σ from i x w
+  unfolding spell opens
+  read-spell from zero x w h = rw (lt-one h)
+  read-spell from (suc i) x w h =
+      read-spell from i (x / (m - s i)) _ (div-lt-iff-lt-mul (conts-pos m s g i) .1 h)
+      ∙ read-more from i (x / (m - s i)) _ w (omega arith)
+      ∙ rw (add-sub-cancel-left, div-add-mod')
+
+  -- the rank of an open codeword is at least `shorter i + x`, which never falls: once it is σ or more, the codeword is bad whatever follows
+  pub rank-least : (i x y : ℕ) → shorter m s i + x ≤ rankAt m s i x y
+  unfolding rankAt
+  rank-least i x y = omega (arith, le-mul-of-pos-right x (g .low i))
+
+  pub least-grows : (i x d : ℕ) → shorter m s i + x ≤ shorter m s (suc i) + (x * (m - s i) + d)
+  unfolding shorter
+  least-grows i x d = omega (arith, le-mul-of-pos-right x (conts-pos m s g i))
+
+  pub read-past : (w : List ℕ) (from i x : ℕ) → σ ≤ shorter m s (suc i) + x → readFrom m s σ from (suc i) x w ≡ bad from []
+  unfolding readFrom
+  read-past [] from i x h = refl
+  read-past (y ∷ w) from i x h =
+      by-test (ltb y (s (suc i)))
+      (λ t. read-stuck from (suc i) x y w (ltb→lt _ _ t) (le-trans h (rank-least (suc i) x y)))
+      (λ t. read-more from (suc i) x y w (nltb→le _ _ t) ∙ read-past w from (suc i) _ (le-trans h (least-grows (suc i) x (y - s (suc i)))))
+
+  -- and up to there all numbers are small
+  pub opens-le : (i : ℕ) → opens m s (suc i) ≤ shorter m s (suc i) * m
+  unfolding opens shorter
+  opens-le i = mul-le-mul (omega (arith, le-mul-of-pos-right (opens m s i) (g .low i))) (omega arith)
+
+  -- a codeword in front is read off
+  pub read-codeword : (from r : ℕ) (w : List ℕ) → r < σ
+      → readFrom m s σ from 0 0 (codeword m s r ++ w) ≡ ahead r (readFrom m s σ (from + length (codeword m s r)) 0 0 w)
+  read-codeword from r w =
+      by-parts m s g (λ r. r < σ → readFrom m s σ from 0 0 (codeword m s r ++ w) ≡ ahead r (readFrom m s σ (from + length (codeword m s r)) 0 0 w))
+      (λ i x y hx hy h.
+      rw (codeword-at m s g i hx hy, spell-append, length-spell, add-one) (read-spell from i x (y ∷ w) hx ∙ read-stop from i x y w hy h)) r
+
+  -- codewords in front are read off
+  pub read-front : (from : ℕ) {rs : List ℕ} → Below σ rs → (w : List ℕ)
+      → readFrom m s σ from 0 0 (write m s rs ++ w) ≡ aheads rs (readFrom m s σ (from + length (write m s rs)) 0 0 w)
+  unfolding write aheads
+  read-front from none w = rw add-zero
+  read-front from (also {x = r} {xs = rs} h hs) w =
+      rw append-assoc (read-codeword from r (write m s rs ++ w) h)
+      ∙ ap (ahead r) (read-front (from + length (codeword m s r)) hs w)
+      ∙ rw (length-append, add-assoc)
+
+  -- L6: reading gives back what was written
+  pub read-write : {rs : List ℕ} → Below σ rs → read m s σ (write m s rs) ≡ done rs
+  unfolding read readFrom
+  read-write {rs} h = ap (readFrom m s σ 0 0 0) (sym (append-nil (write m s rs))) ∙ read-front 0 h [] ∙ aheads-done rs [] ∙ ap done (append-nil rs)
+
+  -- L6: what is read whole is what its ranks write
+  write-back : (w : List ℕ) → Below m w → (from i x : ℕ) → x < opens m s i → (rs : List ℕ)
+      → readFrom m s σ from i x w ≡ done rs → write m s rs ≡ spell m s i x w
+  unfolding readFrom spell write opens
+  write-back [] none from zero x hx rs e = let q : [] ≡ rs = cc in rw (← q)
+  write-back [] none from (suc i) x hx rs e = let z : _≡_ {A = ℕ} 0 1 = cc in absurd (omega arith)
+  write-back (y ∷ w) (also hy hw) from i x hx rs e =
+      by-test (ltb y (s i))
+      (λ t.
+      by-test (ltb (rankAt m s i x y) σ)
+      (λ u.
+      let f : (ts : List ℕ) × (readFrom m s σ (from + suc i) 0 0 w ≡ done ts) × (rankAt m s i x y ∷ ts ≡ rs)
+      = ahead-done _ _ rs (sym (read-stop from i x y w (ltb→lt _ _ t) (ltb→lt _ _ u)) ∙ e) in
+      ap (write m s) (sym (f .2))
+      ∙ ap₂ (λ (a b : List ℕ). a ++ b) (codeword-at m s g i hx (ltb→lt _ _ t)) (write-back w hw (from + suc i) 0 0 (omega arith) (f .0) (f .1))
+      ∙ spell-append m s i x (y ∷ []) w)
+      (λ u.
+      let b : bad from [] ≡ done rs = sym (read-stuck from i x y w (ltb→lt _ _ t) (nltb→le _ _ u)) ∙ e in
+      let z : _≡_ {A = ℕ} 0 1 = cc in
+      absurd (omega arith)))
+      (λ t.
+      let k : s i ≤ y = nltb→le _ _ t in
+      let d : y - s i < m - s i = omega arith in
+      write-back w hw from (suc i) (x * (m - s i) + (y - s i)) (digits-lt hx d) rs (sym (read-more from i x y w k) ∙ e) ∙ spell-more m s i x y w k hy)
+
+  pub write-read : {w : List ℕ} → Below m w → (rs : List ℕ) → read m s σ w ≡ done rs → write m s rs ≡ w
+  unfolding read spell opens
+  write-read {w} h rs e = write-back w h 0 0 0 (omega arith) rs e
+
+  -- once `shorter i + x` is σ or more, no codeword that goes on from there has a rank below σ
+  pub word-past : {w : List ℕ} {i : ℕ} → IsCodeword m s i w → (x : ℕ) → σ ≤ shorter m s i + x → σ ≤ rankFrom m s i x w
+  word-past {i = i} (stop {y = y} h) x k = rw (rank-stop m s g i x y [] h) (le-trans k (rank-least i x y))
+  word-past {i = i} (more {y = y} {w = w} a b h) x k =
+      rw (rank-more m s g i x y w a) (word-past h (x * (m - s i) + (y - s i)) (le-trans k (least-grows i x (y - s i))))

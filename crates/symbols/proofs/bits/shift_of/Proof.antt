@@ -1,0 +1,37 @@
+-- `symbols::bits::shift_of` meets its contract.
+-- Assumes nothing.
+use Prim.Native.Nat.{suc, _*_, _≤_}
+use native.Mathlib.Nat.{mod-lt}
+use native.Mathlib.Omega.{arith}
+use borrow.Author.Needs.{needs}
+use Rattle.symbols.specs.Symbols.{shift}
+use Rattle.symbols.specs.Laws.Width.{per-pos, per-few, narrow, ends-within}
+use Rattle.symbols.proofs.bits.shift_of.Statement.{statement}
+use Rattle.symbols.proofs.bits.shift_of.Tie as tie
+
+-- the symbol, and those before it, lie within the byte
+ends : (c : tie.After-place-of) → c .before .args .k * suc (c .place-of .result) ≤ 8
+ends c = rw (c .place-of .ensures) (ends-within (c .before .pre) (mod-lt (c .before .args .i) (per-pos (c .before .pre))))
+
+sub-result : tie.Need-sub-result
+sub-result c = omega (arith, narrow (c .pre))
+
+place-of-requires : tie.Need-place-of-requires
+place-of-requires c κs = search needs
+
+cast-result : tie.Need-cast-result
+cast-result c = omega (arith, c .place-of .ensures, mod-lt (c .before .args .i) (per-pos (c .before .pre)), per-few (c .before .pre))
+
+mul-result : tie.Need-mul-result
+mul-result c = omega (arith, ends c)
+
+sub-result-2 : tie.Need-sub-result-2
+sub-result-2 c = omega (arith, ends c)
+
+returns : tie.Need-returns
+unfolding shift
+returns c = rw (c .place-of .ensures) (omega arith)
+
+pub shift-of-spec : {M : Type 1} → statement M
+shift-of-spec =
+    tie.close (tie.spec sub-result place-of-requires cast-result mul-result sub-result-2 returns)

@@ -1,0 +1,5 @@
+pub mod Width
+pub mod Sizes
+pub mod Rows
+pub mod Packing
+pub mod Runs

@@ -1,0 +1,217 @@
+-- Runs laid over a row, one after the other.
+-- Assumes nothing.
+use mathlib.Core.Path.{_≡_, refl, sym, ap, ap₂, _∙_}
+use mathlib.Core.List.{List, [], _∷_, _++_, append-assoc}
+use Prim.Native.Nat.{ℕ, zero, suc, _+_, _-_, _*_, _/_, _≤_, _<_}
+use native.Mathlib.Nat.{sub-self, sub-zero, zero-sub, suc-sub-suc, mul-comm, mul-sub, zero-div, zero-mod}
+use native.Mathlib.Numerals.{add-one}
+use native.Mathlib.Omega.{arith}
+use lib.ListN.{length, take, drop, getD, set, length-append, length-drop, take-append-drop}
+use lib.Seq.{take-append-le, take-at, drop-at, take-take, drop-drop, take-add, take-nil, drop-cons, length-take-le, set-split, ext-getD}
+use Rattle.ground.specs.Rows.{zeros}
+use Rattle.ground.specs.Laws.Rows.{length-zeros, getD-zeros, zeros-append}
+use Rattle.symbols.specs.Symbols.{Width, per, symbolAt, symbolsOf}
+use Rattle.symbols.specs.Runs.{over, run, cleared, movedUp, movedDown}
+use Rattle.symbols.specs.Laws.Rows.{symbols-length, symbols-at, symbols-append, symbols-take, symbols-drop}
+
+-- ---- one run laid over a row
+
+module _ (row : List ℕ) (from : ℕ) (xs : List ℕ) (to : ℕ) (fits : from + length xs ≡ to) (inside : to ≤ length row) where
+  pub over-length : length (over row from xs to) ≡ length row
+  over-length =
+      simp (length-append, length-take-le from row (omega arith), length-drop) (omega arith)
+
+  -- before it, and from its start
+  pub take-over : (n : ℕ) → n ≤ from → take n (over row from xs to) ≡ take n row
+  take-over n h =
+      take-append-le n (take from row) (xs ++ drop to row) (rw (length-take-le from row (omega arith)) h) ∙ take-take n from row h
+
+  pub drop-over : drop from (over row from xs to) ≡ xs ++ drop to row
+  drop-over = drop-at (take from row) (xs ++ drop to row) from (length-take-le from row (omega arith))
+
+  -- after it, and up to its end
+  pub drop-past : (n : ℕ) → to ≤ n → drop n (over row from xs to) ≡ drop n row
+  drop-past n h =
+      let e : to + (n - to) ≡ n = omega arith in
+      ap (λ (m : ℕ). drop m (over row from xs to)) (sym e)
+      ∙ sym (drop-drop (n - to) to (over row from xs to))
+      ∙ ap (drop (n - to)) drop-to
+      ∙ drop-drop (n - to) to row
+      ∙ ap (λ (m : ℕ). drop m row) e
+    where
+      drop-to : drop to (over row from xs to) ≡ drop to row
+      drop-to =
+          ap (λ (m : ℕ). drop m (over row from xs to)) (sym fits)
+          ∙ sym (drop-drop (length xs) from (over row from xs to))
+          ∙ ap (drop (length xs)) drop-over
+          ∙ drop-at xs (drop to row) (length xs) refl
+
+  pub take-to : take to (over row from xs to) ≡ take from row ++ xs
+  take-to =
+      ap (take to) (sym (append-assoc (take from row) xs (drop to row)))
+      ∙ take-at (take from row ++ xs) (drop to row) to
+      (simp (length-append, length-take-le from row (omega arith)) fits)
+
+-- ---- two runs side by side
+
+module _ (row : List ℕ) (from mid to : ℕ) (xs ys : List ℕ) (fx : from + length xs ≡ mid) (fy : mid + length ys ≡ to) (inside : to ≤ length row) where
+  -- the later one laid first
+  pub over-before : over (over row mid ys to) from xs mid ≡ over row from (xs ++ ys) to
+  over-before =
+      ap₂ (λ (a b : List ℕ). a ++ (xs ++ b)) (take-over row mid ys to fy inside from (omega arith)) (drop-over row mid ys to fy inside)
+      ∙ ap (λ (l : List ℕ). take from row ++ l) (sym (append-assoc xs ys (drop to row)))
+
+  -- the earlier one laid first
+  pub over-after : over (over row from xs mid) mid ys to ≡ over row from (xs ++ ys) to
+  over-after =
+      let m : mid ≤ length row = omega arith in
+      ap₂ (λ (a b : List ℕ). a ++ (ys ++ b)) (take-to row from xs mid fx m) (drop-past row from xs mid fx m to (omega arith))
+      ∙ simp append-assoc
+
+-- ---- runs of a row
+
+pub run-length : (row : List ℕ) (from to : ℕ) → from ≤ to → to ≤ length row → from + length (run row from to) ≡ to
+run-length row from to h l =
+    let e : length (run row from to) ≡ to - from = length-take-le (to - from) (drop from row) (rw length-drop (omega arith)) in
+    omega arith
+
+pub run-append : (row : List ℕ) (from mid to : ℕ) → from ≤ mid → mid ≤ to → run row from mid ++ run row mid to ≡ run row from to
+run-append row from mid to h l =
+    let e : to - from ≡ (mid - from) + (to - mid) = omega arith in
+    let f : from + (mid - from) ≡ mid = omega arith in
+    sym (ap (λ (n : ℕ). take n (drop from row)) e
+    ∙ take-add (mid - from) (to - mid) (drop from row)
+    ∙ ap (λ (l : List ℕ). run row from mid ++ take (to - mid) l) (drop-drop (mid - from) from row ∙ ap (λ (n : ℕ). drop n row) f))
+
+run-slice : (row : List ℕ) (from to : ℕ) → run row from to ≡ drop from (take to row)
+run-slice row zero to = rw sub-zero
+run-slice row (suc from) zero = rw zero-sub
+run-slice [] (suc from) (suc to) = take-nil (suc to - suc from)
+run-slice (x ∷ row) (suc from) (suc to) = rw suc-sub-suc (run-slice row from to)
+
+-- a run that ends where the other starts, or starts where it ends, is as it was
+run-before : (row : List ℕ) (at : ℕ) (xs : List ℕ) (end from to : ℕ) → at + length xs ≡ end → end ≤ length row → to ≤ at
+    → run (over row at xs end) from to ≡ run row from to
+run-before row at xs end from to fits inside h =
+    run-slice (over row at xs end) from to
+    ∙ ap (drop from) (take-over row at xs end fits inside to h)
+    ∙ sym (run-slice row from to)
+
+run-after : (row : List ℕ) (at : ℕ) (xs : List ℕ) (end from to : ℕ) → at + length xs ≡ end → end ≤ length row → end ≤ from
+    → run (over row at xs end) from to ≡ run row from to
+run-after row at xs end from to fits inside h = ap (take (to - from)) (drop-past row at xs end fits inside from h)
+
+-- ---- nothing, one place, and one part after the other
+
+-- an empty run laid over
+pub over-none : (row : List ℕ) (n : ℕ) → over row n [] n ≡ row
+over-none row n = take-append-drop n row
+
+run-none : (row : List ℕ) (n : ℕ) → run row n n ≡ []
+run-none row n = rw sub-self
+
+run-one : (row : List ℕ) (i : ℕ) → i < length row → run row i (i + 1) ≡ getD row i 0 ∷ []
+run-one row i h =
+    let e : i + 1 - i ≡ 1 = omega arith in
+    rw e (ap (take 1) (drop-cons row i 0 h))
+
+-- one place stored
+pub set-over : (row : List ℕ) (i y : ℕ) → i < length row → set row i y ≡ over row i (y ∷ []) (i + 1)
+set-over row i y h = rw add-one (set-split row i y h)
+
+-- a run that is laid over place after place
+pub over-more : (row : List ℕ) (from : ℕ) (xs : List ℕ) (to y : ℕ) → from + length xs ≡ to → to < length row
+    → set (over row from xs to) to y ≡ over row from (xs ++ (y ∷ [])) (to + 1)
+over-more row from xs to y fits h =
+    set-over (over row from xs to) to y (rw (over-length row from xs to fits (omega arith)) h)
+    ∙ over-after row from to (to + 1) xs (y ∷ []) fits refl (omega arith)
+
+-- clearing, from the first to the last
+pub cleared-none : (row : List ℕ) (n : ℕ) → cleared row n n ≡ row
+unfolding zeros
+cleared-none row n = rw sub-self (over-none row n)
+
+pub cleared-one : (row : List ℕ) (i : ℕ) → i < length row → set row i 0 ≡ cleared row i (i + 1)
+unfolding zeros
+cleared-one row i h = let e : i + 1 - i ≡ 1 = omega arith in rw e (set-over row i 0 h)
+
+pub cleared-more : (row : List ℕ) {part all : List ℕ} (from mid to : ℕ) → part ≡ cleared row from mid → all ≡ cleared part mid to
+    → from ≤ mid → mid ≤ to → to ≤ length row → all ≡ cleared row from to
+cleared-more row from mid to p q h l inside =
+    q
+    ∙ ap (λ (r : List ℕ). cleared r mid to) p
+    ∙ over-after row from mid to (zeros (mid - from)) (zeros (to - mid))
+    (omega (arith, length-zeros (mid - from)))
+    (omega (arith, length-zeros (to - mid)))
+    inside
+    ∙ ap (λ (xs : List ℕ). over row from xs to)
+    (zeros-append (mid - from) (to - mid) ∙ ap zeros (omega arith))
+
+pub cleared-length : (row : List ℕ) (from to : ℕ) → from ≤ to → to ≤ length row → length (cleared row from to) ≡ length row
+cleared-length row from to h inside = over-length row from (zeros (to - from)) to (omega (arith, length-zeros (to - from))) inside
+
+-- moving up, from the last to the first
+pub up-none : (row : List ℕ) (n by : ℕ) → movedUp row n n by ≡ row
+up-none row n by = rw run-none (over-none row (n + by))
+
+pub up-one : (row : List ℕ) (i by : ℕ) → i + by < length row → set row (i + by) (getD row i 0) ≡ movedUp row i (i + 1) by
+up-one row i by h =
+    let e : i + by + 1 ≡ i + 1 + by = omega arith in
+    set-over row (i + by) (getD row i 0) h
+    ∙ ap₂ (λ (xs : List ℕ) (to : ℕ). over row (i + by) xs to) (sym (run-one row i (omega arith))) e
+
+pub up-more : (row : List ℕ) {part all : List ℕ} (from mid to by : ℕ) → part ≡ movedUp row mid to by → all ≡ movedUp part from mid by
+    → from ≤ mid → mid ≤ to → to + by ≤ length row → all ≡ movedUp row from to by
+up-more row from mid to by p q h l inside =
+    let f : from + length (run row from mid) ≡ mid = run-length row from mid h (omega arith) in
+    let g : mid + length (run row mid to) ≡ to = run-length row mid to l (omega arith) in
+    q
+    ∙ ap (λ (r : List ℕ). movedUp r from mid by) p
+    ∙ ap (λ (xs : List ℕ). over (movedUp row mid to by) (from + by) xs (mid + by))
+    (run-before row (mid + by) (run row mid to) (to + by) from mid (omega arith) inside (omega arith))
+    ∙ over-before row (from + by) (mid + by) (to + by) (run row from mid) (run row mid to) (omega arith) (omega arith) inside
+    ∙ ap (λ (xs : List ℕ). over row (from + by) xs (to + by)) (run-append row from mid to h l)
+
+-- moving down, from the first to the last
+pub down-none : (row : List ℕ) (n by : ℕ) → movedDown row n n by ≡ row
+down-none row n by = rw run-none (over-none row (n - by))
+
+pub down-one : (row : List ℕ) (i by : ℕ) → by ≤ i → i < length row → set row (i - by) (getD row i 0) ≡ movedDown row i (i + 1) by
+down-one row i by b h =
+    let e : i - by + 1 ≡ i + 1 - by = omega arith in
+    set-over row (i - by) (getD row i 0) (omega arith)
+    ∙ ap₂ (λ (xs : List ℕ) (to : ℕ). over row (i - by) xs to) (sym (run-one row i h)) e
+
+pub down-more : (row : List ℕ) {part all : List ℕ} (from mid to by : ℕ) → part ≡ movedDown row from mid by → all ≡ movedDown part mid to by
+    → by ≤ from → from ≤ mid → mid ≤ to → to ≤ length row → all ≡ movedDown row from to by
+down-more row from mid to by p q b h l inside =
+    let f : from + length (run row from mid) ≡ mid = run-length row from mid h (omega arith) in
+    let g : mid + length (run row mid to) ≡ to = run-length row mid to l inside in
+    q
+    ∙ ap (λ (r : List ℕ). movedDown r mid to by) p
+    ∙ ap (λ (xs : List ℕ). over (movedDown row from mid by) (mid - by) xs (to - by))
+    (run-after row (from - by) (run row from mid) (mid - by) mid to (omega arith) (omega arith) (omega arith))
+    ∙ over-after row (from - by) (mid - by) (to - by) (run row from mid) (run row mid to) (omega arith) (omega arith) (omega arith)
+    ∙ ap (λ (xs : List ℕ). over row (from - by) xs (to - by)) (run-append row from mid to h l)
+
+-- ---- whole bytes of a buffer
+
+module _ {k : ℕ} (w : Width k) where
+  pub symbols-over : (bs : List ℕ) (from : ℕ) (xs : List ℕ) (to : ℕ)
+      → symbolsOf k (over bs from xs to) ≡ over (symbolsOf k bs) (from * per k) (symbolsOf k xs) (to * per k)
+  symbols-over bs from xs to =
+      symbols-append w (take from bs) (xs ++ drop to bs)
+      ∙ ap₂ _++_ (sym (symbols-take w from bs))
+      (symbols-append w xs (drop to bs) ∙ ap (λ (l : List ℕ). symbolsOf k xs ++ l) (sym (symbols-drop w to bs)))
+
+  pub symbols-zeros : (n : ℕ) → symbolsOf k (zeros n) ≡ zeros (n * per k)
+  unfolding symbolAt
+  symbols-zeros n =
+      ext-getD 0 _ _ (simp (symbols-length, length-zeros))
+      (λ i h. symbols-at w (zeros n) i ∙ rw (getD-zeros n (i / per k), zero-div, zero-mod) (sym (getD-zeros (n * per k) i)))
+
+  pub symbols-cleared : (bs : List ℕ) (from to : ℕ) → symbolsOf k (cleared bs from to) ≡ cleared (symbolsOf k bs) (from * per k) (to * per k)
+  symbols-cleared bs from to =
+      symbols-over bs from (zeros (to - from)) to
+      ∙ ap (λ (xs : List ℕ). over (symbolsOf k bs) (from * per k) xs (to * per k))
+      (symbols-zeros (to - from) ∙ ap zeros (mul-comm (to - from) (per k) ∙ mul-sub (per k) to from ∙ ap₂ _-_ (mul-comm (per k) to) (mul-comm (per k) from)))

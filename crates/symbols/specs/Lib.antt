@@ -1,0 +1,5 @@
+pub mod Symbols
+pub mod Bits
+pub mod Runs
+pub mod Laws
+pub mod Worked

@@ -1,0 +1,12 @@
+// Base symbols of k bits in a lent byte buffer, k being 2 or 4: symbol 0 in the highest bits of byte 0, and so on down.
+// A buffer means the row of all its symbols, `symbolsOf k bytes`; what this crate offers is
+//     symbol::get, put                  one symbol
+//     run::clear, up, down              a run of symbols
+//     size::bytes_for, unused, room_of  bytes for symbols, symbols for bytes
+// and each contract is an equation of that row, or of those sizes. The other modules are what these are made of.
+mod bits;
+mod each;
+pub mod run;
+pub mod size;
+pub mod symbol;
+mod whole;
