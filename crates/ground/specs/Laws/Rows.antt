@@ -2,9 +2,9 @@
 -- Assumes nothing.
 use mathlib.Core.Path.{_≡_, refl, sym, ap, _∙_}
 use mathlib.Core.Logic.{⊎-elim}
-use mathlib.Core.List.{List, [], _∷_, _++_, List·Memᴰ, List·Memᴰ·cases-cons, List·Memᴰ·not-nil}
+use mathlib.Core.List.{List, [], _∷_, _++_, map, List·Memᴰ, List·Memᴰ·cases-cons, List·Memᴰ·not-nil}
 use Prim.Native.Nat.{ℕ, zero, suc, _+_, _-_, _≤_, _<_}
-use native.Mathlib.Nat.{add-zero, zero-add, add-suc, suc-add, not-suc-le-zero, le-of-suc-le-suc, sub-zero, zero-sub, suc-sub-suc}
+use native.Mathlib.Nat.{le-trans, add-zero, zero-add, add-suc, suc-add, not-suc-le-zero, le-of-suc-le-suc, sub-zero, zero-sub, suc-sub-suc}
 use native.Mathlib.Decide.{ℕ-discrete}
 use native.Mathlib.Omega.{arith}
 use lib.ListN.{length, take, drop, getD, set, replicate, length-append, length-replicate, length-set, getD-replicate, List·getD-append, replicate-append-replicate}
@@ -18,9 +18,18 @@ getD-below none h i = h
 getD-below (also a b) h zero = a
 getD-below (also a b) h (suc i) = getD-below b h i
 
+pub below-at : {n : ℕ} {xs : List ℕ} → Below n xs → (i : ℕ) → i < length xs → getD xs i 0 < n
+below-at none i h = absurd (not-suc-le-zero h)
+below-at (also a b) zero h = a
+below-at (also a b) (suc i) h = below-at b i (le-of-suc-le-suc h)
+
 pub below-mem : {n : ℕ} {xs : List ℕ} → Below n xs → (x : ℕ) → List·Memᴰ x xs → x < n
 below-mem none x m = absurd (List·Memᴰ·not-nil m)
 below-mem (also a b) x m = ⊎-elim (λ e. rw e a) (below-mem b x) (List·Memᴰ·cases-cons m)
+
+pub below-more : {m n : ℕ} {xs : List ℕ} → m ≤ n → Below m xs → Below n xs
+below-more h none = none
+below-more h (also a b) = also (le-trans a h) (below-more h b)
 
 pub below-append : {n : ℕ} {xs ys : List ℕ} → Below n xs → Below n ys → Below n (xs ++ ys)
 below-append none k = k
@@ -41,6 +50,13 @@ below-take (also a h) (suc i) = also a (below-take h i)
 pub below-all : (n : ℕ) (xs : List ℕ) → ((i : ℕ) → getD xs i 0 < n) → Below n xs
 below-all n [] h = none
 below-all n (x ∷ xs) h = also (h 0) (below-all n xs (λ i. h (suc i)))
+
+-- ---- a row through a function
+
+pub map-at : (f : ℕ → ℕ) (xs : List ℕ) (i : ℕ) → i < length xs → getD (map f xs) i 0 ≡ f (getD xs i 0)
+map-at f [] i h = absurd (not-suc-le-zero h)
+map-at f (x ∷ xs) zero h = refl
+map-at f (x ∷ xs) (suc i) h = map-at f xs i (le-of-suc-le-suc h)
 
 -- ---- tables
 

@@ -1,6 +1,6 @@
 -- A test that passes, a test that fails.
 -- Assumes nothing.
-use mathlib.Core.Path.{_≡_, refl}
+use mathlib.Core.Path.{_≡_, refl, sym, subst}
 use mathlib.Core.Bool.{Bool, true, false, not, cond}
 use lib.Dec.{T}
 
@@ -23,3 +23,11 @@ same-test true true f g = refl
 same-test true false f g = absurd (f tt)
 same-test false true f g = absurd (g tt)
 same-test false false f g = refl
+
+-- a test, as a proof and as an equation
+pub yes-true : (b : Bool) → T b → b ≡ true
+yes-true true t = refl
+yes-true false t = absurd t
+
+pub true-yes : (b : Bool) → b ≡ true → T b
+true-yes b e = subst T (sym e) tt

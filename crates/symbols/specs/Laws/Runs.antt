@@ -7,7 +7,7 @@ use native.Mathlib.Nat.{sub-self, sub-zero, zero-sub, suc-sub-suc, mul-comm, mul
 use native.Mathlib.Numerals.{add-one}
 use native.Mathlib.Omega.{arith}
 use lib.ListN.{length, take, drop, getD, set, length-append, length-drop, take-append-drop}
-use lib.Seq.{take-append-le, take-at, drop-at, take-take, drop-drop, take-add, take-nil, drop-cons, length-take-le, set-split, ext-getD}
+use lib.Seq.{take-append-le, take-at, drop-at, take-take, drop-drop, take-add, take-nil, take-suc, drop-cons, length-take-le, set-split, ext-getD}
 use Rattle.ground.specs.Rows.{zeros}
 use Rattle.ground.specs.Laws.Rows.{length-zeros, getD-zeros, zeros-append}
 use Rattle.symbols.specs.Symbols.{Width, per, symbolAt, symbolsOf}
@@ -90,14 +90,14 @@ run-slice [] (suc from) (suc to) = take-nil (suc to - suc from)
 run-slice (x ∷ row) (suc from) (suc to) = rw suc-sub-suc (run-slice row from to)
 
 -- a run that ends where the other starts, or starts where it ends, is as it was
-run-before : (row : List ℕ) (at : ℕ) (xs : List ℕ) (end from to : ℕ) → at + length xs ≡ end → end ≤ length row → to ≤ at
+pub run-before : (row : List ℕ) (at : ℕ) (xs : List ℕ) (end from to : ℕ) → at + length xs ≡ end → end ≤ length row → to ≤ at
     → run (over row at xs end) from to ≡ run row from to
 run-before row at xs end from to fits inside h =
     run-slice (over row at xs end) from to
     ∙ ap (drop from) (take-over row at xs end fits inside to h)
     ∙ sym (run-slice row from to)
 
-run-after : (row : List ℕ) (at : ℕ) (xs : List ℕ) (end from to : ℕ) → at + length xs ≡ end → end ≤ length row → end ≤ from
+pub run-after : (row : List ℕ) (at : ℕ) (xs : List ℕ) (end from to : ℕ) → at + length xs ≡ end → end ≤ length row → end ≤ from
     → run (over row at xs end) from to ≡ run row from to
 run-after row at xs end from to fits inside h = ap (take (to - from)) (drop-past row at xs end fits inside from h)
 
@@ -125,6 +125,16 @@ pub over-more : (row : List ℕ) (from : ℕ) (xs : List ℕ) (to y : ℕ) → f
 over-more row from xs to y fits h =
     set-over (over row from xs to) to y (rw (over-length row from xs to fits (omega arith)) h)
     ∙ over-after row from to (to + 1) xs (y ∷ []) fits refl (omega arith)
+
+-- the front of a row, that of another laid over it place after place
+module _ (row xs : List ℕ) (i : ℕ) where
+  pub front-length : i ≤ length xs → i ≤ length row → length (take i xs ++ drop i row) ≡ length row
+  front-length h k = over-length row 0 (take i xs) i (omega (arith, length-take-le i xs h)) k
+
+  pub front-more : i < length xs → i < length row → set (take i xs ++ drop i row) i (getD xs i 0) ≡ take (i + 1) xs ++ drop (i + 1) row
+  front-more h k =
+      over-more row 0 (take i xs) i (getD xs i 0) (omega (arith, length-take-le i xs (omega arith))) k
+      ∙ ap (λ (l : List ℕ). l ++ drop (i + 1) row) (sym (take-suc xs i 0 h) ∙ ap (λ (n : ℕ). take n xs) (sym (add-one i)))
 
 -- clearing, from the first to the last
 pub cleared-none : (row : List ℕ) (n : ℕ) → cleared row n n ≡ row

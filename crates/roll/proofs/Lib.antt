@@ -1,0 +1,4 @@
+pub mod Not
+pub mod Scans
+pub mod Seen
+pub mod Tight

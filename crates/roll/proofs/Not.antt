@@ -1,0 +1,59 @@
+-- What the promises forbid, each on a named input.
+-- Assumes nothing.
+use mathlib.Core.Path.{_≡_, sym, ap, _∙_}
+use mathlib.Core.List.{List, [], _∷_}
+use Prim.Native.Nat.{ℕ}
+use native.Mathlib.Omega.{arith}
+use lib.ListN.{getD}
+use Rattle.ground.specs.Limit.{limit}
+use Rattle.ground.specs.Refusals.{Outcome, accepted, refused}
+use Rattle.ground.specs.Answers.{doneSays}
+use Rattle.ground.specs.Rows.{tab, zeros, padded}
+use Rattle.ground.specs.declared.answers.Done.{Done}
+use Rattle.ground.specs.declared.answers.Done.the-variants.{Yes, Refused}
+use Rattle.stopper.specs.Code.{codeword, place, first, shorter, opens, spell, rankAt}
+use Rattle.stopper.specs.Table.{stoppers, goodWidth, goodCode, goodCharacters, goodTable, has, repeats, rankIn, lengthOf}
+use Rattle.stopper.specs.Reading.{read, readFrom, ahead, write}
+use Rattle.symbols.specs.Symbols.{per, bytesFor, room, shift, symbolAt, symbolsOf, number, byteAt, bytesOf}
+use Rattle.roll.specs.Roll.{firstForeign, firstOver, textRow, reading, isBad, firstBad, ranksRead, textOf, allZero}
+use Rattle.roll.specs.Operations.{Packing, Checking, Unpacking}
+use Rattle.roll.specs.Worked.{abra, packedAbra}
+use Rattle.roll.specs.declared.roll.Roll.{Roll}
+use Rattle.roll.specs.declared.pack.Packed.{Packed}
+
+-- an accepted outcome is no refusal
+apart : {n v : ℕ} → _≡_ {A = Outcome (Unit {0})} (accepted tt) (refused n v) → ⊥
+apart e = let z : _≡_ {A = ℕ} 0 1 = cc in omega arith
+
+first-of : {x y : ℕ} {xs ys : List ℕ} → x ∷ xs ≡ y ∷ ys → x ≡ y
+first-of e = ap (λ (l : List ℕ). getD l 0 0) e
+
+-- a pack that refuses everything: a fits
+pub pack-not-refusing : {r : Packed} {after : List ℕ} {n v : ℕ} → Packing abra (97 ∷ []) (9 ∷ []) r after → r .answer ≡ Refused n v → ⊥
+unfolding abra limit tab zeros padded codeword place first shorter opens spell rankAt stoppers goodWidth goodCode goodCharacters goodTable has repeats rankIn lengthOf per room firstForeign firstOver
+pack-not-refusing p e = apart (sym (p .says) ∙ ap doneSays e)
+
+-- a pack that leaves the last byte's unused symbols as they were: a in a byte of ones
+pub pack-not-unclean : {r : Packed} → Packing abra (97 ∷ []) (255 ∷ []) r (63 ∷ []) → ⊥
+unfolding abra limit tab zeros padded codeword place first shorter opens spell rankAt stoppers goodWidth goodCode goodCharacters goodTable has repeats rankIn lengthOf write per bytesFor room number byteAt bytesOf firstForeign firstOver textRow
+pack-not-unclean p = let e = first-of (p .leaves) in omega arith
+
+-- symbols in the other order in a byte: ab is 0 1, so 00 01 00 00 and not 00 00 01 00
+pub pack-not-turned : {r : Packed} → Packing abra (97 ∷ 98 ∷ []) (0 ∷ []) r (4 ∷ []) → ⊥
+unfolding abra limit tab zeros padded codeword place first shorter opens spell rankAt stoppers goodWidth goodCode goodCharacters goodTable has repeats rankIn lengthOf write per bytesFor room number byteAt bytesOf firstForeign firstOver textRow
+pack-not-turned p = let e = first-of (p .leaves) in omega arith
+
+-- a check that passes every roll: 0 3 ends in an open codeword
+pub check-not-passing : Checking (record { table = abra; n = 1; h = 2 }) (48 ∷ []) Yes → ⊥
+unfolding abra limit tab zeros padded shorter opens rankAt stoppers goodWidth goodCode goodCharacters goodTable has repeats read readFrom ahead per room shift symbolAt symbolsOf reading isBad firstBad
+check-not-passing p = apart (p .says)
+
+-- a check that refuses every roll: P2 is sound
+pub check-not-refusing : {n v : ℕ} → Checking (record { table = abra; n = 11; h = 13 }) packedAbra (Refused n v) → ⊥
+unfolding abra packedAbra limit tab zeros padded shorter opens rankAt stoppers goodWidth goodCode goodCharacters goodTable has repeats read readFrom ahead per bytesFor room shift symbolAt symbolsOf reading isBad firstBad ranksRead allZero
+check-not-refusing p = apart (sym (p .says))
+
+-- an unpack that writes nothing: P2's first character is a
+pub unpack-not-idle : {answer : Done} → Unpacking (record { table = abra; n = 11; h = 13 }) packedAbra 0 1 (9 ∷ []) answer (9 ∷ []) → ⊥
+unfolding abra packedAbra limit tab zeros padded shorter opens rankAt stoppers goodWidth goodCode goodCharacters goodTable has repeats read readFrom ahead per bytesFor room shift symbolAt symbolsOf reading isBad firstBad ranksRead textOf allZero
+unpack-not-idle p = let e = first-of (p .leaves) in omega arith

@@ -1,0 +1,171 @@
+-- `roll::check::check` meets its contract.
+-- Assumes nothing.
+use mathlib.Core.Path.{_≡_, sym, ap, _∙_}
+use mathlib.Core.Bool.{true}
+use Prim.Native.Nat.{ℕ, _+_, _*_, _≤_}
+use native.Mathlib.Omega.{arith}
+use borrow.Author.Needs.{needs}
+use borrow.Author.Tests.{not-true, not-false}
+use lib.ListN.{length}
+use Rattle.ground.specs.Laws.Limit.{limit-fits}
+use Rattle.stopper.specs.Table.{goodTable}
+use Rattle.stopper.specs.Laws.Table.{is-good, table-code, table-few, code-width}
+use Rattle.symbols.specs.Symbols.{Width, per, bytesFor, room, symbolsOf}
+use Rattle.symbols.specs.Runs.{run}
+use Rattle.symbols.specs.Laws.Width.{per-few}
+use Rattle.symbols.specs.Laws.Sizes.{bytesFor-enough, bytesFor-least, room-limit}
+use Rattle.symbols.specs.Laws.Rows.{room-row, ends-inside}
+use Rattle.roll.specs.Roll.{reading, allZero, unusedOf}
+use Rattle.roll.specs.Codewords.{scanned}
+use Rattle.roll.specs.Laws.Operations.{check-1, check-5, check-6, check-7, check-8, check-yes}
+use Rattle.roll.specs.declared.reading.Scan.the-variants.{Whole}
+use Rattle.roll.proofs.check.check.Statement.{statement}
+use Rattle.roll.proofs.check.check.Tie as tie
+
+-- the way back from a place, and what its tests leave
+abbrev start : tie.Else1 → tie.Start
+start c = c .before .before .before .before
+
+abbrev tabled : tie.Else2 → tie.Else1
+tabled c = c .before .before .before .before
+
+abbrev fitted : tie.After-read2 → tie.Else2
+fitted c = c .before .before .before .before
+
+good : (c : tie.Else1) → goodTable (start c .args .roll .table) ≡ true
+good c = sym (c .before .good-table .ensures) ∙ not-false _ (c .if1 .left)
+
+width : (c : tie.Else1) → Width (start c .args .roll .table .code .k)
+width c = let t = start c .args .roll .table in code-width (t .code) (table-code t (is-good t (good c)))
+
+fits : (c : tie.Else2) → let a = start (tabled c) .args in a .roll .h ≤ room (a .roll .table .code .k) (length (a .buf .now))
+fits c = omega (arith, c .if2 .left, c .before .room-of .ensures)
+
+held : (c : tie.Else2) → let a = start (tabled c) .args in a .roll .h ≤ length (symbolsOf (a .roll .table .code .k) (a .buf .now))
+held c = let a = start (tabled c) .args in room-row (a .roll .table .code .k) (a .buf .now) (a .roll .h) (fits c)
+
+small : (c : tie.Else2) → start (tabled c) .args .roll .h ≤ 16777216
+small c =
+    let a = start (tabled c) .args in
+    omega (arith, fits c, room-limit (a .roll .table .code .k) (length (a .buf .now)), limit-fits)
+
+-- all codewords are read
+whole : (c : tie.After-read2) → let a = start (tabled (fitted c)) .args in Whole (c .read2 .given .0 .0) ≡ scanned (reading (a .roll) (a .buf .now))
+unfolding reading
+whole c = sym (c .read2 .given .1) ∙ c .before .before .read-all .ensures
+
+-- the unused symbols end with the last byte
+end-is : (c : tie.After-unused) → let a = start (tabled (fitted (c .before .before .before .before))) .args in
+    a .roll .h + c .unused .result ≡ bytesFor (a .roll .table .code .k) (a .roll .h) * per (a .roll .table .code .k)
+end-is c =
+    let e = tabled (fitted (c .before .before .before .before)) in
+    omega (arith, c .unused .ensures, bytesFor-enough (width e) (start e .args .roll .h))
+
+zero-is : (c : tie.After-all-zero) → let a = start (tabled (fitted (c .before .before .before .before .before))) .args in c .all-zero .result ≡ allZero (unusedOf (a .roll) (a .buf .now))
+zero-is c =
+    let a = start (tabled (fitted (c .before .before .before .before .before))) .args in
+    c .all-zero .ensures ∙ ap (λ (to : ℕ). allZero (run (symbolsOf (a .roll .table .code .k) (a .buf .now)) (a .roll .h) to)) (end-is (c .before))
+
+good-table-requires : tie.Need-good-table-requires
+good-table-requires c κs = search needs
+
+returns : tie.Need-returns
+returns c = let a = c .before .before .before .before .args in check-1 (a .roll) (a .buf .now) (sym (c .before .good-table .ensures) ∙ not-true _ (c .if1 .taken))
+
+cast-h : tie.Need-cast-h
+cast-h c = search needs
+
+room-of-requires : tie.Need-room-of-requires
+room-of-requires c κs = width (c .before .before)
+
+returns-2 : tie.Need-returns-2
+returns-2 c =
+    let e = c .before .before .before .before in
+    check-5 (start e .args .roll) (start e .args .buf .now) (good e) (omega (arith, c .if2 .taken, c .before .room-of .ensures))
+
+cast-sigma : tie.Need-cast-sigma
+cast-sigma c = search needs
+
+read-all-requires : tie.Need-read-all-requires
+read-all-requires c κs =
+    let e = tabled (c .before) in
+    let t = start e .args .roll .table in
+    let g = is-good t (good e) in
+    record { good = table-code t g; few = table-few t g; held = held (c .before); small = small (c .before); upto = omega arith }
+
+enum-known-read : tie.Need-enum-known-read
+enum-known-read c = search needs
+
+enum-known-read-2 : tie.Need-enum-known-read-2
+enum-known-read-2 c = search needs
+
+cast-if3 : tie.Need-cast-if3
+cast-if3 c = search needs
+
+returns-3 : tie.Need-returns-3
+returns-3 c =
+    let w = c .before .before .before in
+    let f = fitted w in
+    let a = start (tabled f) .args in
+    check-7 (a .roll) (a .buf .now) (good (tabled f)) (fits f) (whole w) (c .if3 .taken)
+
+unused-requires : tie.Need-unused-requires
+unused-requires c κs = width (tabled (fitted (c .before .before .before)))
+
+add-all-zero : tie.Need-add-all-zero
+add-all-zero c =
+    let f = fitted (c .before .before .before .before) in
+    let e = tabled f in
+    omega (arith, end-is c, bytesFor-least (width e) (start e .args .roll .h), per-few (width e), small f)
+
+all-zero-requires : tie.Need-all-zero-requires
+all-zero-requires c κs =
+    let f = fitted (c .before .before .before .before) in
+    let e = tabled f in
+    (width e, omega arith, omega (arith, end-is c, ends-inside (width e) (start e .args .buf .now) (start e .args .roll .h) (held f)))
+
+returns-4 : tie.Need-returns-4
+returns-4 c =
+    let n = c .before .before .before in
+    let w = n .before .before .before in
+    let f = fitted w in
+    let a = start (tabled f) .args in
+    check-8 (a .roll) (a .buf .now) (good (tabled f)) (fits f) (whole w) (n .if3 .left) (sym (zero-is (c .before)) ∙ not-true _ (c .if4 .taken))
+
+returns-5 : tie.Need-returns-5
+unfolding reading
+returns-5 c =
+    let y = c .before .before .before in
+    let f = y .before .before in
+    let a = start (tabled f) .args in
+    check-6 (a .roll) (a .buf .now) (good (tabled f)) (fits f) (sym (c .before .read .given .1) ∙ y .read-all .ensures)
+
+returns-6 : tie.Need-returns-6
+returns-6 c =
+    let n = c .before .before .before in
+    let w = n .before .before .before in
+    let f = fitted w in
+    let a = start (tabled f) .args in
+    check-yes (a .roll) (a .buf .now) (good (tabled f)) (fits f) (whole w) (n .if3 .left) (sym (zero-is (c .before)) ∙ not-false _ (c .if4 .left))
+
+pub check-spec : {M : Type 1} → statement M
+check-spec =
+    tie.close
+    (tie.spec
+    good-table-requires
+    returns
+    cast-h
+    room-of-requires
+    returns-2
+    cast-sigma
+    read-all-requires
+    enum-known-read
+    enum-known-read-2
+    cast-if3
+    returns-3
+    unused-requires
+    add-all-zero
+    all-zero-requires
+    returns-4
+    returns-5
+    returns-6)

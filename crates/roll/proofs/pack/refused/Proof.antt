@@ -1,0 +1,13 @@
+-- `roll::pack::refused` meets its contract.
+-- Assumes nothing.
+use mathlib.Core.Path.{refl}
+use Rattle.roll.specs.Operations.{refusedPack}
+use Rattle.roll.proofs.pack.refused.Statement.{statement}
+use Rattle.roll.proofs.pack.refused.Tie as tie
+
+returns : tie.Need-returns
+unfolding refusedPack
+returns c = refl
+
+pub refused-spec : {M : Type 1} → statement M
+refused-spec = tie.close (tie.spec returns)

@@ -1,0 +1,120 @@
+-- What a sound roll is: a text packed. Unpacking what was packed gives the text, and packing what was unpacked gives the roll.
+-- Assumes nothing.
+use mathlib.Core.Path.{_≡_, sym, ap, ap₂, subst, _∙_}
+use mathlib.Core.Logic.{_↔_}
+use mathlib.Core.List.{List, _++_}
+use Prim.Native.Nat.{ℕ, _-_, _≤_}
+use native.Mathlib.Nat.{le-refl, le-of-eq, sub-zero}
+use native.Mathlib.Omega.{arith}
+use lib.ListN.{length, take, drop, getD, length-map, take-append-drop}
+use lib.Seq.{take-all}
+use Rattle.ground.specs.Answers.{doneSays}
+use Rattle.ground.specs.Rows.{Below}
+use Rattle.ground.specs.Laws.Answers.{done-one}
+use Rattle.ground.specs.Laws.Refusals.{accepted-leaves}
+use Rattle.ground.specs.declared.answers.Done.{Done}
+use Rattle.ground.specs.declared.answers.Done.the-variants.{Yes}
+use Rattle.stopper.specs.Table.{characters}
+use Rattle.stopper.specs.declared.table.Table.{Table}
+use Rattle.symbols.specs.Symbols.{bytesFor, room, symbolsOf, bytesOf}
+use Rattle.symbols.specs.Runs.{run}
+use Rattle.roll.specs.Roll.{symbolsFor, recordOf, packedInto, reading, ranksRead, textOf}
+use Rattle.roll.specs.Operations.{packRows, unpackRows, Packing, Sound, Unpacking}
+use Rattle.ground.specs.Laws.Refusals.{Accepted}
+use Rattle.roll.specs.Laws.Characters.{InTable}
+use Rattle.roll.specs.Laws.Accepting.{Packs, packs-accepted, accepted-packs, Unpacks, unpacks-accepted}
+use Rattle.roll.specs.Laws.Holding.{widthOf, Holds, packed-holds, holds-sound, holds-text, sound-known, sound-record, sound-symbols, sound-bytes, sound-holds}
+use Rattle.roll.specs.declared.roll.Roll.{Roll}
+use Rattle.roll.specs.declared.pack.Packed.{Packed}
+
+-- ---- a packed text
+
+module _ (t : Table) (text buf : List ℕ) (p : Packs t text buf) where
+  pub packed-sound : Sound (recordOf t text) (packedInto (t .code .k) (symbolsFor t text) buf)
+  packed-sound = holds-sound (recordOf t text) (packedInto (t .code .k) (symbolsFor t text) buf) text (packed-holds t text buf p)
+
+  pub unpack-pack : textOf (recordOf t text) (packedInto (t .code .k) (symbolsFor t text) buf) ≡ text
+  unpack-pack = holds-text (recordOf t text) (packedInto (t .code .k) (symbolsFor t text) buf) text (packed-holds t text buf p)
+
+-- ---- an unpacked roll
+
+pub record Repacks (r : Roll) (buf text : List ℕ) : Type 0 where
+  pub known : InTable (characters (r .table)) text
+  pub is : recordOf (r .table) text ≡ r
+  pub symbols : symbolsFor (r .table) text ≡ take (r .h) (symbolsOf (widthOf r) buf)
+  pub bytes : bytesOf (widthOf r) (symbolsFor (r .table) text) ≡ take (bytesFor (widthOf r) (r .h)) buf
+  pub again : (buf2 : List ℕ) → r .h ≤ room (widthOf r) (length buf2) → Accepted (packRows (r .table) text buf2)
+
+module _ (r : Roll) (buf : List ℕ) (long : length (r .table .places) ≡ 256) (bytes : Below 256 buf) where
+  pub pack-unpack : Sound r buf → Repacks r buf (textOf r buf)
+  pack-unpack s =
+      let is = sound-record r buf long s in
+      record {
+        known = sound-known r buf long s;
+        is = is;
+        symbols = sound-symbols r buf long s;
+        bytes = sound-bytes r buf long s bytes;
+        again = λ buf2 h.
+            packs-accepted (r .table) (textOf r buf) buf2
+            (record {
+              good = s .table;
+              known = sound-known r buf long s;
+              fits = rw (ap (λ (x : Roll). x .h) is) h;
+            });
+      }
+
+  -- into the buffer itself: it stays as it is
+  pub pack-again : Sound r buf → packedInto (widthOf r) (symbolsFor (r .table) (textOf r buf)) buf ≡ buf
+  pack-again s =
+      ap₂ (λ (a : List ℕ) (h : ℕ). a ++ drop (bytesFor (widthOf r) h) buf)
+      (sound-bytes r buf long s bytes)
+      (ap (λ (x : Roll). x .h) (sound-record r buf long s))
+      ∙ take-append-drop (bytesFor (widthOf r) (r .h)) buf
+
+  -- ---- sound: it holds some text, which is the only one (`holds-one`)
+
+  pub sound-packed : Sound r buf ↔ ((text : List ℕ) × Holds r buf text)
+  sound-packed = (λ s. (textOf r buf, sound-holds r buf long s bytes), λ p. holds-sound r buf (p .0) (p .1))
+
+-- ---- the operations: unpacking gives the text, and unpacking what was packed gives back what was packed
+
+pub text-length : {r : Roll} {buf : List ℕ} → Sound r buf → length (textOf r buf) ≡ r .n
+unfolding textOf
+text-length {r} {buf} s = length-map (ranksRead (reading r buf)) (λ rank. getD (r .table .places) rank 0) ∙ s .count
+
+module _ (r : Roll) (buf : List ℕ) (start end : ℕ) (out : List ℕ) where
+  -- unpack, where it accepts, gives the characters of the range
+  pub unpacks-range : {answer : Done} {after : List ℕ} → Unpacking r buf start end out answer after → Unpacks r buf start end out
+      → (answer ≡ Yes) × (after ≡ run (textOf r buf) start end ++ drop (end - start) out)
+  unpacks-range {answer} {after} p u =
+      let e = unpacks-accepted r buf start end out u in
+      (done-one answer Yes (p .says ∙ e), p .leaves ∙ accepted-leaves (unpackRows r buf start end out) (tt {0}) _ _ e)
+
+-- the whole text
+pub unpacks-text : (r : Roll) (buf out : List ℕ) → Sound r buf → r .n ≤ length out → {answer : Done} {after : List ℕ}
+    → Unpacking r buf 0 (r .n) out answer after → (answer ≡ Yes) × (after ≡ textOf r buf ++ drop (r .n) out)
+unpacks-text r buf out s h p =
+    let q = unpacks-range r buf 0 (r .n) out p (record { sound = s; ordered = omega arith; inside = le-refl (r .n); fits = omega arith }) in
+    let e : r .n - 0 ≡ r .n = sub-zero (r .n) in
+    let f : take (r .n) (textOf r buf) ≡ textOf r buf = take-all (r .n) (textOf r buf) (le-of-eq (text-length s)) in
+    (q .0, q .1 ∙ ap (λ (n : ℕ). take n (textOf r buf) ++ drop n out) e ∙ ap (λ (l : List ℕ). l ++ drop (r .n) out) f)
+
+-- pack, if it accepts, leaves a sound roll with that text
+pub packing-sound : {t : Table} {text buf : List ℕ} {r : Packed} {after : List ℕ} → Packing t text buf r after → r .answer ≡ Yes
+    → (r .roll ≡ recordOf t text) × Sound (r .roll) after × (textOf (r .roll) after ≡ text)
+packing-sound {t} {text} {buf} {r} {after} p y =
+    let e : Accepted (packRows t text buf) = sym (p .says) ∙ ap doneSays y in
+    let q = accepted-packs t text buf e in
+    let a : r .roll ≡ recordOf t text = p .roll ∙ accepted-leaves (packRows t text buf) (tt {0}) _ _ e in
+    let b : after ≡ packedInto (t .code .k) (symbolsFor t text) buf = p .leaves ∙ accepted-leaves (packRows t text buf) (tt {0}) _ _ e in
+    (a, rw (a, b) (packed-sound t text buf q), rw (a, b) (unpack-pack t text buf q))
+
+-- and unpack then gives that text
+pub packing-unpacking : {t : Table} {text buf : List ℕ} {r : Packed} {after : List ℕ} → Packing t text buf r after → r .answer ≡ Yes
+    → (out : List ℕ) → length text ≤ length out → {answer : Done} {now : List ℕ} → Unpacking (r .roll) after 0 (length text) out answer now
+    → (answer ≡ Yes) × (now ≡ text ++ drop (length text) out)
+packing-unpacking {t} {text} {buf} {r} {after} p y out h {answer} {now} u =
+    let (a, s, e) = packing-sound p y in
+    let n : r .roll .n ≡ length text = ap (λ (x : Roll). x .n) a in
+    let q = unpacks-text (r .roll) after out s (rw n h) (subst (λ (m : ℕ). Unpacking (r .roll) after 0 m out answer now) (sym n) u) in
+    (q .0, q .1 ∙ ap₂ (λ (x : List ℕ) (m : ℕ). x ++ drop m out) e n)

@@ -1,0 +1,107 @@
+// Runs worked cases through the public operations and prints what they answer and what they leave in lent memory.
+//
+// Standard input is decimal numbers, with comments from `#` to the end of the line. Each case is the number of an operation
+// and its arguments; 0 ends. A row of bytes is the number of its runs and then, for each, how many, the first byte and the
+// step by which they rise; a table is k, s, sigma and its row of places; a roll is a table, n and h. Rows are printed as runs of equal bytes.
+mod given;
+mod printed;
+
+use given::bytes;
+use given::number;
+use given::roll_at;
+use given::table_at;
+use printed::done;
+use printed::end;
+use printed::roll_out;
+use printed::runs;
+use roll::roll::Roll;
+use stopper::table::Table;
+
+fn main() {
+    let mut input = [0u8; 65536];
+    let n = io::read_full(0, &mut input);
+    cases(&input[..n]);
+}
+
+fn cases(s: &[u8]) {
+    let mut at: usize = 0;
+    while at < s.len() {
+        let next = one_case(s, at);
+        if next <= at {
+            break;
+        }
+        at = next;
+    }
+}
+
+fn one_case(s: &[u8], at: usize) -> usize {
+    let op = number(s, at);
+    let what = op.value;
+    match what {
+        1 => check_case(s, op.next),
+        2 => unpack_case(s, op.next),
+        3 => pack_case(s, op.next),
+        _ => s.len(),
+    }
+}
+
+// A roll, a buffer.
+fn check_case(s: &[u8], at: usize) -> usize {
+    let given = roll_at(s, at);
+    let mut space = [0u8; 32800];
+    let buf = bytes(s, given.next, &mut space);
+    let n = buf.value;
+    let roll = given.roll;
+    io::write_all(1, b"check");
+    done(roll::check::check(roll, &space[..n]));
+    end();
+    buf.next
+}
+
+// A roll, a buffer, start, end, the output as it was.
+fn unpack_case(s: &[u8], at: usize) -> usize {
+    let given = roll_at(s, at);
+    let mut space = [0u8; 32800];
+    let buf = bytes(s, given.next, &mut space);
+    let n = buf.value;
+    let start = number(s, buf.next);
+    let stop = number(s, start.next);
+    let mut output = [0u8; 65600];
+    let out = bytes(s, stop.next, &mut output);
+    let m = out.value;
+    let roll = given.roll;
+    unpacked(roll, &space[..n], start.value, stop.value, &mut output[..m]);
+    out.next
+}
+
+fn unpacked(roll: Roll, buf: &[u8], start: usize, stop: usize, out: &mut [u8]) {
+    io::write_all(1, b"unpack");
+    done(roll::unpack::unpack(roll, buf, start, stop, out));
+    runs(out);
+    end();
+}
+
+// A table, a text, the buffer as it was.
+fn pack_case(s: &[u8], at: usize) -> usize {
+    let given = table_at(s, at);
+    let mut letters = [0u8; 65600];
+    let text = bytes(s, given.next, &mut letters);
+    let m = text.value;
+    let mut space = [0u8; 32800];
+    let buf = bytes(s, text.next, &mut space);
+    let n = buf.value;
+    let table = given.table;
+    packed(table, &letters[..m], &mut space[..n]);
+    buf.next
+}
+
+fn packed(table: Table, text: &[u8], buf: &mut [u8]) {
+    io::write_all(1, b"pack");
+    let outcome = roll::pack::pack(table, text, buf);
+    let answer = outcome.answer;
+    let roll = outcome.roll;
+    done(answer);
+    roll_out(roll);
+    runs(buf);
+    end();
+}

@@ -1,0 +1,327 @@
+#!/usr/bin/env python3
+"""Writes crates/vectors/stdin, the cases, and crates/vectors/stdout, what they should print.
+
+What should be printed is worked out here from the paper alone: codewords are listed in rank order by the paper's rule, a roll is read by
+looking each codeword up in that list, and every refusal is asked in the paper's order. Nothing is taken from src/ or specs/.
+"""
+import pathlib
+
+LIMIT = 65536
+CRATE = pathlib.Path(__file__).resolve().parent.parent / "crates" / "vectors"
+
+
+# ---- the paper
+
+def codewords(k, s):
+    """The 256 first codewords in rank order: shorter ones first; within a length the stopper is q mod s, the continuers the digits of
+    q div s in base c, most significant first, each plus s."""
+    c = 2 ** k - s
+    out, length = [], 1
+    while len(out) < 256:
+        for q in range(s * c ** (length - 1)):
+            x, digits = q // s, []
+            for _ in range(length - 1):
+                digits.append(s + x % c)
+                x //= c
+            out.append(tuple(reversed(digits)) + (q % s,))
+            if len(out) == 256:
+                break
+        length += 1
+    return out
+
+
+def symbols(k, buf):
+    return [b >> (8 - k * (i + 1)) & (2 ** k - 1) for b in buf for i in range(8 // k)]
+
+
+def room(k, buf):
+    return min(LIMIT, len(buf) * 8 // k)
+
+
+def good_table(t):
+    k, s, sigma, places = t
+    return k in (2, 4) and 1 <= s <= 2 ** k - 1 and sigma <= 256 and len(set(places[:sigma])) == sigma
+
+
+def read(t, row):
+    """The ranks read, and the first symbol of the first bad codeword or None."""
+    k, s, sigma, _ = t
+    rank = {w: r for r, w in enumerate(codewords(k, s)[:sigma])}
+    ranks, first = [], 0
+    while first < len(row):
+        end = first
+        while end < len(row) and row[end] >= s:
+            end += 1
+        if end == len(row):
+            return ranks, first
+        r = rank.get(tuple(row[first:end + 1])) if end - first < 86 else None
+        if r is None:
+            return ranks, first
+        ranks.append(r)
+        first = end + 1
+    return ranks, None
+
+
+def check(t, n, h, buf):
+    if not good_table(t):
+        return (1, 0)
+    k = t[0]
+    if h > room(k, buf):
+        return (5, h)
+    row = symbols(k, buf)
+    ranks, bad = read(t, row[:h])
+    if bad is not None:
+        return (6, bad)
+    if len(ranks) != n:
+        return (7, len(ranks))
+    per = 8 // k
+    if any(row[h:-(-h // per) * per]):
+        return (8, 0)
+    return None
+
+
+def unpack(t, n, h, buf, start, end, out):
+    refusal = check(t, n, h, buf)
+    if refusal:
+        return refusal, out
+    if start > end or end > n:
+        return (10, 0), out
+    if len(out) < end - start:
+        return (13, end - start), out
+    text = [t[3][r] for r in read(t, symbols(t[0], buf)[:h])[0]]
+    return None, text[start:end] + out[end - start:]
+
+
+def pack(t, text, buf):
+    """The refusal or None, n, h, the buffer afterwards."""
+    if not good_table(t):
+        return (1, 0), 0, 0, buf
+    k, s, sigma, places = t
+    rank = {b: r for r, b in enumerate(places[:sigma])}
+    for i, b in enumerate(text):
+        if b not in rank:
+            return (3, i), 0, 0, buf
+    words, row = codewords(k, s), []
+    for i, b in enumerate(text):
+        row += words[rank[b]]
+        if len(row) > room(k, buf):
+            return (4, i), 0, 0, buf
+    per = 8 // k
+    padded = row + [0] * (-len(row) % per)
+    packed = [sum(y << (8 - k * (i + 1)) for i, y in enumerate(padded[j:j + per])) for j in range(0, len(padded), per)]
+    return None, len(text), len(row), packed + buf[len(packed):]
+
+
+# ---- the cases
+
+given, said = [], []
+
+
+def runs(row):
+    out = []
+    for b in row:
+        if out and out[-1][1] == b:
+            out[-1][0] += 1
+        else:
+            out.append([1, b])
+    return out
+
+
+def row_in(row):
+    """Runs of equal or evenly rising bytes: how many, the first, the step."""
+    out, i = [], 0
+    while i < len(row):
+        step = (row[i + 1] - row[i]) % 256 if i + 1 < len(row) else 0
+        j = i + 1
+        while j < len(row) and (row[j] - row[j - 1]) % 256 == step:
+            j += 1
+        if j - i == 2 and step:
+            j, step = i + 1, 0
+        out.append(f"{j - i} {row[i]} {step}")
+        i = j
+    return " ".join([str(len(out))] + out)
+
+
+def row_out(row):
+    return " |" + "".join(f" {n}x{b}" for n, b in runs(row))
+
+
+def table_in(t):
+    return f"{t[0]} {t[1]} {t[2]} {row_in(t[3])}"
+
+
+def answer(refusal):
+    return f" refused {refusal[0]} {refusal[1]}" if refusal else " yes"
+
+
+def note(words):
+    given.append("# " + words)
+
+
+def check_case(words, t, n, h, buf, expect=...):
+    r = check(t, n, h, buf)
+    assert expect is ... or r == expect, (words, r, expect)
+    note(words)
+    given.append(f"1 {table_in(t)} {n} {h} {row_in(buf)}")
+    said.append("check" + answer(r))
+
+
+def unpack_case(words, t, n, h, buf, start, end, out, expect=...):
+    r, after = unpack(t, n, h, buf, start, end, out)
+    assert expect is ... or r == expect, (words, r, expect)
+    note(words)
+    given.append(f"2 {table_in(t)} {n} {h} {row_in(buf)} {start} {end} {row_in(out)}")
+    said.append("unpack" + answer(r) + row_out(after))
+
+
+def pack_case(words, t, text, buf, expect=...):
+    r, n, h, after = pack(t, text, buf)
+    assert expect is ... or r == expect, (words, r, expect)
+    note(words)
+    given.append(f"3 {table_in(t)} {row_in(text)} {row_in(buf)}")
+    said.append("pack" + answer(r) + f" n {n} h {h} k {t[0]} s {t[1]} sigma {t[2]}" + row_out(t[3]) + row_out(after))
+
+
+def table(k, s, characters, sigma=None, rest=0):
+    return (k, s, len(characters) if sigma is None else sigma, list(characters) + [rest] * (256 - len(characters)))
+
+
+def packed(k, row, spare=0):
+    per = 8 // k
+    full = row + [0] * (-len(row) % per)
+    return [sum(y << (8 - k * (i + 1)) for i, y in enumerate(full[j:j + per])) for j in range(0, len(full), per)] + [0xAA] * spare
+
+
+ALL = list(range(256))
+ABRA = table(2, 3, b"abrcd")
+TEXT = list(b"abracadabra")
+BYTES = [0x18, 0xC3, 0x46, 0x00]
+
+# the paper's own
+pack_case("P2: abracadabra, and a byte behind it that stays", ABRA, TEXT, [0xFF] * 5, None)
+assert pack(ABRA, TEXT, [0xFF] * 5)[1:] == (11, 13, BYTES + [0xFF])
+check_case("P2 is sound", ABRA, 11, 13, BYTES, None)
+unpack_case("P2 unpacked whole", ABRA, 11, 13, BYTES, 0, 11, [0xEE] * 12, None)
+BANANA = table(4, 3, b"anb")
+pack_case("P5: banana", BANANA, list(b"banana"), [0xFF] * 3, None)
+assert pack(BANANA, list(b"banana"), [0xFF] * 3)[3] == [0x20, 0x10, 0x10]
+pack_case("P12: the empty text writes nothing", ABRA, [], [], None)
+pack_case("P12: nor into a buffer", ABRA, [], [0xFF], None)
+check_case("P12: and is sound", ABRA, 0, 0, [], None)
+check_case("P12: whatever lies in the buffer", ABRA, 0, 0, [0xFF], None)
+F14 = table(4, 14, ALL[:14])
+check_case("P13: E 0 with sigma 14", table(4, 14, ALL[:15], 14), 1, 2, [0xE0], (6, 0))
+check_case("P13: E 0 with sigma 15", table(4, 14, ALL[:15]), 1, 2, [0xE0], None)
+ONE = table(2, 3, b"a")
+pack_case("P14: 65,536 characters of rank 0", ONE, [97] * 65536, [0xFF] * 16385, None)
+pack_case("P14: one more", ONE, [97] * 65537, [0xFF] * 16386, (4, 65536))
+pack_case("P14: width 4", table(4, 1, b"a"), [97] * 65536, [0xFF] * 32769, None)
+pack_case("P14: width 4, one more", table(4, 1, b"a"), [97] * 65537, [0xFF] * 32769, (4, 65536))
+unpack_case("P16: 3..3 of n 3", ONE, 3, 3, [0], 3, 3, [], None)
+unpack_case("P16: 4..4 of n 3", ONE, 3, 3, [0], 4, 4, [], (10, 0))
+
+for k, s in ((2, 3), (4, 14), (2, 1), (4, 1)):
+    w = f"width {k}, s {s}: "
+    per = 8 // k
+    c0 = s  # the least continuer
+    good = table(k, s, ALL[:5])
+    short = [0] * per                     # one byte of rank 0
+    bad_tables = [
+        ("k 3", (3, s, 5, good[3])), ("k 0", (0, s, 5, good[3])), ("s 0", (k, 0, 5, good[3])), ("s 2^k", (k, 2 ** k, 5, good[3])),
+        ("sigma 257", (k, s, 257, ALL)), ("sigma 65535", (k, s, 65535, ALL)), ("a character twice", (k, s, 5, [7, 8, 9, 7] + [0] * 252)),
+    ]
+    for name, t in bad_tables:
+        check_case(w + "1, " + name, t, per, per, packed(k, short), (1, 0))
+        pack_case(w + "1 for pack, " + name, t, [0], [0xFF], (1, 0))
+    unpack_case(w + "1 for unpack", (3, s, 5, good[3]), per, per, packed(k, short), 0, 1, [0xEE], (1, 0))
+    twice = (k, s, 5, ALL[:5] + [0] * 251)
+    check_case(w + "a character twice past sigma is no fault", twice, per, per, packed(k, short), None)
+    check_case(w + "sigma 0 and an empty roll", table(k, s, []), 0, 0, [1, 2], None)
+    check_case(w + "sigma 0 and a symbol", table(k, s, []), 1, 1, [0], (6, 0))
+    check_case(w + "sigma 256", table(k, s, ALL), per, per, packed(k, short), None)
+    # 5
+    check_case(w + "h at the room", good, 2 * per, 2 * per, packed(k, short * 2), None)
+    check_case(w + "5, h over the room by one", good, 2 * per + 1, 2 * per + 1, packed(k, short * 2), (5, 2 * per + 1))
+    check_case(w + "5, no buffer", good, 0, 1, [], (5, 1))
+    check_case(w + "5, the greatest h", good, 0, 2 ** 32 - 1, packed(k, short), (5, 2 ** 32 - 1))
+    check_case(w + "h at the limit in a longer buffer", good, LIMIT, LIMIT, [0] * (LIMIT // per + 1), None)
+    check_case(w + "5, h over the limit in a longer buffer", good, LIMIT, LIMIT + 1, [0] * (LIMIT // per + 1), (5, LIMIT + 1))
+    unpack_case(w + "5 for unpack", good, 1, 9, [0], 0, 1, [0xEE], (5, 9))
+    # 6
+    check_case(w + "6, unfinished at h", good, 1, 2, packed(k, [0, c0]), (6, 1))
+    check_case(w + "6, unfinished from the first", good, 0, 1, packed(k, [c0]), (6, 0))
+    second = [0] + list(codewords(k, s)[1])
+    check_case(w + "6, of rank sigma", table(k, s, [9]), 2, len(second), packed(k, second), (6, 1))
+    check_case(w + "and below sigma", table(k, s, [9, 8]), 2, len(second), packed(k, second), None)
+    check_case(w + "6 comes where reading meets it, more than n read before", good, 1, 4, packed(k, [0, 0, 0, c0]), (6, 3))
+    unpack_case(w + "6 for unpack", good, 1, 2, packed(k, [0, c0]), 0, 1, [0xEE], (6, 1))
+    # 7
+    check_case(w + "7, n one too few", good, per - 1, per, packed(k, short), (7, per))
+    check_case(w + "7, n one too many", good, per + 1, per, packed(k, short), (7, per))
+    check_case(w + "7, the greatest n", good, 2 ** 32 - 1, per, packed(k, short), (7, per))
+    check_case(w + "7, an empty roll", good, 1, 0, [], (7, 0))
+    unpack_case(w + "7 for unpack", good, 1, per, packed(k, short), 0, 1, [0xEE], (7, per))
+    # 8
+    for used in range(1, per):
+        for at in range(used, per):
+            row = [0] * per
+            row[at] = 1
+            check_case(w + f"8, {used} used, symbol {at} not 0", good, used, used, packed(k, row), (8, 0))
+    check_case(w + "bytes behind the last are free", good, 1, 1, [0, 0xFF, 0xFF], None)
+    unpack_case(w + "8 for unpack", good, 1, 1, packed(k, [0] * (per - 1) + [1]), 0, 1, [0xEE], (8, 0))
+    # 10, 13
+    buf = packed(k, short)
+    unpack_case(w + "10, start over end", good, per, per, buf, 1, 0, [0xEE], (10, 0))
+    unpack_case(w + "10, end over n", good, per, per, buf, 0, per + 1, [0xEE] * 9, (10, 0))
+    unpack_case(w + "10, both huge", good, per, per, buf, 10 ** 11, 10 ** 11, [0xEE], (10, 0))
+    unpack_case(w + "13", good, per, per, buf, 0, 2, [0xEE], (13, 2))
+    unpack_case(w + "13, no output", good, per, per, buf, 0, 1, [], (13, 1))
+    unpack_case(w + "the empty range at n", good, per, per, buf, per, per, [0xEE], None)
+    unpack_case(w + "the output just long enough", good, per, per, buf, 1, 2, [0xEE], None)
+    unpack_case(w + "later bytes of the output stay", good, per, per, buf, 0, 1, [0xEE, 0xDD, 0xCC], None)
+    # 3, 4
+    pack_case(w + "3, the first", good, [200], [0xFF], (3, 0))
+    pack_case(w + "3, the last", good, [0, 1, 200], [0xFF] * 9, (3, 2))
+    pack_case(w + "3, the first of two", good, [0, 200, 0, 201], [0xFF] * 9, (3, 1))
+    pack_case(w + "3, a character that stands only past sigma", (k, s, 2, ALL), [0, 1, 2], [0xFF] * 9, (3, 2))
+    pack_case(w + "3, sigma 0", table(k, s, []), [0], [0xFF], (3, 0))
+    pack_case(w + "4, no buffer", good, [0], [], (4, 0))
+    pack_case(w + "4, one too many", good, [0] * (per + 1), [0xFF], (4, per))
+    long_rank = 4
+    pack_case(w + "4, a long codeword that does not fit, a short one behind it that would", good, [0] * (per - 1) + [long_rank, 0], [0xFF],
+              (4, per - 1) if len(codewords(k, s)[long_rank]) > 1 else ...)
+    pack_case(w + "the room just filled", good, [0] * per, [0xFF], None)
+    pack_case(w + "unused symbols of the last byte are made 0, later bytes stay", good, [0], [0xFF] * 3, None)
+    # neighbours in the order
+    check_case(w + "1 before 5", (k, 0, 5, good[3]), 1, 99, [0], (1, 0))
+    check_case(w + "5 before 6", good, 1, per + 1, packed(k, [c0] * per), (5, per + 1))
+    check_case(w + "6 before 7", good, 9, 1, packed(k, [c0]), (6, 0))
+    check_case(w + "7 before 8", good, 2, 1, packed(k, [0] * (per - 1) + [1]), (7, 1))
+    unpack_case(w + "8 before 10", good, 1, 1, packed(k, [0] * (per - 1) + [1]), 5, 4, [], (8, 0))
+    unpack_case(w + "10 before 13", good, per, per, buf, 0, per + 1, [], (10, 0))
+    pack_case(w + "1 before 3", (k, 0, 5, good[3]), [200], [], (1, 0))
+    pack_case(w + "3 before 4, though it stands behind", good, [0] * (per + 1) + [200], [0xFF], (3, per + 1))
+    pack_case(w + "3 before 4, the foreign one first", good, [200] + [0] * (per + 1), [0xFF], (3, 0))
+
+# long runs of continuers, closed by a stopper and open
+for k, s in ((2, 1), (2, 2), (2, 3), (4, 1), (4, 14), (4, 15)):
+    every = table(k, s, ALL)
+    for many in (8, 9, 16, 32, 33, 64, 65, 85, 86, 100, 65535):
+        for y in sorted({s, 2 ** k - 1}):
+            check_case(f"width {k}, s {s}: {many} times {y}, closed", every, 1, many + 1, packed(k, [y] * many + [0]))
+            check_case(f"width {k}, s {s}: {many} times {y}, open", every, 1, many, packed(k, [y] * many), (6, 0))
+
+# the longest codewords there and back
+for k, s in ((2, 3), (2, 2), (4, 15), (4, 14), (4, 1)):
+    every = table(k, s, list(reversed(ALL)))
+    text = [0, 255, 1, 128, 0, 127]
+    r, n, h, after = pack(every, text, [0xFF] * 120)
+    pack_case(f"width {k}, s {s}: rare characters", every, text, [0xFF] * 120)
+    if r is None:
+        unpack_case(f"width {k}, s {s}: and back", every, n, h, after, 0, n, [0xEE] * (n + 1), None)
+        unpack_case(f"width {k}, s {s}: a part of them", every, n, h, after, 2, 5, [0xEE] * 4, None)
+
+given.append("0")
+(CRATE / "stdin").write_text("\n".join(given) + "\n")
+(CRATE / "stdout").write_text("\n".join(said) + "\n")
+print(len(said), "cases,", (CRATE / "stdin").stat().st_size, "bytes of input")
