@@ -1,0 +1,37 @@
+-- An answer that says what its rows say tells it.
+-- Assumes nothing.
+use mathlib.Core.Path.{_≡_, refl, sym, ap, _∙_}
+use mathlib.Core.List.{List, [], append-nil}
+use Prim.Native.Nat.{ℕ}
+use Rattle.ground.specs.Refusals.{Row, accepted, refused, judged}
+use Rattle.ground.specs.Answers.{doneSays}
+use Rattle.ground.specs.Laws.Refusals.{refused-front, accepted-front}
+use Rattle.ground.specs.declared.answers.Done.{Done}
+use Rattle.ground.specs.declared.answers.Done.the-variants.{Yes, Refused}
+use Rattle.cabi.specs.Taken.{numberOf, valueOf, Told, doneNumber, doneValue}
+
+-- rows judge whatever is answered
+judged-yes : {A B : Type 0} (rows : List Row) (a : A) {a′ : A} (b : B) → judged rows a ≡ accepted a′ → judged rows b ≡ accepted b
+judged-yes rows a b e = rw append-nil at (accepted-front rows [] a b e)
+
+judged-no : {A B : Type 0} (rows : List Row) (a : A) (b : B) {n v : ℕ} → judged rows a ≡ refused n v → judged rows b ≡ refused n v
+judged-no rows a b e = rw append-nil at (refused-front rows [] a b e)
+
+-- what is told of accepted work, and of refused work
+pub told-answered : (rows : List Row) (answer : ℕ) {value : ℕ} → judged rows answer ≡ accepted value → Told rows answer 0 value
+told-answered rows answer e = record { number-is = sym (ap numberOf e); value-is = sym (ap valueOf e) }
+
+pub told-refused : (rows : List Row) (answer : ℕ) {number value : ℕ} → judged rows answer ≡ refused number value → Told rows answer number value
+told-refused rows answer e = record { number-is = sym (ap numberOf e); value-is = sym (ap valueOf e) }
+
+-- the same where nothing or something beside the answer is told
+pub told-yes : (rows : List Row) (answer : ℕ) {value : ℕ} → judged rows (tt {0}) ≡ accepted tt → value ≡ answer → Told rows answer 0 value
+told-yes rows answer e q = rw q (told-answered rows answer (judged-yes rows tt answer e))
+
+pub told-no : (rows : List Row) (answer : ℕ) {number value : ℕ} → judged rows (tt {0}) ≡ refused number value → Told rows answer number value
+told-no rows answer e = told-refused rows answer (judged-no rows tt answer e)
+
+pub told-done : (rows : List Row) (a : Done) (answer : ℕ) {number value : ℕ} → doneSays a ≡ judged rows (tt {0}) → number ≡ doneNumber a → value ≡ doneValue a answer
+    → Told rows answer number value
+told-done rows Yes answer e p q = rw p (told-yes rows answer (sym e) q)
+told-done rows (Refused n v) answer e p q = rw (p, q) (told-no rows answer (sym e))

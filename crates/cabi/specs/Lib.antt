@@ -1,0 +1,3 @@
+-- What the exported functions answer, in numbers. Laws needs no belief: it is proved.
+pub mod Taken
+pub mod Laws

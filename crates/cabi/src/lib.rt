@@ -1,0 +1,207 @@
+// The operations for callers in C and Rust: the door that boxes come in by.
+//
+// Each function takes its arguments apart and calls the operation. It answers the refusal's number, 0 for accepted work; `value` takes the
+// refusal's value, or the number that is answered. What else is lent changes only if the work is accepted. A table is k, s, sigma and a
+// pointer to 256 places; a roll is a table with n and h.
+mod taken;
+
+use ground::answers::Answer;
+use ground::answers::Done;
+use stopper::codeword_of::Codeword;
+use taken::roll_of;
+use taken::table_of;
+use taken::told;
+ghost use mathlib.Core.Path.{_≡_};
+ghost use Rattle.ground.specs.Refusals.{kept};
+ghost use Rattle.ground.specs.Rows.{padded};
+ghost use lib.ListN.{length};
+ghost use Rattle.stopper.specs.Table.{characters, rankIn, wordOf, lengthOf};
+ghost use Rattle.stopper.specs.Choosing.{countsOf, counted, total, chosen, chosenTable};
+ghost use Rattle.stopper.specs.Operations.{countRows, chooseRows, codewordRows, characterRows, characterAt, symbols};
+ghost use mathlib.Core.List.{_++_};
+ghost use Prim.Native.Nat.{_-_};
+ghost use lib.ListN.{drop};
+ghost use Rattle.symbols.specs.Runs.{run};
+ghost use Rattle.roll.specs.Roll.{textOf, symbolsFor, recordOf, packedInto};
+ghost use Rattle.roll.specs.Operations.{checkRows, unpackRows, packRows};
+ghost use Rattle.cabi.specs.Taken.{Told, tableAt, rollAt, wordAt};
+
+#[no_mangle]
+pub extern "C" fn monterculo_count(text: &[u8], counts: &mut [u32], value: &mut u64) -> u32
+    ensures told { λ r. ⌜ Told (countRows (now (text .entry)) (now (counts .entry))) 0 r (now (value .exit)) ⌝ }
+    ensures counts { λ _. ⌜ now (counts .exit) ≡ kept (countRows (now (text .entry)) (now (counts .entry))) (now (counts .entry)) (countsOf (now (text .entry))) ⌝ }
+{
+    let answer = stopper::count::count(text, counts);
+    told(answer, 0, value)
+}
+
+// The table's k is the one given; `value` takes the total.
+#[no_mangle]
+pub extern "C" fn monterculo_choose(
+    k: u8,
+    counts: &[u32],
+    s: &mut u8,
+    sigma: &mut u16,
+    places: &mut [u8; 256],
+    value: &mut u64,
+) -> u32
+    ensures told { λ r. ⌜ Told (chooseRows k (now (counts .entry))) (total (chosen k (counted (now (counts .entry)))) (counted (now (counts .entry)))) r (now (value .exit)) ⌝ }
+    ensures s { λ _. ⌜ now (s .exit) ≡ kept (chooseRows k (now (counts .entry))) (now (s .entry)) (chosenTable k (counted (now (counts .entry))) .code .s) ⌝ }
+    ensures sigma { λ _. ⌜ now (sigma .exit) ≡ kept (chooseRows k (now (counts .entry))) (now (sigma .entry)) (chosenTable k (counted (now (counts .entry))) .sigma) ⌝ }
+    ensures places { λ _. ⌜ now (places .exit) ≡ kept (chooseRows k (now (counts .entry))) (now (places .entry)) (chosenTable k (counted (now (counts .entry))) .places) ⌝ }
+{
+    let choice = stopper::choose::choose(k, counts);
+    let answer = choice.answer;
+    let table = choice.table;
+    let code = table.code;
+    let held = table.places;
+    match answer {
+        Done::Yes => {
+            *s = code.s;
+            *sigma = table.sigma;
+            *places = held;
+            *value = choice.total;
+            0
+        }
+        Done::Refused(number, refused) => {
+            *value = refused;
+            number as u32
+        }
+    }
+}
+
+// `value` takes the length.
+#[no_mangle]
+pub extern "C" fn monterculo_codeword_of(
+    k: u8,
+    s: u8,
+    sigma: u16,
+    places: &[u8; 256],
+    character: u8,
+    word: &mut [u8; 86],
+    value: &mut u64,
+) -> u32
+    ensures told { λ r. ⌜ Told (codewordRows (tableAt k s sigma (now (places .entry))) character) (length (wordAt (tableAt k s sigma (now (places .entry))) character)) r (now (value .exit)) ⌝ }
+    ensures word { λ _. ⌜ now (word .exit) ≡ kept (codewordRows (tableAt k s sigma (now (places .entry))) character) (now (word .entry)) (padded 86 (wordAt (tableAt k s sigma (now (places .entry))) character)) ⌝ }
+{
+    let table = table_of(k, s, sigma, places);
+    let coded = stopper::codeword_of::codeword_of(table, character);
+    let answer = coded.answer;
+    let found = coded.word;
+    let symbols = found.symbols;
+    match answer {
+        Done::Yes => {
+            *word = symbols;
+            *value = found.length as u64;
+            0
+        }
+        Done::Refused(number, refused) => {
+            *value = refused;
+            number as u32
+        }
+    }
+}
+
+// `value` takes the character.
+#[no_mangle]
+pub extern "C" fn monterculo_character_of(
+    k: u8,
+    s: u8,
+    sigma: u16,
+    places: &[u8; 256],
+    length: usize,
+    word: &[u8; 86],
+    value: &mut u64,
+) -> u32
+    ensures { λ r. ⌜ Told (characterRows (tableAt k s sigma (now (places .entry))) (record { length = length; symbols = now (word .entry) })) (characterAt (tableAt k s sigma (now (places .entry))) (symbols (record { length = length; symbols = now (word .entry) }))) r (now (value .exit)) ⌝ }
+{
+    let table = table_of(k, s, sigma, places);
+    let symbols = *word;
+    let answer = stopper::character_of::character_of(table, Codeword { length, symbols });
+    match answer {
+        Answer::Read(character) => {
+            *value = character as u64;
+            0
+        }
+        Answer::Refused(number, refused) => {
+            *value = refused;
+            number as u32
+        }
+    }
+}
+
+#[no_mangle]
+pub extern "C" fn monterculo_check(
+    k: u8,
+    s: u8,
+    sigma: u16,
+    places: &[u8; 256],
+    n: u32,
+    h: u32,
+    buf: &[u8],
+    value: &mut u64,
+) -> u32
+    ensures { λ r. ⌜ Told (checkRows (rollAt k s sigma (now (places .entry)) n h) (now (buf .entry))) 0 r (now (value .exit)) ⌝ }
+{
+    let roll = roll_of(k, s, sigma, places, n, h);
+    let answer = roll::check::check(roll, buf);
+    told(answer, 0, value)
+}
+
+#[no_mangle]
+pub extern "C" fn monterculo_unpack(
+    k: u8,
+    s: u8,
+    sigma: u16,
+    places: &[u8; 256],
+    n: u32,
+    h: u32,
+    buf: &[u8],
+    start: usize,
+    end: usize,
+    out: &mut [u8],
+    value: &mut u64,
+) -> u32
+    ensures told { λ r. ⌜ Told (unpackRows (rollAt k s sigma (now (places .entry)) n h) (now (buf .entry)) start end (now (out .entry))) 0 r (now (value .exit)) ⌝ }
+    ensures out { λ _. ⌜ now (out .exit) ≡ kept (unpackRows (rollAt k s sigma (now (places .entry)) n h) (now (buf .entry)) start end (now (out .entry))) (now (out .entry)) (run (textOf (rollAt k s sigma (now (places .entry)) n h) (now (buf .entry))) start end ++ drop (end - start) (now (out .entry))) ⌝ }
+{
+    let roll = roll_of(k, s, sigma, places, n, h);
+    let answer = roll::unpack::unpack(roll, buf, start, end, out);
+    told(answer, 0, value)
+}
+
+// The record's table is the one given; n and h take its numbers.
+#[no_mangle]
+pub extern "C" fn monterculo_pack(
+    k: u8,
+    s: u8,
+    sigma: u16,
+    places: &[u8; 256],
+    text: &[u8],
+    buf: &mut [u8],
+    n: &mut u32,
+    h: &mut u32,
+    value: &mut u64,
+) -> u32
+    ensures told { λ r. ⌜ Told (packRows (tableAt k s sigma (now (places .entry))) (now (text .entry)) (now (buf .entry))) 0 r (now (value .exit)) ⌝ }
+    ensures buf { λ _. ⌜ now (buf .exit) ≡ kept (packRows (tableAt k s sigma (now (places .entry))) (now (text .entry)) (now (buf .entry))) (now (buf .entry)) (packedInto k (symbolsFor (tableAt k s sigma (now (places .entry))) (now (text .entry))) (now (buf .entry))) ⌝ }
+    ensures n { λ _. ⌜ now (n .exit) ≡ kept (packRows (tableAt k s sigma (now (places .entry))) (now (text .entry)) (now (buf .entry))) (now (n .entry)) (recordOf (tableAt k s sigma (now (places .entry))) (now (text .entry)) .n) ⌝ }
+    ensures h { λ _. ⌜ now (h .exit) ≡ kept (packRows (tableAt k s sigma (now (places .entry))) (now (text .entry)) (now (buf .entry))) (now (h .entry)) (recordOf (tableAt k s sigma (now (places .entry))) (now (text .entry)) .h) ⌝ }
+{
+    let table = table_of(k, s, sigma, places);
+    let packed = roll::pack::pack(table, text, buf);
+    let answer = packed.answer;
+    let roll = packed.roll;
+    match answer {
+        Done::Yes => {
+            *n = roll.n;
+            *h = roll.h;
+            *value = 0;
+            0
+        }
+        Done::Refused(number, refused) => {
+            *value = refused;
+            number as u32
+        }
+    }
+}

@@ -1,0 +1,42 @@
+// Arguments taken together, and answers taken apart.
+use ground::answers::Done;
+use roll::roll::Roll;
+use stopper::code::Code;
+use stopper::table::Table;
+ghost use mathlib.Core.Path.{_≡_};
+ghost use Rattle.cabi.specs.Taken.{doneNumber, doneValue, tableAt, rollAt};
+
+pub fn table_of(k: u8, s: u8, sigma: u16, places: &[u8; 256]) -> Table
+    ensures { λ r. ⌜ r ≡ tableAt k s sigma (now (places .entry)) ⌝ }
+{
+    let held = *places;
+    Table {
+        code: Code { k, s },
+        sigma,
+        places: held,
+    }
+}
+
+pub fn roll_of(k: u8, s: u8, sigma: u16, places: &[u8; 256], n: u32, h: u32) -> Roll
+    ensures { λ r. ⌜ r ≡ rollAt k s sigma (now (places .entry)) n h ⌝ }
+{
+    let table = table_of(k, s, sigma, places);
+    Roll { table, n, h }
+}
+
+// The answer's number; `value` takes the refusal's value or what is answered.
+pub fn told(answer: Done, answered: u64, value: &mut u64) -> u32
+    ensures number { λ r. ⌜ r ≡ doneNumber answer ⌝ }
+    ensures value { λ _. ⌜ now (value .exit) ≡ doneValue answer answered ⌝ }
+{
+    match answer {
+        Done::Yes => {
+            *value = answered;
+            0
+        }
+        Done::Refused(number, refused) => {
+            *value = refused;
+            number as u32
+        }
+    }
+}

@@ -1,0 +1,963 @@
+//! The paper's operations, by definition: codewords are listed by its rule, reading looks them up,
+//! editing unpacks, splices and packs afresh, and search looks at every place.
+
+use std::cell::RefCell;
+use std::collections::HashMap;
+use std::rc::Rc;
+
+/// No symbol count, and no text to be counted, exceeds this.
+pub const LIMIT: usize = 65_536;
+/// Symbols of the longest codeword there is (P9).
+pub const LONGEST: usize = 86;
+/// Characters of a text for each directory entry.
+pub const STRIDE: usize = 32;
+/// Characters of the longest pattern.
+pub const PATTERN: usize = 64;
+/// Bytes of the program's buffer, and of its longest text.
+pub const PROGRAM: usize = 16_384;
+
+#[derive(Clone, Debug, PartialEq, Eq)]
+pub struct Table {
+    pub k: u8,
+    pub s: u8,
+    pub sigma: u16,
+    pub places: [u8; 256],
+}
+
+#[derive(Clone, Debug, PartialEq, Eq)]
+pub struct Roll {
+    pub table: Table,
+    pub n: u32,
+    pub h: u32,
+}
+
+#[derive(Clone, Debug, PartialEq, Eq)]
+pub struct Codeword {
+    pub length: usize,
+    pub symbols: [u8; LONGEST],
+}
+
+#[derive(Clone, Copy, Debug, PartialEq, Eq)]
+pub struct Refused {
+    pub number: u32,
+    pub value: u64,
+}
+
+pub type Answer<T> = Result<T, Refused>;
+
+fn refuse<T>(number: u32, value: usize) -> Answer<T> {
+    Err(Refused { number, value: value as u64 })
+}
+
+// The code.
+
+/// The codeword of a rank: the shorter ones first; within a length, stopper and digits of q.
+/// The caller keeps a rank small where c = 1, as the codeword is then about rank / s long.
+pub fn codeword_by_rule(k: u8, s: u8, rank: u128) -> Vec<u8> {
+    let stoppers = u128::from(s);
+    let c = (1u128 << k) - stoppers;
+    let mut length = 1;
+    let mut shorter = 0;
+    let mut of_length = stoppers;
+    while rank - shorter >= of_length {
+        shorter += of_length;
+        of_length *= c;
+        length += 1;
+    }
+    let q = rank - shorter;
+    let mut rest = q / stoppers;
+    let mut continuers = Vec::new();
+    for _ in 1..length {
+        continuers.push((rest % c) as u8 + s);
+        rest /= c;
+    }
+    continuers.reverse();
+    let mut codeword = continuers;
+    codeword.push((q % stoppers) as u8);
+    codeword
+}
+
+/// The codewords of ranks 0 to 255 and the way back.
+pub struct Listing {
+    pub codewords: Vec<Vec<u8>>,
+    ranks: HashMap<Vec<u8>, usize>,
+}
+
+impl Listing {
+    fn new(k: u8, s: u8) -> Listing {
+        let codewords: Vec<Vec<u8>> = (0..256).map(|rank| codeword_by_rule(k, s, rank)).collect();
+        let ranks = codewords.iter().cloned().enumerate().map(|(rank, word)| (word, rank)).collect();
+        Listing { codewords, ranks }
+    }
+
+    /// The rank of these symbols if they are a codeword of rank below 256.
+    pub fn rank(&self, symbols: &[u8]) -> Option<usize> {
+        self.ranks.get(symbols).copied()
+    }
+}
+
+thread_local! {
+    static LISTINGS: RefCell<HashMap<(u8, u8), Rc<Listing>>> = RefCell::new(HashMap::new());
+}
+
+/// The listing of a good k and s, kept for the next time.
+pub fn listing(k: u8, s: u8) -> Rc<Listing> {
+    LISTINGS.with(|kept| kept.borrow_mut().entry((k, s)).or_insert_with(|| Rc::new(Listing::new(k, s))).clone())
+}
+
+fn good_width(k: u8) -> bool {
+    k == 2 || k == 4
+}
+
+fn table_refusal(table: &Table) -> Answer<()> {
+    if !good_width(table.k) {
+        return refuse(1, 0);
+    }
+    if table.s < 1 || u32::from(table.s) > (1u32 << table.k) - 1 {
+        return refuse(1, 0);
+    }
+    if table.sigma > 256 {
+        return refuse(1, 0);
+    }
+    let mut seen = [false; 256];
+    for &character in characters(table) {
+        if seen[usize::from(character)] {
+            return refuse(1, 0);
+        }
+        seen[usize::from(character)] = true;
+    }
+    Ok(())
+}
+
+/// The first σ places.
+fn characters(table: &Table) -> &[u8] {
+    &table.places[..usize::from(table.sigma)]
+}
+
+fn rank_of(table: &Table, character: u8) -> Option<usize> {
+    characters(table).iter().position(|&c| c == character)
+}
+
+pub fn count(text: &[u8], counts: &mut [u32]) -> Answer<()> {
+    if counts.len() != 256 {
+        return refuse(2, counts.len());
+    }
+    if text.len() > LIMIT {
+        return refuse(4, LIMIT);
+    }
+    counts.fill(0);
+    for &character in text {
+        counts[usize::from(character)] += 1;
+    }
+    Ok(())
+}
+
+/// The total of symbols; beside a refusal stands k with s 0, σ 0 and all places 0.
+pub fn choose(k: u8, counts: &[u32]) -> (Answer<u64>, Table) {
+    let mut table = Table { k, s: 0, sigma: 0, places: [0; 256] };
+    if !good_width(k) {
+        return (refuse(1, 0), table);
+    }
+    if counts.len() != 256 {
+        return (refuse(2, counts.len()), table);
+    }
+    let mut ranked: Vec<u8> = (0..=255).filter(|&byte| counts[usize::from(byte)] > 0).collect();
+    ranked.sort_by_key(|&byte| (u32::MAX - counts[usize::from(byte)], byte));
+    let totals: Vec<(u64, u8)> = (1..=(1u8 << k) - 1).map(|s| (total(k, s, counts, &ranked), s)).collect();
+    // The least pair is the fewest symbols and, of equals, the smallest s.
+    let (fewest, s) = *totals.iter().min().expect("there is an s of 1");
+    table.s = s;
+    table.sigma = ranked.len() as u16;
+    table.places[..ranked.len()].copy_from_slice(&ranked);
+    (Ok(fewest), table)
+}
+
+/// Symbols that these counts take with s stoppers.
+fn total(k: u8, s: u8, counts: &[u32], ranked: &[u8]) -> u64 {
+    let list = listing(k, s);
+    ranked
+        .iter()
+        .zip(&list.codewords)
+        .map(|(&byte, codeword)| u64::from(counts[usize::from(byte)]) * codeword.len() as u64)
+        .sum()
+}
+
+/// Beside a refusal stands length 0 and 86 zeros.
+pub fn codeword_of(table: &Table, character: u8) -> (Answer<()>, Codeword) {
+    let mut codeword = Codeword { length: 0, symbols: [0; LONGEST] };
+    if let Err(refused) = table_refusal(table) {
+        return (Err(refused), codeword);
+    }
+    let rank = match rank_of(table, character) {
+        Some(rank) => rank,
+        None => return (refuse(3, 0), codeword),
+    };
+    let list = listing(table.k, table.s);
+    let symbols = &list.codewords[rank];
+    codeword.length = symbols.len();
+    codeword.symbols[..symbols.len()].copy_from_slice(symbols);
+    (Ok(()), codeword)
+}
+
+pub fn character_of(table: &Table, codeword: &Codeword) -> Answer<u8> {
+    table_refusal(table)?;
+    if codeword.length > LONGEST {
+        return refuse(6, 0);
+    }
+    match listing(table.k, table.s).rank(&codeword.symbols[..codeword.length]) {
+        Some(rank) if rank < usize::from(table.sigma) => Ok(table.places[rank]),
+        _ => refuse(6, 0),
+    }
+}
+
+// The roll.
+
+/// Symbols in a byte, for a good k.
+fn per_byte(k: u8) -> usize {
+    8 / usize::from(k)
+}
+
+fn room(k: u8, bytes: usize) -> usize {
+    LIMIT.min(bytes.saturating_mul(per_byte(k)))
+}
+
+fn bytes_for(k: u8, symbols: usize) -> usize {
+    (symbols + per_byte(k) - 1) / per_byte(k)
+}
+
+fn entries_for(characters: usize) -> usize {
+    (characters + STRIDE - 1) / STRIDE
+}
+
+/// The symbol of this number, the first in the highest bits of byte 0.
+fn symbol(k: u8, buf: &[u8], number: usize) -> u8 {
+    let below = per_byte(k) - 1 - number % per_byte(k);
+    (buf[number / per_byte(k)] >> (usize::from(k) * below)) & ((1 << k) - 1)
+}
+
+/// The bytes of these symbols, filled up with symbols 0.
+pub fn bytes_of(k: u8, symbols: &[u8]) -> Vec<u8> {
+    symbols
+        .chunks(per_byte(k))
+        .map(|chunk| {
+            let mut byte = 0;
+            for place in 0..per_byte(k) {
+                byte = (byte << k) | chunk.get(place).copied().unwrap_or(0);
+            }
+            byte
+        })
+        .collect()
+}
+
+/// The first h symbols; the buffer holds them.
+pub fn symbols_of(k: u8, buf: &[u8], h: usize) -> Vec<u8> {
+    (0..h).map(|number| symbol(k, buf, number)).collect()
+}
+
+/// A text's codewords, one for each character, or refusal 3.
+fn codewords_for<'a>(table: &Table, list: &'a Listing, text: &[u8]) -> Answer<Vec<&'a [u8]>> {
+    let mut by_character: [Option<&[u8]>; 256] = [None; 256];
+    for (&character, codeword) in characters(table).iter().zip(&list.codewords) {
+        by_character[usize::from(character)] = Some(codeword);
+    }
+    let mut codewords = Vec::new();
+    for (place, &character) in text.iter().enumerate() {
+        match by_character[usize::from(character)] {
+            Some(codeword) => codewords.push(codeword),
+            None => return refuse(3, place),
+        }
+    }
+    Ok(codewords)
+}
+
+/// The symbols of these codewords one behind the other, or refusal 4.
+fn symbols_within(room: usize, codewords: &[&[u8]]) -> Answer<Vec<u8>> {
+    let mut symbols = Vec::new();
+    for (number, codeword) in codewords.iter().enumerate() {
+        if symbols.len() + codeword.len() > room {
+            return refuse(4, number);
+        }
+        symbols.extend_from_slice(codeword);
+    }
+    Ok(symbols)
+}
+
+/// Beside a refusal stands the table as given with n 0 and h 0.
+pub fn pack(table: &Table, text: &[u8], buf: &mut [u8]) -> (Answer<()>, Roll) {
+    let mut roll = Roll { table: table.clone(), n: 0, h: 0 };
+    match packed(table, text, buf.len()) {
+        Ok(symbols) => {
+            let bytes = bytes_of(table.k, &symbols);
+            buf[..bytes.len()].copy_from_slice(&bytes);
+            roll.n = text.len() as u32;
+            roll.h = symbols.len() as u32;
+            (Ok(()), roll)
+        }
+        Err(refused) => (Err(refused), roll),
+    }
+}
+
+fn packed(table: &Table, text: &[u8], buf_len: usize) -> Answer<Vec<u8>> {
+    table_refusal(table)?;
+    let list = listing(table.k, table.s);
+    let codewords = codewords_for(table, &list, text)?;
+    symbols_within(room(table.k, buf_len), &codewords)
+}
+
+/// Where the codeword that starts here ends, and its character; or refusal 6.
+fn read_codeword(table: &Table, list: &Listing, symbols: &[u8], start: usize) -> Answer<(usize, u8)> {
+    let stopper = match symbols[start..].iter().position(|&symbol| symbol < table.s) {
+        Some(continuers) => start + continuers,
+        None => return refuse(6, start),
+    };
+    match list.rank(&symbols[start..=stopper]) {
+        Some(rank) if rank < usize::from(table.sigma) => Ok((stopper + 1, table.places[rank])),
+        _ => refuse(6, start),
+    }
+}
+
+/// The text of a roll and where each character's codeword starts.
+struct Read {
+    text: Vec<u8>,
+    starts: Vec<u32>,
+}
+
+impl Read {
+    /// The directory: the first symbol of every thirty-second character.
+    fn directory(&self) -> Vec<u32> {
+        self.starts.iter().copied().step_by(STRIDE).collect()
+    }
+}
+
+/// Check's refusals, or all there is to read.
+fn read_all(roll: &Roll, buf: &[u8]) -> Answer<Read> {
+    let table = &roll.table;
+    table_refusal(table)?;
+    let h = roll.h as usize;
+    if h > room(table.k, buf.len()) {
+        return refuse(5, h);
+    }
+    let symbols = symbols_of(table.k, buf, h);
+    let list = listing(table.k, table.s);
+    let mut read = Read { text: Vec::new(), starts: Vec::new() };
+    let mut start = 0;
+    while start < h {
+        let (next, character) = read_codeword(table, &list, &symbols, start)?;
+        read.text.push(character);
+        read.starts.push(start as u32);
+        start = next;
+    }
+    if read.text.len() != roll.n as usize {
+        return refuse(7, read.text.len());
+    }
+    let last_byte_ends = bytes_for(table.k, h) * per_byte(table.k);
+    if (h..last_byte_ends).any(|number| symbol(table.k, buf, number) != 0) {
+        return refuse(8, 0);
+    }
+    Ok(read)
+}
+
+pub fn check(roll: &Roll, buf: &[u8]) -> Answer<()> {
+    read_all(roll, buf).map(|_| ())
+}
+
+pub fn unpack(roll: &Roll, buf: &[u8], start: usize, end: usize, out: &mut [u8]) -> Answer<()> {
+    let read = read_all(roll, buf)?;
+    if start > end || end > roll.n as usize {
+        return refuse(10, 0);
+    }
+    let range = &read.text[start..end];
+    if out.len() < range.len() {
+        return refuse(13, range.len());
+    }
+    out[..range.len()].copy_from_slice(range);
+    Ok(())
+}
+
+pub fn make_directory(roll: &Roll, buf: &[u8], directory: &mut [u32]) -> Answer<()> {
+    let entries = read_all(roll, buf)?.directory();
+    if directory.len() < entries.len() {
+        return refuse(12, entries.len());
+    }
+    directory[..entries.len()].copy_from_slice(&entries);
+    Ok(())
+}
+
+pub fn read_one(roll: &Roll, buf: &[u8], directory: &[u32], place: usize) -> Answer<u8> {
+    let table = &roll.table;
+    table_refusal(table)?;
+    let h = roll.h as usize;
+    if h > room(table.k, buf.len()) {
+        return refuse(5, h);
+    }
+    if place >= roll.n as usize {
+        return refuse(10, 0);
+    }
+    let mut start = match directory.get(place / STRIDE) {
+        Some(&entry) if (entry as usize) < h => entry as usize,
+        _ => return refuse(9, place / STRIDE),
+    };
+    let symbols = symbols_of(table.k, buf, h);
+    let list = listing(table.k, table.s);
+    for _ in 0..place % STRIDE {
+        start = read_codeword(table, &list, &symbols, start)?.0;
+    }
+    Ok(read_codeword(table, &list, &symbols, start)?.1)
+}
+
+/// The total of all hits.
+pub fn search(roll: &Roll, buf: &[u8], pattern: &[u8], hits: &mut [u32]) -> Answer<u32> {
+    let text = read_all(roll, buf)?.text;
+    if pattern.is_empty() || pattern.len() > PATTERN {
+        return refuse(11, 0);
+    }
+    let mut total = 0;
+    for place in 0..text.len() {
+        if text[place..].starts_with(pattern) {
+            if total < hits.len() {
+                hits[total] = place as u32;
+            }
+            total += 1;
+        }
+    }
+    Ok(total as u32)
+}
+
+/// Beside a refusal stands the record that came in.
+pub fn edit(
+    roll: &Roll,
+    buf: &mut [u8],
+    directory: &mut [u32],
+    start: usize,
+    end: usize,
+    text: &[u8],
+) -> (Answer<()>, Roll) {
+    match edited(roll, buf, directory, start, end, text) {
+        Ok((symbols, fresh)) => {
+            let k = roll.table.k;
+            let bytes = bytes_of(k, &symbols);
+            let entries = fresh.directory();
+            // What was used and is no longer is 0: clear the old extent, then write the new.
+            buf[..bytes_for(k, roll.h as usize)].fill(0);
+            buf[..bytes.len()].copy_from_slice(&bytes);
+            directory[..entries_for(roll.n as usize)].fill(0);
+            directory[..entries.len()].copy_from_slice(&entries);
+            let n = fresh.text.len() as u32;
+            (Ok(()), Roll { table: roll.table.clone(), n, h: symbols.len() as u32 })
+        }
+        Err(refused) => (Err(refused), roll.clone()),
+    }
+}
+
+fn edited(
+    roll: &Roll,
+    buf: &[u8],
+    directory: &[u32],
+    start: usize,
+    end: usize,
+    text: &[u8],
+) -> Answer<(Vec<u8>, Read)> {
+    let table = &roll.table;
+    let old = read_all(roll, buf)?;
+    for (number, entry) in old.directory().iter().enumerate() {
+        if directory.get(number) != Some(entry) {
+            return refuse(9, number);
+        }
+    }
+    if start > end || end > roll.n as usize {
+        return refuse(10, 0);
+    }
+    let list = listing(table.k, table.s);
+    codewords_for(table, &list, text)?;
+    let mut whole = old.text[..start].to_vec();
+    whole.extend_from_slice(text);
+    whole.extend_from_slice(&old.text[end..]);
+    let codewords = codewords_for(table, &list, &whole)?;
+    let symbols = symbols_within(room(table.k, buf.len()), &codewords)?;
+    let mut starts = Vec::new();
+    let mut next = 0;
+    for codeword in &codewords {
+        starts.push(next as u32);
+        next += codeword.len();
+    }
+    let needed = entries_for(whole.len());
+    if directory.len() < needed {
+        return refuse(12, needed);
+    }
+    Ok((symbols, Read { text: whole, starts }))
+}
+
+// The program.
+
+/// What the program writes for what it reads.
+pub fn report(input: &[u8]) -> Vec<u8> {
+    match report_lines(input) {
+        Ok(lines) => lines,
+        Err(refused) => format!("refused {} {}\n", refused.number, refused.value).into_bytes(),
+    }
+}
+
+fn report_lines(input: &[u8]) -> Answer<Vec<u8>> {
+    let (pattern, text) = match input.iter().position(|&byte| byte == 10) {
+        Some(newline) => (&input[..newline], &input[newline + 1..]),
+        None => (input, &input[input.len()..]),
+    };
+    if pattern.is_empty() || pattern.len() > PATTERN {
+        return refuse(11, 0);
+    }
+    if text.len() > PROGRAM {
+        return refuse(4, PROGRAM);
+    }
+    let mut counts = [0; 256];
+    count(text, &mut counts)?;
+    let (answer, table) = choose(2, &counts);
+    answer?;
+    let mut buf = vec![0; PROGRAM];
+    let (answer, roll) = pack(&table, text, &mut buf);
+    answer?;
+    let mut hits = vec![0; text.len()];
+    let total = search(&roll, &buf, pattern, &mut hits)?;
+
+    let mut lines = format!("best {} symbols {}\n", roll.table.s, roll.h);
+    for line in buf[..bytes_for(2, roll.h as usize)].chunks(32) {
+        for byte in line {
+            lines.push_str(&format!("{:02x}", byte));
+        }
+        lines.push('\n');
+    }
+    for hit in &hits[..total as usize] {
+        lines.push_str(&format!("{}\n", hit));
+    }
+    lines.push_str(&format!("hits {}\n", total));
+    Ok(lines.into_bytes())
+}
+
+#[cfg(test)]
+mod tests {
+    use super::*;
+
+    fn chosen(k: u8, text: &[u8]) -> (u64, Table) {
+        let mut counts = [7; 256];
+        count(text, &mut counts).unwrap();
+        let (answer, table) = choose(k, &counts);
+        (answer.unwrap(), table)
+    }
+
+    fn with_places(k: u8, s: u8, sigma: u16) -> Table {
+        let mut places = [0; 256];
+        for (place, byte) in places.iter_mut().zip(0..=255) {
+            *place = byte;
+        }
+        Table { k, s, sigma, places }
+    }
+
+    /// Packed behind guard bytes' worth of 0xAA, to see what stays.
+    fn rolled(table: &Table, text: &[u8], bytes: usize) -> (Roll, Vec<u8>) {
+        let mut buf = vec![0xAA; bytes];
+        let (answer, roll) = pack(table, text, &mut buf);
+        answer.unwrap();
+        (roll, buf)
+    }
+
+    fn found(roll: &Roll, buf: &[u8], pattern: &[u8]) -> Vec<u32> {
+        let mut hits = vec![9999; roll.n as usize + 1];
+        let total = search(roll, buf, pattern, &mut hits).unwrap() as usize;
+        assert!(hits[total..].iter().all(|&hit| hit == 9999));
+        hits.truncate(total);
+        assert_eq!(hits, found_in_symbols(roll, buf, pattern));
+        hits
+    }
+
+    /// The paper's other words for a hit: the packed pattern stands there, behind a stopper or nothing.
+    fn found_in_symbols(roll: &Roll, buf: &[u8], pattern: &[u8]) -> Vec<u32> {
+        let table = &roll.table;
+        let symbols = symbols_of(table.k, buf, roll.h as usize);
+        let sought = match codewords_for(table, &listing(table.k, table.s), pattern) {
+            Ok(codewords) => codewords.concat(),
+            Err(_) => return Vec::new(),
+        };
+        let stoppers_before = |at: usize| symbols[..at].iter().filter(|&&symbol| symbol < table.s).count();
+        (0..symbols.len())
+            .filter(|&at| symbols[at..].starts_with(&sought) && (at == 0 || symbols[at - 1] < table.s))
+            .map(|at| stoppers_before(at) as u32)
+            .collect()
+    }
+
+    fn directory_of(roll: &Roll, buf: &[u8]) -> Vec<u32> {
+        let mut directory = vec![0; entries_for(roll.n as usize)];
+        make_directory(roll, buf, &mut directory).unwrap();
+        directory
+    }
+
+    const WORD: &[u8] = b"abracadabra";
+
+    fn refused<T: std::fmt::Debug>(answer: Answer<T>) -> (u32, u64) {
+        let refused = answer.unwrap_err();
+        (refused.number, refused.value)
+    }
+
+    #[test]
+    fn p1() {
+        let (fewest, table) = chosen(2, WORD);
+        assert_eq!((fewest, table.s, table.sigma), (13, 3, 5));
+        assert_eq!(characters(&table), b"abrcd");
+        assert_eq!(table.places[5..], [0; 251]);
+        let mut counts = [0; 256];
+        count(WORD, &mut counts).unwrap();
+        let totals: Vec<u64> = (1..=3).map(|s| total(2, s, &counts, b"abrcd")).collect();
+        assert_eq!(totals, [18, 15, 13]);
+    }
+
+    #[test]
+    fn p2() {
+        let (roll, buf) = rolled(&chosen(2, WORD).1, WORD, 6);
+        assert_eq!((roll.n, roll.h), (11, 13));
+        assert_eq!(symbols_of(2, &buf, 13), [0, 1, 2, 0, 3, 0, 0, 3, 1, 0, 1, 2, 0]);
+        assert_eq!(buf, [0x18, 0xC3, 0x46, 0x00, 0xAA, 0xAA]);
+        let mut text = [7; 12];
+        unpack(&roll, &buf, 0, 11, &mut text).unwrap();
+        assert_eq!(&text, b"abracadabra\x07");
+        for (place, &character) in WORD.iter().enumerate() {
+            assert_eq!(read_one(&roll, &buf, &[0], place), Ok(character));
+        }
+    }
+
+    #[test]
+    fn p3() {
+        let (roll, buf) = rolled(&chosen(2, WORD).1, WORD, 4);
+        assert_eq!(found(&roll, &buf, b"b"), [1, 8]);
+        let (answer, b) = codeword_of(&roll.table, b'b');
+        assert!(answer.is_ok());
+        assert_eq!(b.symbols[..b.length], symbols_of(2, &buf, 13)[8..9]);
+    }
+
+    #[test]
+    fn p4() {
+        let (roll, buf) = rolled(&chosen(2, WORD).1, WORD, 4);
+        assert_eq!(found(&roll, &buf, b"a"), [0, 3, 5, 7, 10]);
+        let mut hits = [7; 2];
+        assert_eq!(search(&roll, &buf, b"a", &mut hits), Ok(5));
+        assert_eq!(hits, [0, 3]);
+        assert_eq!(search(&roll, &buf, b"x", &mut hits), Ok(0));
+    }
+
+    #[test]
+    fn p5() {
+        let (_, table) = chosen(4, b"banana");
+        assert_eq!(table.s, 3);
+        let (roll, buf) = rolled(&table, b"banana", 3);
+        assert_eq!(symbols_of(4, &buf, 6), [2, 0, 1, 0, 1, 0]);
+        assert_eq!(buf, [0x20, 0x10, 0x10]);
+        assert_eq!(found(&roll, &buf, b"ana"), [1, 3]);
+    }
+
+    fn word(k: u8, s: u8, rank: usize) -> Vec<u8> {
+        let (answer, codeword) = codeword_of(&with_places(k, s, 256), rank as u8);
+        answer.unwrap();
+        assert_eq!(character_of(&with_places(k, s, 256), &codeword), Ok(rank as u8));
+        assert!(codeword.symbols[codeword.length..].iter().all(|&symbol| symbol == 0));
+        codeword.symbols[..codeword.length].to_vec()
+    }
+
+    #[test]
+    fn p6() {
+        assert_eq!(word(4, 14, 13), [0xD]);
+        assert_eq!(word(4, 14, 14), [0xE, 0]);
+        assert_eq!(word(4, 14, 27), [0xE, 0xD]);
+        assert_eq!(word(4, 14, 28), [0xF, 0]);
+    }
+
+    #[test]
+    fn p7() {
+        assert_eq!(word(4, 14, 41), [0xF, 0xD]);
+        assert_eq!(word(4, 14, 42), [0xE, 0xE, 0]);
+        assert_eq!(word(4, 14, 255), [0xE, 0xE, 0xF, 0xF, 3]);
+    }
+
+    #[test]
+    fn p8() {
+        assert_eq!(word(2, 2, 255), [2, 2, 2, 2, 2, 2, 2, 1]);
+    }
+
+    #[test]
+    fn p9() {
+        assert_eq!(word(4, 15, 255), [vec![0xF; 17], vec![0]].concat());
+        assert_eq!(word(2, 3, 255), [vec![3; 85], vec![0]].concat());
+    }
+
+    #[test]
+    fn p10() {
+        let (roll, mut buf) = rolled(&chosen(2, WORD).1, WORD, 5);
+        let mut directory = vec![0, 77];
+        let (answer, after) = edit(&roll, &mut buf, &mut directory, 4, 5, b"dd");
+        assert!(answer.is_ok());
+        assert_eq!((after.n, after.h), (12, 15));
+        assert_eq!(after.table, roll.table);
+        assert_eq!(buf, [0x18, 0xDD, 0x34, 0x60, 0xAA]);
+        assert_eq!(directory, [0, 77]);
+    }
+
+    #[test]
+    fn p11() {
+        let (roll, mut buf) = rolled(&chosen(2, WORD).1, WORD, 5);
+        let mut directory = vec![0];
+        let (answer, after) = edit(&roll, &mut buf, &mut directory, 4, 7, b"");
+        assert!(answer.is_ok());
+        assert_eq!((after.n, after.h), (8, 8));
+        assert_eq!(buf, [0x18, 0x18, 0x00, 0x00, 0xAA]);
+    }
+
+    #[test]
+    fn p12() {
+        for k in [2, 4] {
+            let (fewest, table) = chosen(k, b"");
+            assert_eq!((fewest, &table), (0, &Table { k, s: 1, sigma: 0, places: [0; 256] }));
+            let (roll, buf) = rolled(&table, b"", 2);
+            assert_eq!((roll.n, roll.h), (0, 0));
+            assert_eq!(buf, [0xAA, 0xAA]);
+            assert_eq!(make_directory(&roll, &buf, &mut []), Ok(()));
+            assert_eq!(check(&roll, &buf), Ok(()));
+            assert_eq!(check(&roll, &[]), Ok(()));
+        }
+    }
+
+    #[test]
+    fn p13() {
+        let buf = [0xE0];
+        let roll = Roll { table: with_places(4, 14, 14), n: 1, h: 2 };
+        assert_eq!(refused(check(&roll, &buf)), (6, 0));
+        let roll = Roll { table: with_places(4, 14, 15), n: 1, h: 2 };
+        assert_eq!(check(&roll, &buf), Ok(()));
+    }
+
+    #[test]
+    fn p14() {
+        let text = vec![b'a'; 65_537];
+        for k in [2, 4] {
+            let mut table = with_places(k, 1, 1);
+            table.places[0] = b'a';
+            let mut buf = vec![0xAA; 40_000];
+            let (answer, roll) = pack(&table, &text[..65_536], &mut buf);
+            assert!(answer.is_ok());
+            assert_eq!((roll.n, roll.h), (65_536, 65_536));
+            let before = buf.clone();
+            let (answer, roll) = pack(&table, &text, &mut buf);
+            assert_eq!(refused(answer), (4, 65_536));
+            assert_eq!((roll.n, roll.h), (0, 0));
+            assert_eq!(buf, before);
+        }
+        let mut counts = [7; 256];
+        assert_eq!(refused(count(&text, &mut counts)), (4, 65_536));
+        assert_eq!(counts, [7; 256]);
+        assert!(count(&text[..65_536], &mut counts).is_ok());
+        assert_eq!(counts[usize::from(b'a')], 65_536);
+    }
+
+    #[test]
+    fn p15() {
+        let text = vec![b'a'; 70];
+        let (roll, buf) = rolled(&chosen(2, &text).1, &text, 18);
+        assert_eq!(search(&roll, &buf, &text[..64], &mut []), Ok(7));
+        assert_eq!(refused(search(&roll, &buf, &text[..65], &mut [])), (11, 0));
+        assert_eq!(refused(search(&roll, &buf, b"", &mut [])), (11, 0));
+    }
+
+    #[test]
+    fn p16() {
+        let (roll, buf) = rolled(&chosen(2, b"abc").1, b"abc", 1);
+        assert_eq!(unpack(&roll, &buf, 3, 3, &mut []), Ok(()));
+        assert_eq!(refused(unpack(&roll, &buf, 4, 4, &mut [])), (10, 0));
+        let mut buf = buf;
+        assert!(edit(&roll, &mut buf, &mut [0], 3, 3, b"").0.is_ok());
+        assert_eq!(refused(edit(&roll, &mut buf, &mut [0], 4, 4, b"").0), (10, 0));
+    }
+
+    #[test]
+    fn the_program() {
+        assert_eq!(report(b"abra\nabracadabra"), b"best 3 symbols 13\n18c34600\n0\n7\nhits 2\n");
+        assert_eq!(report(b"abc"), b"best 1 symbols 0\nhits 0\n");
+        assert_eq!(report(b""), b"refused 11 0\n");
+        assert_eq!(report(b"\nabc"), b"refused 11 0\n");
+        let over = [b"a\n".to_vec(), vec![b'a'; 16_385]].concat();
+        assert_eq!(report(&over), b"refused 4 16384\n");
+        assert_eq!(report(&[vec![b'a'; 65], over].concat()), b"refused 11 0\n");
+        // Every byte 64 times is 16,384 bytes and about 5 symbols each: the room of 65,536 ends first.
+        let many: Vec<u8> = (0..16_384u32).map(|i| (i % 256) as u8).collect();
+        let answer = report(&[b"a\n".to_vec(), many].concat());
+        assert!(answer.starts_with(b"refused 4 "), "{}", String::from_utf8_lossy(&answer));
+    }
+
+    #[test]
+    fn codewords_are_all_there_are() {
+        // Rank order runs through every codeword of a length before the next length.
+        for k in [2u8, 4] {
+            for s in 1..=(1u8 << k) - 1 {
+                let list = listing(k, s);
+                let c = (1usize << k) - usize::from(s);
+                let longest = list.codewords.last().unwrap().len();
+                let mut shorter = 0;
+                let mut of_length = usize::from(s);
+                for length in 1..=longest {
+                    let found = list.codewords.iter().filter(|word| word.len() == length).count();
+                    assert_eq!(found, of_length.min(256 - shorter));
+                    shorter += of_length;
+                    of_length *= c;
+                }
+                assert!(longest <= LONGEST);
+                for (rank, word) in list.codewords.iter().enumerate() {
+                    let (stopper, continuers) = word.split_last().unwrap();
+                    assert!(*stopper < s && continuers.iter().all(|&symbol| symbol >= s && symbol < 1 << k));
+                    assert_eq!(list.rank(word), Some(rank));
+                }
+            }
+        }
+    }
+
+    #[test]
+    fn refusals_in_order() {
+        let table = chosen(2, WORD).1;
+        let (good, buf) = rolled(&table, WORD, 4);
+        let roll = |n, h| Roll { table: table.clone(), n, h };
+        assert_eq!(refused(check(&roll(11, 17), &buf)), (5, 17));
+        assert_eq!(refused(check(&roll(9, 8), &buf)), (6, 7));
+        assert_eq!(refused(check(&roll(12, 13), &buf)), (7, 11));
+        assert_eq!(refused(check(&good, &[0x18, 0xC3, 0x46, 0x01])), (8, 0));
+        assert_eq!(refused(check(&roll(12, 13), &[0x18, 0xC3, 0x46, 0x01])), (7, 11));
+        assert_eq!(refused(unpack(&good, &buf, 2, 1, &mut [])), (10, 0));
+        assert_eq!(refused(unpack(&good, &buf, 1, 3, &mut [0])), (13, 2));
+        assert_eq!(refused(make_directory(&good, &buf, &mut [])), (12, 1));
+        let mut bad = good.clone();
+        bad.table.places[1] = b'a';
+        assert_eq!(refused(check(&bad, &buf)), (1, 0));
+        bad = good.clone();
+        bad.table.places[5] = b'a';
+        assert_eq!(check(&bad, &buf), Ok(()));
+        bad.table.s = 4;
+        assert_eq!(refused(check(&bad, &buf)), (1, 0));
+        let mut counts = [7; 255];
+        assert_eq!(refused(count(WORD, &mut counts)), (2, 255));
+        let (answer, beside) = choose(3, &counts);
+        assert_eq!((refused(answer), beside.k, beside.s), ((1, 0), 3, 0));
+        assert_eq!(refused(choose(2, &counts).0), (2, 255));
+        let mut small = [0xAA; 2];
+        assert_eq!(refused(pack(&table, b"abracadabrax", &mut small).0), (3, 11));
+        assert_eq!(refused(pack(&table, WORD, &mut small).0), (4, 6));
+        assert_eq!(small, [0xAA; 2]);
+        let (answer, beside) = codeword_of(&table, b'x');
+        assert_eq!((refused(answer), beside), ((3, 0), Codeword { length: 0, symbols: [0; LONGEST] }));
+        for length in [0, 2, 87, usize::MAX] {
+            assert_eq!(refused(character_of(&table, &Codeword { length, symbols: [0; LONGEST] })), (6, 0));
+        }
+    }
+
+    #[test]
+    fn read_one_follows_what_the_entry_says() {
+        let (roll, buf) = rolled(&chosen(2, WORD).1, WORD, 4);
+        assert_eq!(refused(read_one(&roll, &buf, &[0], 11)), (10, 0));
+        assert_eq!(refused(read_one(&roll, &buf, &[], 0)), (9, 0));
+        assert_eq!(refused(read_one(&roll, &buf, &[13], 0)), (9, 0));
+        // Symbol 8 is the second of d's two: read there, it is b.
+        assert_eq!(read_one(&roll, &buf, &[8], 0), Ok(b'b'));
+        assert_eq!(refused(read_one(&roll, &buf, &[8], 5)), (6, 13));
+        assert_eq!(refused(read_one(&roll, &buf, &[8], 9)), (6, 13));
+        let empty = Roll { table: roll.table, n: 1, h: 0 };
+        assert_eq!(refused(read_one(&empty, &buf, &[0], 0)), (9, 0));
+    }
+
+    #[test]
+    fn edit_refuses_in_order_and_clears() {
+        let (roll, buf) = rolled(&chosen(2, WORD).1, WORD, 4);
+        let try_edit = |directory: &[u32], start, end, text: &[u8]| {
+            let (mut after, mut entries) = (buf.clone(), directory.to_vec());
+            let (answer, record) = edit(&roll, &mut after, &mut entries, start, end, text);
+            assert_eq!((&after, &entries[..], &record), (&buf, directory, &roll));
+            refused(answer)
+        };
+        assert_eq!(try_edit(&[], 2, 1, b"x"), (9, 0));
+        assert_eq!(try_edit(&[1], 2, 1, b"x"), (9, 0));
+        assert_eq!(try_edit(&[0], 2, 1, b"x"), (10, 0));
+        assert_eq!(try_edit(&[0], 0, 12, b"x"), (10, 0));
+        assert_eq!(try_edit(&[0], 0, 11, b"aax"), (3, 2));
+        // Four symbols more than the buffer's sixteen have room for: the last character falls off.
+        assert_eq!(try_edit(&[0], 0, 0, b"dd"), (4, 12));
+        assert_eq!(try_edit(&[0], 11, 11, &[b'a'; 40]), (4, 14));
+
+        let table = roll.table.clone();
+        let text = vec![b'a'; 70];
+        let (roll, mut buf) = rolled(&table, &text, 40);
+        let mut directory = directory_of(&roll, &buf);
+        assert_eq!(directory, [0, 32, 64]);
+        let (answer, record) = edit(&roll, &mut buf, &mut directory, 70, 70, &[b'a'; 27]);
+        assert_eq!((refused(answer), &record), ((12, 4), &roll));
+        directory.push(55);
+        let (answer, after) = edit(&roll, &mut buf, &mut directory, 0, 60, b"d");
+        assert!(answer.is_ok());
+        assert_eq!((after.n, after.h), (11, 12));
+        assert_eq!(directory, [0, 0, 0, 55]);
+        assert_eq!(buf[..18], [vec![0xD0], vec![0; 17]].concat());
+        assert_eq!(buf[18..], [0xAA; 22]);
+        assert_eq!(check(&after, &buf), Ok(()));
+    }
+
+    /// A few numbers below a bound, always the same.
+    struct Dice(u64);
+
+    impl Dice {
+        fn below(&mut self, bound: usize) -> usize {
+            self.0 = self.0.wrapping_mul(6_364_136_223_846_793_005).wrapping_add(1_442_695_040_888_963_407);
+            (self.0 >> 33) as usize % bound
+        }
+
+        fn text(&mut self, longest: usize, alphabet: usize) -> Vec<u8> {
+            (0..self.below(longest + 1)).map(|_| self.below(alphabet) as u8).collect()
+        }
+    }
+
+    #[test]
+    fn the_demands_on_search_read_one_and_edit() {
+        let mut dice = Dice(1);
+        for round in 0..600 {
+            let alphabet = 1 + dice.below(if round % 2 == 0 { 5 } else { 120 });
+            let k = 2 + 2 * (round % 2) as u8;
+            let text = dice.text(150, alphabet);
+            let table = chosen(k, &text).1;
+            let (roll, mut buf) = rolled(&table, &text, 8_000);
+            let mut directory = directory_of(&roll, &buf);
+            for (place, &character) in text.iter().enumerate() {
+                assert_eq!(read_one(&roll, &buf, &directory, place), Ok(character));
+            }
+            let mut pattern = dice.text(3, alphabet);
+            pattern.push(dice.below(alphabet) as u8);
+            found(&roll, &buf, &pattern);
+
+            let start = dice.below(text.len() + 1);
+            let end = start + dice.below(text.len() - start + 1);
+            let new: Vec<u8> = dice.text(60, alphabet).into_iter().filter(|byte| text.contains(byte)).collect();
+            let whole = [&text[..start], &new, &text[end..]].concat();
+            let (before, old_entries) = (buf.clone(), directory.len());
+            directory.resize(20, 77);
+            let (answer, after) = edit(&roll, &mut buf, &mut directory, start, end, &new);
+            assert_eq!(answer, Ok(()));
+
+            let (fresh, fresh_buf) = rolled(&table, &whole, 8_000);
+            let entries = directory_of(&fresh, &fresh_buf);
+            assert_eq!(after, fresh);
+            let (old_bytes, new_bytes) = (bytes_for(k, roll.h as usize), bytes_for(k, fresh.h as usize));
+            assert_eq!(buf[..new_bytes], fresh_buf[..new_bytes]);
+            assert!(buf[new_bytes..old_bytes.max(new_bytes)].iter().all(|&byte| byte == 0));
+            assert!(buf[old_bytes.max(new_bytes)..].iter().all(|&byte| byte == 0xAA));
+            assert_eq!(directory[..entries.len()], entries);
+            assert!(directory[entries.len()..old_entries.max(entries.len())].iter().all(|&entry| entry == 0));
+            assert!(directory[old_entries.max(entries.len())..].iter().all(|&entry| entry == 77));
+
+            let symbols = |part: &[u8]| packed(&table, part, 8_000).unwrap().len();
+            let run_start = symbols(&text[..start]);
+            let kept = run_start / per_byte(k);
+            assert_eq!(buf[..kept], before[..kept]);
+            if symbols(&new) == symbols(&text[start..end]) {
+                let run_end = bytes_for(k, run_start + symbols(&new));
+                assert_eq!(buf[run_end..], before[run_end..]);
+            }
+        }
+    }
+}
