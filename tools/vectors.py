@@ -112,6 +112,62 @@ def pack(t, text, buf):
     return None, len(text), len(row), packed + buf[len(packed):]
 
 
+def make_directory(t, n, h, buf, entries):
+    refusal = check(t, n, h, buf)
+    if refusal:
+        return refusal, entries
+    needed = -(-n // 32)
+    if len(entries) < needed:
+        return (12, needed), entries
+    words, at, first = codewords(t[0], t[1]), 0, []
+    for r in read(t, symbols(t[0], buf)[:h])[0]:
+        first.append(at)
+        at += len(words[r])
+    return None, first[::32] + entries[needed:]
+
+
+def read_one(t, n, h, buf, entries, place):
+    """The refusal, or None and the character."""
+    if not good_table(t):
+        return (1, 0), None
+    if h > room(t[0], buf):
+        return (5, h), None
+    if place >= n:
+        return (10, 0), None
+    e = place // 32
+    if e >= len(entries) or entries[e] >= h:
+        return (9, e), None
+    row, first = symbols(t[0], buf)[:h], entries[e]
+    for _ in range(place % 32):
+        # one codeword, which must be whole and of rank below sigma
+        end = first
+        while end < h and row[end] >= t[1]:
+            end += 1
+        ranks, bad = read(t, row[first:end + 1])
+        if end == h or bad is not None:
+            return (6, first), None
+        first = end + 1
+    end = first
+    while end < h and row[end] >= t[1]:
+        end += 1
+    ranks, bad = read(t, row[first:end + 1])
+    if first == h or bad is not None:
+        return (6, first), None
+    return None, t[3][ranks[0]]
+
+
+def search(t, n, h, buf, pattern, hits):
+    """The refusal, or None and the total; the hit list afterwards."""
+    refusal = check(t, n, h, buf)
+    if refusal:
+        return refusal, None, hits
+    if not 1 <= len(pattern) <= 64:
+        return (11, 0), None, hits
+    text = [t[3][r] for r in read(t, symbols(t[0], buf)[:h])[0]]
+    found = [i for i in range(len(text)) if text[i:i + len(pattern)] == pattern]
+    return None, len(found), found[:len(hits)] + hits[len(found):]
+
+
 # ---- the cases
 
 given, said = [], []
@@ -180,6 +236,38 @@ def pack_case(words, t, text, buf, expect=...):
     note(words)
     given.append(f"3 {table_in(t)} {row_in(text)} {row_in(buf)}")
     said.append("pack" + answer(r) + f" n {n} h {h} k {t[0]} s {t[1]} sigma {t[2]}" + row_out(t[3]) + row_out(after))
+
+
+def numbers_in(row):
+    return " ".join([str(len(row))] + [str(x) for x in row])
+
+
+def numbers_out(row):
+    return " |" + "".join(f" {x}" for x in row)
+
+
+def directory_case(words, t, n, h, buf, entries, expect=...):
+    r, after = make_directory(t, n, h, buf, entries)
+    assert expect is ... or r == expect, (words, r, expect)
+    note(words)
+    given.append(f"4 {table_in(t)} {n} {h} {row_in(buf)} {numbers_in(entries)}")
+    said.append("directory" + answer(r) + numbers_out(after))
+
+
+def read_case(words, t, n, h, buf, entries, place, expect=...):
+    r, b = read_one(t, n, h, buf, entries, place)
+    assert expect is ... or r == expect, (words, r, expect)
+    note(words)
+    given.append(f"5 {table_in(t)} {n} {h} {row_in(buf)} {numbers_in(entries)} {place}")
+    said.append("read" + (answer(r) if r else f" {b}"))
+
+
+def search_case(words, t, n, h, buf, pattern, hits, expect=...):
+    r, total, after = search(t, n, h, buf, pattern, hits)
+    assert expect is ... or r == expect, (words, r, expect)
+    note(words)
+    given.append(f"6 {table_in(t)} {n} {h} {row_in(buf)} {row_in(pattern)} {numbers_in(hits)}")
+    said.append("search" + (answer(r) if r else f" {total}") + numbers_out(after))
 
 
 def table(k, s, characters, sigma=None, rest=0):
@@ -320,6 +408,84 @@ for k, s in ((2, 3), (2, 2), (4, 15), (4, 14), (4, 1)):
     if r is None:
         unpack_case(f"width {k}, s {s}: and back", every, n, h, after, 0, n, [0xEE] * (n + 1), None)
         unpack_case(f"width {k}, s {s}: a part of them", every, n, h, after, 2, 5, [0xEE] * 4, None)
+
+# the directory
+directory_case("P12: no entries, nothing written", ABRA, 0, 0, [], [], None)
+directory_case("P12: an entry behind stays", ABRA, 0, 0, [], [7], None)
+for k, s in ((2, 3), (4, 2)):
+    w = f"width {k}, s {s}: "
+    t = table(k, s, list(b"0123456789 abcdefghijklmnop"))
+    for n in (1, 31, 32, 33, 64, 65, 100):
+        text = [t[3][i * i % 27] for i in range(n)]
+        r, _, h, buf = pack(t, text, [0xFF] * 400)
+        assert r is None
+        needed = -(-n // 32)
+        directory_case(w + f"a directory of {n} characters", t, n, h, buf, [9] * (needed + 1), None)
+        directory_case(w + f"12, {n} characters", t, n, h, buf, [9] * (needed - 1), (12, needed))
+        right = make_directory(t, n, h, buf, [0] * needed)[1]
+        for place in sorted({0, 1, 30, 31, 32, 33, 63, 64, n - 1}):
+            if place < n:
+                read_case(w + f"place {place} of {n}", t, n, h, buf, right, place, None)
+        read_case(w + f"10, place {n}", t, n, h, buf, right, n, (10, 0))
+        read_case(w + "10, a huge place", t, n, h, buf, right, 10 ** 11, (10, 0))
+        read_case(w + "9, no entries", t, n, h, buf, [], n - 1, (9, (n - 1) // 32))
+        read_case(w + "9, an entry at h", t, n, h, buf, right[:-1] + [h], n - 1, (9, (n - 1) // 32))
+        read_case(w + "9, the greatest entry", t, n, h, buf, right[:-1] + [2 ** 32 - 1], n - 1, (9, (n - 1) // 32))
+        for wrong in (0, 1, 2, h - 1):
+            read_case(w + f"the entry {wrong} is followed", t, n, h, buf, right[:-1] + [wrong], n - 1)
+        read_case(w + "n too great: a codeword that would start at h", t, n + 1, h, buf, right + [0], n)
+    text = [48, 49, 50]
+    _, n, h, buf = pack(t, text, [0xFF] * 9)
+    right = [0]
+    read_case(w + "1", (3, s, t[2], t[3]), n, h, buf, right, 0, (1, 0))
+    read_case(w + "5", t, n, 999, buf, right, 0, (5, 999))
+    read_case(w + "6, unfinished", t, 1, 1, packed(k, [s]), right, 0, (6, 0))
+    read_case(w + "6, passed over", t, 3, 3, packed(k, [0, s, s]), right, 2, (6, 1))
+    read_case(w + "6, of rank sigma", table(k, s, [48]), 1, 2, packed(k, [s, 0]), right, 0, (6, 0))
+    read_case(w + "a bad codeword behind is no fault", t, 3, 3, packed(k, [0, 1, s]), right, 1, None)
+    read_case(w + "an unused symbol that is not 0 is no fault", t, 1, 1, packed(k, [0, 1]), right, 0, None)
+    read_case(w + "1 before 5", (3, s, t[2], t[3]), n, 999, buf, right, 0, (1, 0))
+    read_case(w + "5 before 10", t, n, 999, buf, right, 99, (5, 999))
+    read_case(w + "10 before 9", t, n, h, buf, [], 99, (10, 0))
+    read_case(w + "9 before 6", t, 1, 1, packed(k, [s]), [], 0, (9, 0))
+    read_case(w + "9 with h 0", t, 1, 0, [], [0], 0, (9, 0))
+    directory_case(w + "8 before 12", t, 1, 1, packed(k, [0, 1]), [], (8, 0))
+    directory_case(w + "1 for the directory", (3, s, t[2], t[3]), n, h, buf, [], (1, 0))
+
+# the search
+search_case("P3: b", ABRA, 11, 13, BYTES, list(b"b"), [9] * 3, None)
+search_case("P4: a", ABRA, 11, 13, BYTES, list(b"a"), [9] * 6, None)
+search_case("P5: ana, overlapping", BANANA, 6, 6, [0x20, 0x10, 0x10], list(b"ana"), [9] * 3, None)
+assert search(ABRA, 11, 13, BYTES, list(b"b"), [9] * 3) == (None, 2, [1, 8, 9])
+assert search(ABRA, 11, 13, BYTES, list(b"a"), [9] * 6) == (None, 5, [0, 3, 5, 7, 10, 9])
+assert search(BANANA, 6, 6, [0x20, 0x10, 0x10], list(b"ana"), [9] * 3) == (None, 2, [1, 3, 9])
+RUN = [97] * 100
+_, n, h, buf = pack(ABRA, RUN, [0xFF] * 30)
+search_case("P15: a pattern of 64", ABRA, n, h, buf, [97] * 64, [9] * 40, None)
+search_case("P15: of 65", ABRA, n, h, buf, [97] * 65, [9] * 3, (11, 0))
+search_case("P15: of 0", ABRA, n, h, buf, [], [9] * 3, (11, 0))
+for k, s in ((2, 1), (2, 2), (2, 3), (4, 1), (4, 3), (4, 15)):
+    w = f"width {k}, s {s}: "
+    t = table(k, s, list(b"abcdefghij"))
+    for text in (b"abcabcabcab", b"aaaaaaaa", b"jijijij", b"fgfgafgfbfgf", b"dcbadcbaabcd", b"a"):
+        text = list(text)
+        _, n, h, buf = pack(t, text, [0xFF] * 60)
+        for pattern in (b"abc", b"aa", b"jij", b"gf", b"cba", b"a", b"b", b"fg", b"xyz", b"ax"):
+            search_case(w + bytes(text).decode() + " for " + pattern.decode(), t, n, h, buf, list(pattern), [9] * 4, None)
+        search_case(w + "the pattern is the text", t, n, h, buf, text, [9], None)
+        search_case(w + "longer than the text", t, n, h, buf, text + [97], [9], None)
+        search_case(w + "at the last character", t, n, h, buf, text[-1:], [9] * 12, None)
+        search_case(w + "no room for a hit", t, n, h, buf, text[:1], [], None)
+        search_case(w + "room for one", t, n, h, buf, text[:1], [9], None)
+    search_case(w + "an empty roll", t, 0, 0, [], [97], [9], None)
+    search_case(w + "8 before 11", t, 1, 1, packed(k, [0] * (8 // k - 1) + [1]), [], [9], (8, 0))
+    search_case(w + "1 for search", (3, s, t[2], t[3]), 0, 0, [], [97], [9], (1, 0))
+    search_case(w + "7 before 11", t, 1, 0, [], [], [9], (7, 0))
+every = table(2, 3, ALL)
+rare = [255] * 66
+_, n, h, buf = pack(every, rare, [0xFF] * 1500)
+search_case("64 characters of 86 symbols each", every, n, h, buf, [255] * 64, [9] * 4, None)
+search_case("no roll inside a codeword: 254 stands in 255's symbols", every, n, h, buf, [252], [9] * 4, None)
 
 given.append("0")
 (CRATE / "stdin").write_text("\n".join(given) + "\n")

@@ -15,6 +15,9 @@ extern "C" {
     fn monterculo_check(k: u8, s: u8, sigma: u16, places: *const u8, n: u32, h: u32, buf: *const u8, buf_len: usize, value: *mut u64) -> u32;
     fn monterculo_unpack(k: u8, s: u8, sigma: u16, places: *const u8, n: u32, h: u32, buf: *const u8, buf_len: usize, start: usize, end: usize, out: *mut u8, out_len: usize, value: *mut u64) -> u32;
     fn monterculo_pack(k: u8, s: u8, sigma: u16, places: *const u8, text: *const u8, text_len: usize, buf: *mut u8, buf_len: usize, n: *mut u32, h: *mut u32, value: *mut u64) -> u32;
+    fn monterculo_make_directory(k: u8, s: u8, sigma: u16, places: *const u8, n: u32, h: u32, buf: *const u8, buf_len: usize, dir: *mut u32, dir_len: usize, value: *mut u64) -> u32;
+    fn monterculo_read_one(k: u8, s: u8, sigma: u16, places: *const u8, n: u32, h: u32, buf: *const u8, buf_len: usize, dir: *const u32, dir_len: usize, place: usize, value: *mut u64) -> u32;
+    fn monterculo_search(k: u8, s: u8, sigma: u16, places: *const u8, n: u32, h: u32, buf: *const u8, buf_len: usize, pattern: *const u8, pattern_len: usize, hits: *mut u32, hits_len: usize, value: *mut u64) -> u32;
 }
 
 /// A number written through a pointer, with its complement as a guard on either side.
@@ -176,5 +179,94 @@ impl Library for Archive {
             )
         };
         (number, value.number(UNWRITTEN), n_cell.number(n), h_cell.number(h))
+    }
+
+    fn make_directory(
+        &self,
+        table: &Head,
+        places: &[u8; 256],
+        n: u32,
+        h: u32,
+        buf: &[u8],
+        directory: &mut [u32],
+    ) -> (u32, u64) {
+        let mut value = Cell::new(UNWRITTEN);
+        let number = unsafe {
+            monterculo_make_directory(
+                table.k,
+                table.s,
+                table.sigma,
+                places.as_ptr(),
+                n,
+                h,
+                buf.as_ptr(),
+                buf.len(),
+                directory.as_mut_ptr(),
+                directory.len(),
+                value.pointer(),
+            )
+        };
+        (number, value.number(UNWRITTEN))
+    }
+
+    fn read_one(
+        &self,
+        table: &Head,
+        places: &[u8; 256],
+        n: u32,
+        h: u32,
+        buf: &[u8],
+        directory: &[u32],
+        place: usize,
+    ) -> (u32, u64) {
+        let mut value = Cell::new(UNWRITTEN);
+        let number = unsafe {
+            monterculo_read_one(
+                table.k,
+                table.s,
+                table.sigma,
+                places.as_ptr(),
+                n,
+                h,
+                buf.as_ptr(),
+                buf.len(),
+                directory.as_ptr(),
+                directory.len(),
+                place,
+                value.pointer(),
+            )
+        };
+        (number, value.number(UNWRITTEN))
+    }
+
+    fn search(
+        &self,
+        table: &Head,
+        places: &[u8; 256],
+        n: u32,
+        h: u32,
+        buf: &[u8],
+        pattern: &[u8],
+        hits: &mut [u32],
+    ) -> (u32, u64) {
+        let mut value = Cell::new(UNWRITTEN);
+        let number = unsafe {
+            monterculo_search(
+                table.k,
+                table.s,
+                table.sigma,
+                places.as_ptr(),
+                n,
+                h,
+                buf.as_ptr(),
+                buf.len(),
+                pattern.as_ptr(),
+                pattern.len(),
+                hits.as_mut_ptr(),
+                hits.len(),
+                value.pointer(),
+            )
+        };
+        (number, value.number(UNWRITTEN))
     }
 }

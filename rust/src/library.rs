@@ -1,4 +1,4 @@
-//! The seven operations as the archive offers them, behind a trait, and the reference's own copy of them.
+//! The ten operations as the archive offers them, behind a trait, and the reference's own copy of them.
 //!
 //! Each answers its number (0 for accepted), its value and the plain numbers it writes;
 //! these numbers come in as they stood before the call, so that a refusal can be seen to leave them.
@@ -41,6 +41,41 @@ pub trait Library {
         n: u32,
         h: u32,
     ) -> (u32, u64, u32, u32);
+
+    #[allow(clippy::too_many_arguments)]
+    fn make_directory(
+        &self,
+        table: &Head,
+        places: &[u8; 256],
+        n: u32,
+        h: u32,
+        buf: &[u8],
+        directory: &mut [u32],
+    ) -> (u32, u64);
+
+    #[allow(clippy::too_many_arguments)]
+    fn read_one(
+        &self,
+        table: &Head,
+        places: &[u8; 256],
+        n: u32,
+        h: u32,
+        buf: &[u8],
+        directory: &[u32],
+        place: usize,
+    ) -> (u32, u64);
+
+    #[allow(clippy::too_many_arguments)]
+    fn search(
+        &self,
+        table: &Head,
+        places: &[u8; 256],
+        n: u32,
+        h: u32,
+        buf: &[u8],
+        pattern: &[u8],
+        hits: &mut [u32],
+    ) -> (u32, u64);
 }
 
 /// A table without its places, which are lent.
@@ -128,5 +163,46 @@ impl Library for Reference {
             return (number, value, n, h);
         }
         (number, value, roll.n, roll.h)
+    }
+
+    fn make_directory(
+        &self,
+        table: &Head,
+        places: &[u8; 256],
+        n: u32,
+        h: u32,
+        buf: &[u8],
+        directory: &mut [u32],
+    ) -> (u32, u64) {
+        let roll = Roll { table: table_of(table, places), n, h };
+        pair(reference::make_directory(&roll, buf, directory).map(|()| 0))
+    }
+
+    fn read_one(
+        &self,
+        table: &Head,
+        places: &[u8; 256],
+        n: u32,
+        h: u32,
+        buf: &[u8],
+        directory: &[u32],
+        place: usize,
+    ) -> (u32, u64) {
+        let roll = Roll { table: table_of(table, places), n, h };
+        pair(reference::read_one(&roll, buf, directory, place).map(u64::from))
+    }
+
+    fn search(
+        &self,
+        table: &Head,
+        places: &[u8; 256],
+        n: u32,
+        h: u32,
+        buf: &[u8],
+        pattern: &[u8],
+        hits: &mut [u32],
+    ) -> (u32, u64) {
+        let roll = Roll { table: table_of(table, places), n, h };
+        pair(reference::search(&roll, buf, pattern, hits).map(u64::from))
     }
 }

@@ -3,7 +3,7 @@
 use mathlib.Core.Path.{_≡_, refl, sym, ap, _∙_}
 use mathlib.Core.List.{List, [], append-nil}
 use Prim.Native.Nat.{ℕ}
-use Rattle.ground.specs.Refusals.{Row, accepted, refused, judged}
+use Rattle.ground.specs.Refusals.{Row, Outcome, accepted, refused, judged}
 use Rattle.ground.specs.Answers.{doneSays}
 use Rattle.ground.specs.Laws.Refusals.{refused-front, accepted-front}
 use Rattle.ground.specs.declared.answers.Done.{Done}
@@ -35,3 +35,6 @@ pub told-done : (rows : List Row) (a : Done) (answer : ℕ) {number value : ℕ}
     → Told rows answer number value
 told-done rows Yes answer e p q = rw p (told-yes rows answer (sym e) q)
 told-done rows (Refused n v) answer e p q = rw (p, q) (told-no rows answer (sym e))
+
+pub told-says : (rows : List Row) (answer : ℕ) (a : Outcome ℕ) {number value : ℕ} → a ≡ judged rows answer → number ≡ numberOf a → value ≡ valueOf a → Told rows answer number value
+told-says rows answer a e p q = record { number-is = p ∙ ap numberOf e; value-is = q ∙ ap valueOf e }

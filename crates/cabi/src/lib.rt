@@ -5,9 +5,10 @@
 // pointer to 256 places; a roll is a table with n and h.
 mod taken;
 
-use ground::answers::Answer;
 use ground::answers::Done;
+use ground::answers::Total;
 use stopper::codeword_of::Codeword;
+use taken::read;
 use taken::roll_of;
 use taken::table_of;
 use taken::told;
@@ -23,7 +24,11 @@ ghost use Prim.Native.Nat.{_-_};
 ghost use lib.ListN.{drop};
 ghost use Rattle.symbols.specs.Runs.{run};
 ghost use Rattle.roll.specs.Roll.{textOf, symbolsFor, recordOf, packedInto};
-ghost use Rattle.roll.specs.Operations.{checkRows, unpackRows, packRows};
+ghost use lib.ListN.{getD};
+ghost use Rattle.roll.specs.Codewords.{oneRank};
+ghost use Rattle.roll.specs.Directory.{entries, directoryOf, lengthsOf};
+ghost use Rattle.roll.specs.Hits.{hits, listed};
+ghost use Rattle.roll.specs.Operations.{checkRows, unpackRows, packRows, makeRows, readRows, oneRead, searchRows};
 ghost use Rattle.cabi.specs.Taken.{Told, tableAt, rollAt, wordAt};
 
 #[no_mangle]
@@ -118,16 +123,7 @@ pub extern "C" fn monterculo_character_of(
     let table = table_of(k, s, sigma, places);
     let symbols = *word;
     let answer = stopper::character_of::character_of(table, Codeword { length, symbols });
-    match answer {
-        Answer::Read(character) => {
-            *value = character as u64;
-            0
-        }
-        Answer::Refused(number, refused) => {
-            *value = refused;
-            number as u32
-        }
-    }
+    read(answer, value)
 }
 
 #[no_mangle]
@@ -200,6 +196,78 @@ pub extern "C" fn monterculo_pack(
             0
         }
         Done::Refused(number, refused) => {
+            *value = refused;
+            number as u32
+        }
+    }
+}
+
+#[no_mangle]
+pub extern "C" fn monterculo_make_directory(
+    k: u8,
+    s: u8,
+    sigma: u16,
+    places: &[u8; 256],
+    n: u32,
+    h: u32,
+    buf: &[u8],
+    dir: &mut [u32],
+    value: &mut u64,
+) -> u32
+    ensures told { λ r. ⌜ Told (makeRows (rollAt k s sigma (now (places .entry)) n h) (now (buf .entry)) (now (dir .entry))) 0 r (now (value .exit)) ⌝ }
+    ensures dir { λ _. ⌜ now (dir .exit) ≡ kept (makeRows (rollAt k s sigma (now (places .entry)) n h) (now (buf .entry)) (now (dir .entry))) (now (dir .entry)) (directoryOf (lengthsOf (rollAt k s sigma (now (places .entry)) n h) (now (buf .entry))) ++ drop (entries n) (now (dir .entry))) ⌝ }
+{
+    let roll = roll_of(k, s, sigma, places, n, h);
+    let answer = roll::make_directory::make_directory(roll, buf, dir);
+    told(answer, 0, value)
+}
+
+// `value` takes the character.
+#[no_mangle]
+pub extern "C" fn monterculo_read_one(
+    k: u8,
+    s: u8,
+    sigma: u16,
+    places: &[u8; 256],
+    n: u32,
+    h: u32,
+    buf: &[u8],
+    dir: &[u32],
+    place: usize,
+    value: &mut u64,
+) -> u32
+    ensures { λ r. ⌜ Told (readRows (rollAt k s sigma (now (places .entry)) n h) (now (buf .entry)) (now (dir .entry)) place) (getD (now (places .entry)) (oneRank (oneRead (rollAt k s sigma (now (places .entry)) n h) (now (buf .entry)) (now (dir .entry)) place)) 0) r (now (value .exit)) ⌝ }
+{
+    let roll = roll_of(k, s, sigma, places, n, h);
+    let answer = roll::read_one::read_one(roll, buf, dir, place);
+    read(answer, value)
+}
+
+// `value` takes the total.
+#[no_mangle]
+pub extern "C" fn monterculo_search(
+    k: u8,
+    s: u8,
+    sigma: u16,
+    places: &[u8; 256],
+    n: u32,
+    h: u32,
+    buf: &[u8],
+    pattern: &[u8],
+    slice: &mut [u32],
+    value: &mut u64,
+) -> u32
+    ensures told { λ r. ⌜ Told (searchRows (rollAt k s sigma (now (places .entry)) n h) (now (buf .entry)) (now (pattern .entry))) (length (hits (now (pattern .entry)) (textOf (rollAt k s sigma (now (places .entry)) n h) (now (buf .entry))))) r (now (value .exit)) ⌝ }
+    ensures slice { λ _. ⌜ now (slice .exit) ≡ kept (searchRows (rollAt k s sigma (now (places .entry)) n h) (now (buf .entry)) (now (pattern .entry))) (now (slice .entry)) (listed (hits (now (pattern .entry)) (textOf (rollAt k s sigma (now (places .entry)) n h) (now (buf .entry)))) (now (slice .entry))) ⌝ }
+{
+    let roll = roll_of(k, s, sigma, places, n, h);
+    let answer = roll::search::search(roll, buf, pattern, slice);
+    match answer {
+        Total::Of(total) => {
+            *value = total as u64;
+            0
+        }
+        Total::Refused(number, refused) => {
             *value = refused;
             number as u32
         }

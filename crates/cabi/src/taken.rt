@@ -1,10 +1,12 @@
 // Arguments taken together, and answers taken apart.
+use ground::answers::Answer;
 use ground::answers::Done;
 use roll::roll::Roll;
 use stopper::code::Code;
 use stopper::table::Table;
 ghost use mathlib.Core.Path.{_≡_};
-ghost use Rattle.cabi.specs.Taken.{doneNumber, doneValue, tableAt, rollAt};
+ghost use Rattle.ground.specs.Answers.{answerSays};
+ghost use Rattle.cabi.specs.Taken.{numberOf, valueOf, doneNumber, doneValue, tableAt, rollAt};
 
 pub fn table_of(k: u8, s: u8, sigma: u16, places: &[u8; 256]) -> Table
     ensures { λ r. ⌜ r ≡ tableAt k s sigma (now (places .entry)) ⌝ }
@@ -35,6 +37,23 @@ pub fn told(answer: Done, answered: u64, value: &mut u64) -> u32
             0
         }
         Done::Refused(number, refused) => {
+            *value = refused;
+            number as u32
+        }
+    }
+}
+
+// The same of a character.
+pub fn read(answer: Answer, value: &mut u64) -> u32
+    ensures number { λ r. ⌜ r ≡ numberOf (answerSays answer) ⌝ }
+    ensures value { λ _. ⌜ now (value .exit) ≡ valueOf (answerSays answer) ⌝ }
+{
+    match answer {
+        Answer::Read(character) => {
+            *value = character as u64;
+            0
+        }
+        Answer::Refused(number, refused) => {
             *value = refused;
             number as u32
         }

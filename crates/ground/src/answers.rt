@@ -11,3 +11,9 @@ pub enum Answer {
     Read(u8),
     Refused(u8, u64),
 }
+
+// How many there are in all, or refused.
+pub enum Total {
+    Of(u32),
+    Refused(u8, u64),
+}

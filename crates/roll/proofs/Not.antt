@@ -4,19 +4,25 @@ use mathlib.Core.Path.{_≡_, sym, ap, _∙_}
 use mathlib.Core.List.{List, [], _∷_}
 use Prim.Native.Nat.{ℕ}
 use native.Mathlib.Omega.{arith}
-use lib.ListN.{getD}
+use lib.ListN.{getD, replicate}
 use Rattle.ground.specs.Limit.{limit}
 use Rattle.ground.specs.Refusals.{Outcome, accepted, refused}
 use Rattle.ground.specs.Answers.{doneSays}
 use Rattle.ground.specs.Rows.{tab, zeros, padded}
 use Rattle.ground.specs.declared.answers.Done.{Done}
+use Rattle.ground.specs.declared.answers.Total.{Total}
+use Rattle.ground.specs.declared.answers.Total.the-variants.{Of}
 use Rattle.ground.specs.declared.answers.Done.the-variants.{Yes, Refused}
+use Rattle.ground.specs.declared.answers.Answer.the-variants.{Read}
 use Rattle.stopper.specs.Code.{codeword, place, first, shorter, opens, spell, rankAt}
 use Rattle.stopper.specs.Table.{stoppers, goodWidth, goodCode, goodCharacters, goodTable, has, repeats, rankIn, lengthOf}
-use Rattle.stopper.specs.Reading.{read, readFrom, ahead, write}
+use Rattle.stopper.specs.Reading.{read, readFrom, ahead, write, firstFrom, firstWord}
 use Rattle.symbols.specs.Symbols.{per, bytesFor, room, shift, symbolAt, symbolsOf, number, byteAt, bytesOf}
 use Rattle.roll.specs.Roll.{firstForeign, firstOver, textRow, reading, isBad, firstBad, ranksRead, textOf, allZero}
-use Rattle.roll.specs.Operations.{Packing, Checking, Unpacking}
+use Rattle.roll.specs.Codewords.{foundIn, foundAt, passedFrom, oneFound, onePassed, oneFrom, oneIsLost, oneLost, oneRank}
+use Rattle.roll.specs.Directory.{entries, sum, startAt, directoryOf, lengthsOf}
+use Rattle.roll.specs.Hits.{stands, hitsFrom, hits, goodPattern}
+use Rattle.roll.specs.Operations.{Searching, Packing, Checking, Unpacking, Making, ReadingOne}
 use Rattle.roll.specs.Worked.{abra, packedAbra}
 use Rattle.roll.specs.declared.roll.Roll.{Roll}
 use Rattle.roll.specs.declared.pack.Packed.{Packed}
@@ -57,3 +63,45 @@ check-not-refusing p = apart (sym (p .says))
 pub unpack-not-idle : {answer : Done} → Unpacking (record { table = abra; n = 11; h = 13 }) packedAbra 0 1 (9 ∷ []) answer (9 ∷ []) → ⊥
 unfolding abra packedAbra limit tab zeros padded shorter opens rankAt stoppers goodWidth goodCode goodCharacters goodTable has repeats read readFrom ahead per bytesFor room shift symbolAt symbolsOf reading isBad firstBad ranksRead textOf allZero
 unpack-not-idle p = let e = first-of (p .leaves) in omega arith
+
+-- c and 32 times a, packed: c has two symbols, so character 32 starts at symbol 33
+abbrev longer : Roll
+longer = record { table = abra; n = 33; h = 34 }
+
+abbrev packedLonger : List ℕ
+packedLonger = 192 ∷ replicate 8 0
+
+-- a directory that counts in characters
+pub make-directory-not-characters : {answer : Done} → Making longer packedLonger (9 ∷ 9 ∷ []) answer (0 ∷ 32 ∷ []) → ⊥
+unfolding abra limit tab zeros padded codeword place first shorter opens spell rankAt stoppers goodWidth goodCode goodCharacters goodTable has repeats lengthOf read readFrom ahead per bytesFor room shift symbolAt symbolsOf reading isBad firstBad ranksRead allZero entries sum startAt directoryOf lengthsOf
+make-directory-not-characters p = let e = ap (λ (l : List ℕ). getD l 1 0) (p .leaves) in omega arith
+
+-- going by the entry before: character 32 is a, and c stands at symbol 0
+pub read-one-not-early : ReadingOne longer packedLonger (0 ∷ 33 ∷ []) 32 (Read 99) → ⊥
+unfolding abra limit tab zeros padded shorter opens rankAt stoppers goodWidth goodCode goodCharacters goodTable has repeats firstFrom firstWord per room shift symbolAt symbolsOf foundIn foundAt passedFrom oneFound onePassed oneFrom oneIsLost oneLost oneRank
+read-one-not-early p = let e : _≡_ {A = ℕ} 99 97 = cc (p .says) in omega arith
+
+-- ---- search: abracadabra for b, which stands at characters 1 and 8
+
+total-of : {x y : ℕ} → _≡_ {A = Outcome ℕ} (accepted x) (accepted y) → x ≡ y
+total-of e = cc
+
+-- a search that always answers no hits
+pub search-not-empty : {after : List ℕ} → Searching (record { table = abra; n = 11; h = 13 }) packedAbra (98 ∷ []) [] (Of 0) after → ⊥
+unfolding abra packedAbra limit tab zeros padded shorter opens rankAt stoppers goodWidth goodCode goodCharacters goodTable has repeats read readFrom ahead per bytesFor room shift symbolAt symbolsOf reading isBad firstBad ranksRead textOf allZero stands hitsFrom hits goodPattern
+search-not-empty p = let e = total-of (p .says) in omega arith
+
+-- any match of symbols taken as a hit: symbol 8 is the third
+pub search-not-symbols : {after : List ℕ} → Searching (record { table = abra; n = 11; h = 13 }) packedAbra (98 ∷ []) [] (Of 3) after → ⊥
+unfolding abra packedAbra limit tab zeros padded shorter opens rankAt stoppers goodWidth goodCode goodCharacters goodTable has repeats read readFrom ahead per bytesFor room shift symbolAt symbolsOf reading isBad firstBad ranksRead textOf allZero stands hitsFrom hits goodPattern
+search-not-symbols p = let e = total-of (p .says) in omega arith
+
+-- a list that starts with the last hit
+pub search-not-last : {answer : Total} → Searching (record { table = abra; n = 11; h = 13 }) packedAbra (98 ∷ []) (9 ∷ []) answer (8 ∷ []) → ⊥
+unfolding abra packedAbra limit tab zeros padded shorter opens rankAt stoppers goodWidth goodCode goodCharacters goodTable has repeats read readFrom ahead per bytesFor room shift symbolAt symbolsOf reading isBad firstBad ranksRead textOf allZero stands hitsFrom hits goodPattern
+search-not-last p = let e = first-of (p .leaves) in omega arith
+
+-- going on one pattern length after a hit: abababa has aba three times, and not two
+pub search-not-skipping : {after : List ℕ} → Searching (record { table = abra; n = 7; h = 7 }) (17 ∷ 16 ∷ []) (97 ∷ 98 ∷ 97 ∷ []) [] (Of 2) after → ⊥
+unfolding abra packedAbra limit tab zeros padded shorter opens rankAt stoppers goodWidth goodCode goodCharacters goodTable has repeats read readFrom ahead per bytesFor room shift symbolAt symbolsOf reading isBad firstBad ranksRead textOf allZero stands hitsFrom hits goodPattern
+search-not-skipping p = let e = total-of (p .says) in omega arith

@@ -1,5 +1,6 @@
 -- Codewords where they lie: what the functions of reading.rt answer.
 -- Assumes nothing.
+use mathlib.Core.Bool.{Bool, true, false}
 use mathlib.Core.List.{List}
 use Prim.Native.Nat.{ℕ, zero, suc, _+_, _≤_}
 use lib.Dec.{T}
@@ -43,3 +44,31 @@ passStep later p Bad = passed-bad p
 unfoldable pub passedFrom : Code → ℕ → List ℕ → ℕ → ℕ → Passed
 passedFrom c σ row p zero = At p
 passedFrom c σ row p (suc count) = passStep (λ next. passedFrom c σ row next count) p (foundAt c σ row p)
+
+-- the codeword behind `count` others from symbol p on: its rank, or the first symbol of the first bad one
+pub data One : Type 0 where
+  one : ℕ → One
+  lost : ℕ → One
+
+unfoldable pub oneFound : ℕ → Found → One
+oneFound p (Word rank next) = one rank
+oneFound p Bad = lost p
+
+unfoldable pub onePassed : (ℕ → Found) → Passed → One
+onePassed found (At p) = oneFound p (found p)
+onePassed found (passed-bad p) = lost p
+
+unfoldable pub oneFrom : Code → ℕ → List ℕ → ℕ → ℕ → One
+oneFrom c σ row p count = onePassed (foundAt c σ row) (passedFrom c σ row p count)
+
+unfoldable pub oneIsLost : One → Bool
+oneIsLost (one rank) = false
+oneIsLost (lost p) = true
+
+unfoldable pub oneLost : One → ℕ
+oneLost (one rank) = 0
+oneLost (lost p) = p
+
+unfoldable pub oneRank : One → ℕ
+oneRank (one rank) = rank
+oneRank (lost p) = 0

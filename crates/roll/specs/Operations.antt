@@ -3,18 +3,23 @@
 use mathlib.Core.Path.{_≡_}
 use mathlib.Core.Bool.{Bool, false, not, _||_}
 use mathlib.Core.List.{List, [], _∷_, _++_}
-use Prim.Native.Nat.{ℕ, _-_, _*_, _≤_}
-use lib.Dec.{T, ltb, eqb}
-use lib.ListN.{length, drop}
+use Prim.Native.Nat.{ℕ, _-_, _*_, _/_, _%_, _≤_}
+use lib.Dec.{T, ltb, leb, eqb}
+use lib.ListN.{length, drop, getD}
 use Rattle.ground.specs.Refusals.{Row, Outcome, refuse, judged, kept}
-use Rattle.ground.specs.Answers.{doneSays}
+use Rattle.ground.specs.Answers.{doneSays, answerSays, totalSays}
 use Rattle.ground.specs.declared.answers.Done.{Done}
 use Rattle.ground.specs.declared.answers.Done.the-variants.{Refused}
+use Rattle.ground.specs.declared.answers.Answer.{Answer}
+use Rattle.ground.specs.declared.answers.Total.{Total}
 use Rattle.stopper.specs.Table.{goodTable, characters}
 use Rattle.symbols.specs.Symbols.{room}
 use Rattle.symbols.specs.Runs.{run}
 use Rattle.stopper.specs.declared.table.Table.{Table}
-use Rattle.roll.specs.Roll.{firstForeign, firstOver, symbolsFor, recordOf, packedInto, reading, isBad, firstBad, ranksRead, textOf, allZero, unusedOf}
+use Rattle.roll.specs.Roll.{firstForeign, firstOver, symbolsFor, recordOf, packedInto, rowUpto, reading, isBad, firstBad, ranksRead, textOf, allZero, unusedOf}
+use Rattle.roll.specs.Codewords.{One, oneFrom, oneIsLost, oneLost, oneRank}
+use Rattle.roll.specs.Directory.{entries, directoryOf, lengthsOf}
+use Rattle.roll.specs.Hits.{hits, goodPattern, listed}
 use Rattle.roll.specs.declared.roll.Roll.{Roll}
 use Rattle.roll.specs.declared.pack.Packed.{Packed}
 
@@ -76,3 +81,39 @@ unpackRows r buf start end out =
 pub record Unpacking (r : Roll) (buf : List ℕ) (start end : ℕ) (out : List ℕ) (answer : Done) (after : List ℕ) : Type 0 where
   pub says : doneSays answer ≡ judged (unpackRows r buf start end out) tt
   pub leaves : after ≡ kept (unpackRows r buf start end out) out (run (textOf r buf) start end ++ drop (end - start) out)
+
+-- ---- make a directory: check's, 12
+
+abbrev pub makeRows : Roll → List ℕ → List ℕ → List Row
+makeRows r buf dir = checkRows r buf ++ (refuse 12 (entries (r .n)) (ltb (length dir) (entries (r .n))) ∷ [])
+
+pub record Making (r : Roll) (buf dir : List ℕ) (answer : Done) (after : List ℕ) : Type 0 where
+  pub says : doneSays answer ≡ judged (makeRows r buf dir) tt
+  pub leaves : after ≡ kept (makeRows r buf dir) dir (directoryOf (lengthsOf r buf) ++ drop (entries (r .n)) dir)
+
+-- ---- read one: 1, 5, 10, 9, 6
+
+-- the codeword read for a place: from the entry on, behind place mod 32 others
+abbrev pub oneRead : Roll → List ℕ → List ℕ → ℕ → One
+oneRead r buf dir place = oneFrom (r .table .code) (r .table .sigma) (rowUpto (r .table .code) (r .h) buf) (getD dir (place / 32) 0) (place % 32)
+
+abbrev pub readRows : Roll → List ℕ → List ℕ → ℕ → List Row
+readRows r buf dir place =
+    refuse 1 0 (not (goodTable (r .table)))
+    ∷ refuse 5 (r .h) (ltb (room (r .table .code .k) (length buf)) (r .h))
+    ∷ refuse 10 0 (leb (r .n) place)
+    ∷ refuse 9 (place / 32) (leb (length dir) (place / 32) || leb (r .h) (getD dir (place / 32) 0))
+    ∷ refuse 6 (oneLost (oneRead r buf dir place)) (oneIsLost (oneRead r buf dir place))
+    ∷ []
+
+pub record ReadingOne (r : Roll) (buf dir : List ℕ) (place : ℕ) (answer : Answer) : Type 0 where
+  pub says : answerSays answer ≡ judged (readRows r buf dir place) (getD (r .table .places) (oneRank (oneRead r buf dir place)) 0)
+
+-- ---- search: check's, 11
+
+abbrev pub searchRows : Roll → List ℕ → List ℕ → List Row
+searchRows r buf pattern = checkRows r buf ++ (refuse 11 0 (not (goodPattern pattern)) ∷ [])
+
+pub record Searching (r : Roll) (buf pattern slice : List ℕ) (answer : Total) (after : List ℕ) : Type 0 where
+  pub says : totalSays answer ≡ judged (searchRows r buf pattern) (length (hits pattern (textOf r buf)))
+  pub leaves : after ≡ kept (searchRows r buf pattern) slice (listed (hits pattern (textOf r buf)) slice)

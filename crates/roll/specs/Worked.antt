@@ -1,10 +1,10 @@
 -- Worked on paper: rows of one table under one claim, which the check computes over the definitions that the promises cite.
 -- Assumes nothing.
 use Prim.Native.Nat.{ℕ, _-_, _^_}
-use mathlib.Core.Bool.{Bool, true, false, _&&_}
-use mathlib.Core.List.{List, [], _∷_, _++_}
+use mathlib.Core.Bool.{Bool, true, false, not, _&&_}
+use mathlib.Core.List.{List, [], _∷_, _++_, map}
 use lib.Dec.{T, eqb}
-use lib.ListN.{replicate, drop}
+use lib.ListN.{length, replicate, drop}
 use Rattle.ground.specs.Limit.{limit}
 use Rattle.ground.specs.Refusals.{Outcome, accepted, refused, judged, kept}
 use Rattle.ground.specs.Rows.{tab, zeros, padded}
@@ -16,8 +16,10 @@ use Rattle.stopper.specs.Choosing.{occurs, countsOf, counted, totalFrom, total,
 use Rattle.symbols.specs.Symbols.{per, bytesFor, room, shift, symbolAt, symbolsOf, number, byteAt, bytesOf}
 use Rattle.stopper.specs.declared.table.Table.{Table}
 use Rattle.roll.specs.Roll.{firstForeign, firstOver, textRow, symbolsFor, recordOf, packedInto, reading, isBad, firstBad, ranksRead, textOf, allZero}
-use Rattle.roll.specs.Operations.{packRows, unpacked, checkRows, unpackRows}
+use Rattle.roll.specs.Operations.{packRows, unpacked, checkRows, unpackRows, searchRows}
 use Rattle.symbols.specs.Runs.{run}
+use Rattle.roll.specs.Directory.{sum, startAt, lengthsOf}
+use Rattle.roll.specs.Hits.{stands, hitsFrom, hits, goodPattern, listed}
 use Rattle.roll.specs.declared.roll.Roll.{Roll}
 
 -- ---- whether two are the same
@@ -40,6 +42,12 @@ sameOutcome (accepted x) (refused n v) = false
 sameOutcome (refused n v) (accepted x) = false
 sameOutcome (refused n v) (refused n′ v′) = eqb n n′ && eqb v v′
 
+sameTotal : Outcome ℕ → Outcome ℕ → Bool
+sameTotal (accepted x) (accepted y) = eqb x y
+sameTotal (accepted x) (refused n v) = false
+sameTotal (refused n v) (accepted x) = false
+sameTotal (refused n v) (refused n′ v′) = eqb n n′ && eqb v v′
+
 -- ---- the rows
 
 data Row : Type 0 where
@@ -55,6 +63,10 @@ data Row : Type 0 where
   checks : Roll → List ℕ → Outcome (Unit {0}) → Row
   -- roll, buffer, start, end, output: the outcome, the output afterwards
   unpacks : Roll → List ℕ → ℕ → ℕ → List ℕ → Outcome (Unit {0}) → List ℕ → Row
+  -- roll, buffer, pattern, hit list: the outcome with the total, the hit list afterwards
+  finds : Roll → List ℕ → List ℕ → List ℕ → Outcome ℕ → List ℕ → Row
+  -- roll, buffer, pattern, symbol: the pattern's symbols stand there, and no hit starts there
+  inside : Roll → List ℕ → List ℕ → ℕ → Row
 
 right : Row → Bool
 right (word k s r w) = same (wordOf (record { k = k; s = s }) r) w && eqb (rankOf (2 ^ k) (stoppers (record { k = k; s = s })) w) r
@@ -72,6 +84,13 @@ right (checks r buf o) = sameOutcome (judged (checkRows r buf) tt) o
 right (unpacks r buf start end out o after) =
     let rows = unpackRows r buf start end out in
     sameOutcome (judged rows tt) o && same (kept rows out (run (textOf r buf) start end ++ drop (end - start) out)) after
+right (finds r buf pattern slice o after) =
+    let rows = searchRows r buf pattern in
+    let found = hits pattern (textOf r buf) in
+    sameTotal (judged rows (length found)) o && same (kept rows slice (listed found slice)) after
+right (inside r buf pattern q) =
+    stands (symbolsFor (r .table) pattern) (drop q (symbolsOf (r .table .code .k) buf))
+    && not (has q (map (startAt (lengthsOf r buf)) (hits pattern (textOf r buf))))
 
 every : List Row → Bool
 every [] = true
@@ -109,9 +128,15 @@ rows =
     (0 ∷ 1 ∷ 2 ∷ 0 ∷ 3 ∷ 0 ∷ 0 ∷ 3 ∷ 1 ∷ 0 ∷ 1 ∷ 2 ∷ 0 ∷ []) (packedAbra ++ 9 ∷ [])
     ∷ checks (record { table = abra; n = 11; h = 13 }) packedAbra yes
     ∷ unpacks (record { table = abra; n = 11; h = 13 }) packedAbra 0 11 (replicate 12 9) yes (abracadabra ++ 9 ∷ [])
-    -- P5: symbols and bytes
+    -- P3: b, and the symbol that equals its codeword and is no hit
+    ∷ finds (record { table = abra; n = 11; h = 13 }) packedAbra (98 ∷ []) (9 ∷ 9 ∷ 9 ∷ []) (accepted 2) (1 ∷ 8 ∷ 9 ∷ [])
+    ∷ inside (record { table = abra; n = 11; h = 13 }) packedAbra (98 ∷ []) 8
+    -- P4: a
+    ∷ finds (record { table = abra; n = 11; h = 13 }) packedAbra (97 ∷ []) (replicate 6 9) (accepted 5) (0 ∷ 3 ∷ 5 ∷ 7 ∷ 10 ∷ 9 ∷ [])
+    -- P5: symbols and bytes; ana, overlapping
     ∷ choice 4 banana bananas 6
     ∷ packs bananas banana (9 ∷ 9 ∷ 9 ∷ []) yes (record { table = bananas; n = 6; h = 6 }) (2 ∷ 0 ∷ 1 ∷ 0 ∷ 1 ∷ 0 ∷ []) (32 ∷ 16 ∷ 16 ∷ [])
+    ∷ finds (record { table = bananas; n = 6; h = 6 }) (32 ∷ 16 ∷ 16 ∷ []) (97 ∷ 110 ∷ 97 ∷ []) (9 ∷ 9 ∷ 9 ∷ []) (accepted 2) (1 ∷ 3 ∷ 9 ∷ [])
     -- P6
     ∷ word 4 14 13 (13 ∷ [])
     ∷ word 4 14 14 (14 ∷ 0 ∷ [])
@@ -132,5 +157,5 @@ rows =
     ∷ []
 
 worked : T (every rows)
-unfolding every rows right same sameTable sameRoll sameOutcome yes abracadabra abra packedAbra banana bananas limit tab zeros padded codeword place first shorter opens spell rankOf rankFrom rankAt stoppers goodWidth goodCode goodCharacters goodTable has repeats rankIn lengthOf read readFrom ahead write key insert rankedFrom ranked occurs countsOf counted totalFrom total least chosen chosenTable per bytesFor room shift symbolAt symbolsOf number byteAt bytesOf firstForeign firstOver textRow reading isBad firstBad ranksRead textOf allZero
+unfolding every rows right same sameTable sameRoll sameOutcome sameTotal yes abracadabra abra packedAbra banana bananas limit tab zeros padded codeword place first shorter opens spell rankOf rankFrom rankAt stoppers goodWidth goodCode goodCharacters goodTable has repeats rankIn lengthOf read readFrom ahead write key insert rankedFrom ranked occurs countsOf counted totalFrom total least chosen chosenTable per bytesFor room shift symbolAt symbolsOf number byteAt bytesOf firstForeign firstOver textRow reading isBad firstBad ranksRead textOf allZero sum startAt lengthsOf stands hitsFrom hits goodPattern
 worked = tt

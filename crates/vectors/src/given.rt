@@ -104,6 +104,25 @@ pub fn bytes(s: &[u8], at: usize, row: &mut [u8]) -> Value
     Value { value, next }
 }
 
+// A row of numbers, how many and then each; how many there was room for.
+pub fn numbers(s: &[u8], at: usize, row: &mut [u32]) -> Value
+    ensures { λ r. ⌜ Counts (r .value) (now (row .exit)) ⌝ }
+{
+    let count = number(s, at);
+    let mut next = count.next;
+    let mut i: usize = 0;
+    while i < row.len() {
+        if count.value <= i {
+            break;
+        }
+        let one = number(s, next);
+        row[i] = (one.value % 4294967296) as u32;
+        next = one.next;
+        i += 1;
+    }
+    Value { value: i, next }
+}
+
 pub fn table_at(s: &[u8], at: usize) -> TableAt {
     let k = number(s, at);
     let stoppers = number(s, k.next);

@@ -8,17 +8,23 @@ mod printed;
 
 use given::bytes;
 use given::number;
+use given::numbers;
 use given::roll_at;
 use given::table_at;
+use ground::answers::Answer;
+use ground::answers::Total;
 use printed::done;
 use printed::end;
+use printed::list;
+use printed::number_out;
+use printed::refused;
 use printed::roll_out;
 use printed::runs;
 use roll::roll::Roll;
 use stopper::table::Table;
 
 fn main() {
-    let mut input = [0u8; 65536];
+    let mut input = [0u8; 262144];
     let n = io::read_full(0, &mut input);
     cases(&input[..n]);
 }
@@ -41,6 +47,9 @@ fn one_case(s: &[u8], at: usize) -> usize {
         1 => check_case(s, op.next),
         2 => unpack_case(s, op.next),
         3 => pack_case(s, op.next),
+        4 => directory_case(s, op.next),
+        5 => read_case(s, op.next),
+        6 => search_case(s, op.next),
         _ => s.len(),
     }
 }
@@ -103,5 +112,89 @@ fn packed(table: Table, text: &[u8], buf: &mut [u8]) {
     done(answer);
     roll_out(roll);
     runs(buf);
+    end();
+}
+
+// A roll, a buffer, the directory as it was.
+fn directory_case(s: &[u8], at: usize) -> usize {
+    let given = roll_at(s, at);
+    let mut space = [0u8; 32800];
+    let buf = bytes(s, given.next, &mut space);
+    let n = buf.value;
+    let mut entries = [0u32; 2100];
+    let dir = numbers(s, buf.next, &mut entries);
+    let m = dir.value;
+    let roll = given.roll;
+    directory(roll, &space[..n], &mut entries[..m]);
+    dir.next
+}
+
+fn directory(roll: Roll, buf: &[u8], dir: &mut [u32]) {
+    io::write_all(1, b"directory");
+    done(roll::make_directory::make_directory(roll, buf, dir));
+    list(dir);
+    end();
+}
+
+// A roll, a buffer, a directory, a place.
+fn read_case(s: &[u8], at: usize) -> usize {
+    let given = roll_at(s, at);
+    let mut space = [0u8; 32800];
+    let buf = bytes(s, given.next, &mut space);
+    let n = buf.value;
+    let mut entries = [0u32; 2100];
+    let dir = numbers(s, buf.next, &mut entries);
+    let m = dir.value;
+    let place = number(s, dir.next);
+    let roll = given.roll;
+    read(roll, &space[..n], &entries[..m], place.value);
+    place.next
+}
+
+fn read(roll: Roll, buf: &[u8], dir: &[u32], place: usize) {
+    io::write_all(1, b"read");
+    let answer = roll::read_one::read_one(roll, buf, dir, place);
+    match answer {
+        Answer::Read(character) => {
+            io::write_all(1, b" ");
+            number_out(character as usize);
+        }
+        Answer::Refused(number, value) => {
+            refused(number, value);
+        }
+    }
+    end();
+}
+
+// A roll, a buffer, a pattern, the hit list as it was.
+fn search_case(s: &[u8], at: usize) -> usize {
+    let given = roll_at(s, at);
+    let mut space = [0u8; 32800];
+    let buf = bytes(s, given.next, &mut space);
+    let n = buf.value;
+    let mut letters = [0u8; 128];
+    let pattern = bytes(s, buf.next, &mut letters);
+    let p = pattern.value;
+    let mut places = [0u32; 2100];
+    let hits = numbers(s, pattern.next, &mut places);
+    let m = hits.value;
+    let roll = given.roll;
+    searched(roll, &space[..n], &letters[..p], &mut places[..m]);
+    hits.next
+}
+
+fn searched(roll: Roll, buf: &[u8], pattern: &[u8], slice: &mut [u32]) {
+    io::write_all(1, b"search");
+    let answer = roll::search::search(roll, buf, pattern, slice);
+    match answer {
+        Total::Of(total) => {
+            io::write_all(1, b" ");
+            number_out(total as usize);
+        }
+        Total::Refused(number, value) => {
+            refused(number, value);
+        }
+    }
+    list(slice);
     end();
 }

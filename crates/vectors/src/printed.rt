@@ -65,6 +65,21 @@ pub fn runs(row: &[u8]) {
     }
 }
 
+fn wide_number(x: u32) -> usize {
+    x as usize
+}
+
+// A row of numbers.
+pub fn list(row: &[u32]) {
+    io::write_all(1, b" |");
+    let mut i: usize = 0;
+    while i < row.len() {
+        io::write_all(1, b" ");
+        number_out(wide_number(row[i]));
+        i += 1;
+    }
+}
+
 fn places_out(places: [u8; 256]) {
     runs(&places);
 }

@@ -1,4 +1,4 @@
-//! Holds the archive's seven operations to the reference, call by call, from a seed.
+//! Holds the archive's ten operations to the reference, call by call, from a seed.
 //!
 //! `compare [--self] [--call NUMBER] [CALLS] [SEED]`: with --self a second copy of the reference stands in
 //! for the archive; with --call that one call of the seed is made and printed.
@@ -13,10 +13,12 @@ use std::sync::atomic::{AtomicU64, Ordering};
 use std::time::Duration;
 
 use monterculo_reference::library::{Head, Library, Reference};
-use monterculo_reference::reference::{bytes_of, codeword_by_rule, listing, symbols_of, Table, LIMIT, LONGEST};
+use monterculo_reference::reference::{
+    bytes_of, codeword_by_rule, listing, symbols_of, Table, LIMIT, LONGEST, PATTERN, STRIDE,
+};
 
 /// The numbers of each operation's order in the paper, and 0 for accepted.
-const LISTED: [(&str, &[u32]); 7] = [
+const LISTED: [(&str, &[u32]); 10] = [
     ("count", &[0, 2, 4]),
     ("choose", &[0, 1, 2]),
     ("codeword_of", &[0, 1, 3]),
@@ -24,6 +26,9 @@ const LISTED: [(&str, &[u32]); 7] = [
     ("check", &[0, 1, 5, 6, 7, 8]),
     ("unpack", &[0, 1, 5, 6, 7, 8, 10, 13]),
     ("pack", &[0, 1, 3, 4]),
+    ("make_directory", &[0, 1, 5, 6, 7, 8, 12]),
+    ("read_one", &[0, 1, 5, 6, 9, 10]),
+    ("search", &[0, 1, 5, 6, 7, 8, 11]),
 ];
 
 // The generator (splitmix64).
@@ -87,6 +92,15 @@ impl Rng {
         };
         self.below(longest + 1)
     }
+
+    /// As above, next to where a directory gains an entry, or some thousands.
+    fn border_length(&mut self) -> usize {
+        match self.below(90) {
+            0 => self.between(2_000, 6_000),
+            1..=30 => self.pick(&[1, 31, 32, 33, 63, 64, 65, 96, 97, 1_024, 1_025]),
+            _ => self.length(),
+        }
+    }
 }
 
 // One call.
@@ -100,6 +114,9 @@ enum Case {
     Check { head: Head, places: [u8; 256], n: u32, h: u32, buf: Vec<u8> },
     Unpack { head: Head, places: [u8; 256], n: u32, h: u32, buf: Vec<u8>, start: usize, end: usize, out: Vec<u8> },
     Pack { head: Head, places: [u8; 256], text: Vec<u8>, buf: Vec<u8>, n: u32, h: u32 },
+    MakeDirectory { head: Head, places: [u8; 256], n: u32, h: u32, buf: Vec<u8>, directory: Vec<u32> },
+    ReadOne { head: Head, places: [u8; 256], n: u32, h: u32, buf: Vec<u8>, directory: Vec<u32>, place: usize },
+    Search { head: Head, places: [u8; 256], n: u32, h: u32, buf: Vec<u8>, pattern: Vec<u8>, hits: Vec<u32> },
 }
 
 impl Case {
@@ -113,6 +130,9 @@ impl Case {
             Case::Check { .. } => 4,
             Case::Unpack { .. } => 5,
             Case::Pack { .. } => 6,
+            Case::MakeDirectory { .. } => 7,
+            Case::ReadOne { .. } => 8,
+            Case::Search { .. } => 9,
         }
     }
 }
@@ -183,7 +203,8 @@ struct Outcome {
     value: u64,
     /// s and sigma of choosing, n and h of packing.
     outputs: Vec<u64>,
-    counts: Vec<Lent<u32>>,
+    /// Counts, a directory or a list of hits.
+    numbers: Vec<Lent<u32>>,
     bytes: Vec<(&'static str, Lent<u8>)>,
 }
 
@@ -191,14 +212,14 @@ impl Outcome {
     fn new(
         answer: (u32, u64),
         outputs: Vec<u64>,
-        counts: Vec<Lent<u32>>,
+        numbers: Vec<Lent<u32>>,
         bytes: Vec<(&'static str, Lent<u8>)>,
     ) -> Outcome {
-        Outcome { number: answer.0, value: answer.1, outputs, counts, bytes }
+        Outcome { number: answer.0, value: answer.1, outputs, numbers, bytes }
     }
 
     fn intact(&self) -> bool {
-        self.counts.iter().all(Lent::intact) && self.bytes.iter().all(|(_, lent)| lent.intact())
+        self.numbers.iter().all(Lent::intact) && self.bytes.iter().all(|(_, lent)| lent.intact())
     }
 }
 
@@ -243,6 +264,23 @@ fn run(case: &Case, library: &dyn Library) -> Outcome {
             let bytes = vec![("places", places), ("text", text), ("buf", buf)];
             Outcome::new((number, value), outputs, vec![], bytes)
         }
+        Case::MakeDirectory { head, places, n, h, buf, directory } => {
+            let (places, buf, mut directory) = (Lent::new(places), Lent::new(buf), Lent::new(directory));
+            let answer = library.make_directory(head, array(&places), *n, *h, buf.slice(), directory.slice_mut());
+            Outcome::new(answer, vec![], vec![directory], vec![("places", places), ("buf", buf)])
+        }
+        Case::ReadOne { head, places, n, h, buf, directory, place } => {
+            let (places, buf, directory) = (Lent::new(places), Lent::new(buf), Lent::new(directory));
+            let answer = library.read_one(head, array(&places), *n, *h, buf.slice(), directory.slice(), *place);
+            Outcome::new(answer, vec![], vec![directory], vec![("places", places), ("buf", buf)])
+        }
+        Case::Search { head, places, n, h, buf, pattern, hits } => {
+            let (places, buf) = (Lent::new(places), Lent::new(buf));
+            let (pattern, mut hits) = (Lent::new(pattern), Lent::new(hits));
+            let answer = library.search(head, array(&places), *n, *h, buf.slice(), pattern.slice(), hits.slice_mut());
+            let bytes = vec![("places", places), ("buf", buf), ("pattern", pattern)];
+            Outcome::new(answer, vec![], vec![hits], bytes)
+        }
     }
 }
 
@@ -272,6 +310,18 @@ fn untouched(case: &Case, number: u32, value: u64) -> Outcome {
         #[rustfmt::skip]
         fn pack(&self, _: &Head, _: &[u8; 256], _: &[u8], _: &mut [u8], n: u32, h: u32) -> (u32, u64, u32, u32) {
             (self.0, self.1, n, h)
+        }
+        #[rustfmt::skip]
+        fn make_directory(&self, _: &Head, _: &[u8; 256], _: u32, _: u32, _: &[u8], _: &mut [u32]) -> (u32, u64) {
+            (self.0, self.1)
+        }
+        #[rustfmt::skip]
+        fn read_one(&self, _: &Head, _: &[u8; 256], _: u32, _: u32, _: &[u8], _: &[u32], _: usize) -> (u32, u64) {
+            (self.0, self.1)
+        }
+        #[rustfmt::skip]
+        fn search(&self, _: &Head, _: &[u8; 256], _: u32, _: u32, _: &[u8], _: &[u8], _: &mut [u32]) -> (u32, u64) {
+            (self.0, self.1)
         }
     }
     run(case, &Idle(number, value))
@@ -326,6 +376,10 @@ fn good_table(rng: &mut Rng) -> Table {
         10..=11 => 256,
         _ => rng.between(0, 256),
     };
+    table_with(rng, k, s, sigma)
+}
+
+fn table_with(rng: &mut Rng, k: u8, s: u8, sigma: usize) -> Table {
     let mut places = [0; 256];
     for (place, byte) in places.iter_mut().zip(0..=255) {
         *place = byte;
@@ -346,6 +400,27 @@ fn good_table(rng: &mut Rng) -> Table {
         _ => {}
     }
     Table { k, s, sigma: sigma as u16, places }
+}
+
+/// Mostly few characters, so that patterns come again and codewords stand inside others.
+fn table_to_search(rng: &mut Rng) -> Table {
+    let k = rng.pick(&[2, 4]);
+    match rng.below(8) {
+        0..=2 => {
+            let (s, sigma) = (rng.between(1, 3) as u8, rng.between(1, 8));
+            table_with(rng, k, s, sigma)
+        }
+        3 => {
+            let (s, sigma) = (rng.pick(&[1, (1 << k) - 1]), rng.between(2, 40));
+            table_with(rng, k, s, sigma)
+        }
+        // The longest codewords there are.
+        4 if rng.one_in(2) => {
+            let k = rng.pick(&[2, 2, 2, k]);
+            table_with(rng, k, (1 << k) - 1, 256)
+        }
+        _ => good_table(rng),
+    }
 }
 
 /// Makes refusal 1 come, by one of its four causes.
@@ -475,6 +550,14 @@ enum Fault {
     Bits,
     /// 10.
     Range,
+    /// 10, of one character.
+    Place,
+    /// 9, or a wrong entry to follow.
+    Entry,
+    /// 11.
+    Pattern,
+    /// 12.
+    Directory,
     /// 13.
     Output,
     /// 3.
@@ -500,18 +583,46 @@ struct Made {
     n: u32,
     h: u32,
     buf: Vec<u8>,
+    /// Symbols and table before numbers, bits and table were damaged.
+    symbols: Vec<u8>,
+    under: Table,
+    /// Number of the codeword put in for Fault::Rank, or 0.
+    strange: usize,
+}
+
+impl Made {
+    /// The text and where its codewords start, cut at the stoppers; byte 0 for a bad codeword.
+    fn cut(&self) -> (Vec<u8>, Vec<u32>) {
+        let list = listing(self.under.k, self.under.s);
+        let (mut text, mut starts) = (Vec::new(), Vec::new());
+        let mut start = 0;
+        for (number, &symbol) in self.symbols.iter().enumerate() {
+            if symbol < self.under.s {
+                let rank = list.rank(&self.symbols[start..=number]);
+                text.push(rank.map_or(0, |rank| self.under.places[rank]));
+                starts.push(start as u32);
+                start = number + 1;
+            }
+        }
+        (text, starts)
+    }
 }
 
 fn roll(rng: &mut Rng, faults: &[Fault]) -> Made {
+    let (table, length) = (good_table(rng), rng.length());
+    roll_of(rng, table, length, faults)
+}
+
+/// A roll of about this many characters.
+fn roll_of(rng: &mut Rng, mut table: Table, length: usize, faults: &[Fault]) -> Made {
     let has = |fault| faults.contains(&fault);
-    let mut table = good_table(rng);
     if rng.one_in(12) {
-        return wild_roll(rng, table, faults);
+        return wild_roll(rng, table, length, faults);
     }
     let list = listing(table.k, table.s);
     // Seldom a roll as long as there may be: the limit alone then decides.
     let full = rng.one_in(500);
-    let length = if full { LIMIT } else { rng.length() };
+    let length = if full { LIMIT } else { length };
     let mut codewords: Vec<Vec<u8>> = Vec::new();
     let mut taken = 0;
     for rank in ranks(rng, usize::from(table.sigma), length) {
@@ -526,10 +637,11 @@ fn roll(rng: &mut Rng, faults: &[Fault]) -> Made {
         taken = codewords.iter().map(Vec::len).sum();
         codewords.resize(codewords.len() + LIMIT - taken, list.codewords[0].clone());
     }
+    let mut strange = 0;
     if has(Fault::Rank) {
         let any = rng.between(0, codewords.len());
-        let place = rng.pick(&[0, codewords.len(), any]);
-        codewords.insert(place, strange_codeword(rng, &table));
+        strange = rng.pick(&[0, codewords.len(), any]);
+        codewords.insert(strange, strange_codeword(rng, &table));
     }
     let mut symbols = codewords.concat();
     if has(Fault::Unfinished) {
@@ -591,17 +703,18 @@ fn roll(rng: &mut Rng, faults: &[Fault]) -> Made {
             h = rng.pick(&[room + 1, room + 1, room + 4, 65_537, 0x8000_0000 + h, 0x4000_0000 + h, u32::MAX]);
         }
     }
+    let under = table.clone();
     if has(Fault::OtherTable) {
         other_table(rng, &mut table);
     }
     if has(Fault::Table) {
         spoil_table(rng, &mut table);
     }
-    Made { table, n, h, buf }
+    Made { table, n, h, buf, symbols, under, strange }
 }
 
 /// Random symbols under any table, n as a reader would count it.
-fn wild_roll(rng: &mut Rng, mut table: Table, faults: &[Fault]) -> Made {
+fn wild_roll(rng: &mut Rng, mut table: Table, h: usize, faults: &[Fault]) -> Made {
     if rng.one_in(2) {
         table.sigma = 256;
         for (place, byte) in table.places.iter_mut().zip(0..=255) {
@@ -609,7 +722,6 @@ fn wild_roll(rng: &mut Rng, mut table: Table, faults: &[Fault]) -> Made {
         }
     }
     let (k, s) = (table.k, table.s);
-    let h = rng.length();
     let mut symbols: Vec<u8> = (0..h).map(|_| rng.below(1 << k) as u8).collect();
     if let Some(last) = symbols.last_mut() {
         if rng.below(4) > 0 {
@@ -621,10 +733,11 @@ fn wild_roll(rng: &mut Rng, mut table: Table, faults: &[Fault]) -> Made {
         n = wrong(rng, n);
     }
     let buf = bytes_of(k, &symbols);
+    let under = table.clone();
     if faults.contains(&Fault::Table) {
         spoil_table(rng, &mut table);
     }
-    Made { table, n, h: h as u32, buf }
+    Made { table, n, h: h as u32, buf, symbols, under, strange: 0 }
 }
 
 /// A number that is not this one, mostly a near one.
@@ -713,10 +826,13 @@ fn codeword_case(rng: &mut Rng) -> Case {
 }
 
 fn character_case(rng: &mut Rng) -> Case {
-    let mut table = good_table(rng);
+    // The one codeword of 86 symbols would else come too seldom.
+    let longest = rng.one_in(16);
+    let mut table = if longest { table_with(rng, 2, 3, 256) } else { good_table(rng) };
     let list = listing(table.k, table.s);
     let sigma = usize::from(table.sigma);
     let mut codeword = match rng.below(8) {
+        _ if longest => list.codewords[255].clone(),
         0 => strange_codeword(rng, &table),
         1 => run_of_continuers(rng, &table),
         2 => list.codewords[255].clone(),
@@ -855,16 +971,195 @@ fn pack_case(rng: &mut Rng) -> Case {
     Case::Pack { head: head(&table), places: table.places, text, buf, n: rng.next() as u32, h: rng.next() as u32 }
 }
 
+fn directory_case(rng: &mut Rng) -> Case {
+    use Fault::*;
+    #[rustfmt::skip]
+    let faults = faults(rng, &[Table, OtherTable, Room, Rank, Unfinished, Count, Length, Unused, Unused, Bits, Directory, Directory]);
+    let (table, length) = (good_table(rng), rng.border_length());
+    let made = roll_of(rng, table, length, &faults);
+    let needed = (made.cut().1.len() + STRIDE - 1) / STRIDE;
+    let entries = if faults.contains(&Directory) && needed > 0 {
+        let any = rng.below(needed);
+        rng.pick(&[needed - 1, needed - 1, 0, any])
+    } else {
+        needed + rng.pick(&[0, 0, 1, 5])
+    };
+    Case::MakeDirectory {
+        head: head(&made.table),
+        places: made.table.places,
+        n: made.n,
+        h: made.h,
+        buf: made.buf,
+        directory: (0..entries).map(|_| rng.next() as u32).collect(),
+    }
+}
+
+/// Another entry: near, inside a codeword, at h, over it, or the same once 16 or 31 bits have lost what is over.
+fn wrong_entry(rng: &mut Rng, entry: u32, h: u32) -> u32 {
+    let any = rng.below(h.max(1) as usize) as u32;
+    let below = [any, any, any, entry.wrapping_add(1), entry.wrapping_sub(1), 0, h.wrapping_sub(1)];
+    let over = [h, h, h.wrapping_add(1), u32::MAX, entry.wrapping_add(65_536), entry.wrapping_add(1 << 31)];
+    if rng.one_in(2) {
+        rng.pick(&below)
+    } else {
+        rng.pick(&over)
+    }
+}
+
+fn read_one_case(rng: &mut Rng) -> Case {
+    use Fault::*;
+    #[rustfmt::skip]
+    let faults = faults(rng, &[Table, OtherTable, Room, Rank, Rank, Unfinished, Count, Count, Length, Unused, Bits, Place, Place, Entry, Entry, Entry]);
+    let (table, length) = (good_table(rng), rng.border_length());
+    let made = roll_of(rng, table, length, &faults);
+    let starts = made.cut().1;
+    let mut directory: Vec<u32> = starts.iter().copied().step_by(STRIDE).collect();
+    let (n, read) = (made.n as usize, starts.len());
+    // Under a wrong n also where the last character stands, and behind it.
+    let mut place = match rng.below(8) {
+        0 => 0,
+        1 => n.saturating_sub(1),
+        2 => rng.pick(&[31, 32, 33, 63, 64, 65]),
+        3 => rng.pick(&[read.saturating_sub(1), read, read + 1]),
+        4 => rng.below(n.max(1)),
+        5 => made.strange + rng.below(3),
+        _ => rng.below(read.max(1)),
+    };
+    if faults.contains(&Place) {
+        let far = rng.pick(&[1 << 32, 1 << 37, 1 << 63, 65_536]);
+        place = rng.pick(&[n, n, n + 1, n + 31, n + 32, place + far, usize::MAX, usize::MAX - 31, u32::MAX as usize]);
+    } else if n > 0 {
+        place %= n;
+    }
+    let number = place / STRIDE;
+    if faults.contains(&Entry) {
+        match rng.below(6) {
+            0 => directory.truncate(number),
+            1 => directory.clear(),
+            _ => {
+                if let Some(entry) = directory.get_mut(number) {
+                    *entry = wrong_entry(rng, *entry, made.h);
+                }
+            }
+        }
+    }
+    // Entries that are not looked at may hold anything, or be missing.
+    match rng.below(6) {
+        0 => directory.truncate(number + 1),
+        1 => {
+            for _ in 0..rng.between(1, 4) {
+                let any = rng.next() as u32;
+                directory.push(rng.pick(&[any, made.h, made.h.wrapping_sub(1), 0]));
+            }
+        }
+        2 | 3 if !directory.is_empty() => {
+            let other = rng.below(directory.len());
+            if other != number {
+                directory[other] = wrong_entry(rng, directory[other], made.h);
+            }
+        }
+        _ => {}
+    }
+    let places = made.table.places;
+    Case::ReadOne { head: head(&made.table), places, n: made.n, h: made.h, buf: made.buf, directory, place }
+}
+
+/// A piece of the text of 1 to 64 characters; the text is not empty.
+fn piece(rng: &mut Rng, text: &[u8]) -> Vec<u8> {
+    let longest = rng.pick(&[1, 2, 3, 8, PATTERN, PATTERN]).min(text.len());
+    let any = rng.between(1, longest);
+    let length = rng.pick(&[any, longest]);
+    let last = text.len() - length;
+    let inside = rng.between(0, last);
+    let start = rng.pick(&[inside, inside, inside, 0, last]);
+    text[start..start + length].to_vec()
+}
+
+/// A pattern of 1 to 64 characters, mostly one that stands in the text or nearly does.
+fn pattern(rng: &mut Rng, table: &Table, text: &[u8]) -> Vec<u8> {
+    let characters = &table.places[..usize::from(table.sigma)];
+    if text.is_empty() || characters.is_empty() {
+        let length = rng.between(1, PATTERN);
+        return rng.bytes(length);
+    }
+    let mut pattern = piece(rng, text);
+    let length = pattern.len();
+    let any = rng.below(length);
+    match rng.below(16) {
+        0 => pattern = text[..text.len().min(PATTERN)].to_vec(),
+        // The whole text and more of the same.
+        1 => pattern = text.iter().copied().cycle().take((text.len() + rng.between(1, 3)).min(PATTERN)).collect(),
+        2 | 3 => pattern = vec![rng.pick(text); rng.between(1, 6)],
+        4 => {
+            let absent: Vec<u8> = (0..=255).filter(|byte| !characters.contains(byte)).collect();
+            if !absent.is_empty() {
+                let place = rng.pick(&[0, length - 1, any]);
+                pattern[place] = rng.pick(&absent);
+            }
+        }
+        // The first codeword cut to its end, so that the symbols stand there and the character does not.
+        5..=7 => {
+            let list = listing(table.k, table.s);
+            let rank = characters.iter().position(|&character| character == pattern[0]);
+            let codeword = &list.codewords[rank.unwrap_or(0)];
+            let rank = list.rank(&codeword[rng.below(codeword.len())..]).unwrap_or(0);
+            pattern[0] = table.places[rank];
+        }
+        8 => {
+            let place = rng.pick(&[0, length - 1, length - 1, any]);
+            pattern[place] = rng.pick(characters);
+        }
+        9 => pattern.fill_with(|| rng.pick(characters)),
+        10 => {
+            let pair = [rng.pick(text), rng.pick(text)];
+            pattern = pair.iter().copied().cycle().take(rng.between(2, 7)).collect();
+        }
+        _ => {}
+    }
+    pattern
+}
+
+fn search_case(rng: &mut Rng) -> Case {
+    use Fault::*;
+    #[rustfmt::skip]
+    let faults = faults(rng, &[Table, OtherTable, Room, Rank, Unfinished, Count, Length, Unused, Unused, Bits, Pattern, Pattern]);
+    let (table, length) = (table_to_search(rng), rng.border_length());
+    let made = roll_of(rng, table, length, &faults);
+    let text = made.cut().0;
+    let mut pattern = pattern(rng, &made.under, &text);
+    if faults.contains(&Pattern) {
+        let any = rng.between(PATTERN + 1, 400);
+        let length = rng.pick(&[0, 0, PATTERN + 1, PATTERN + 1, PATTERN + 2, 256 + pattern.len(), any]);
+        pattern = pattern.iter().copied().cycle().take(length).collect();
+    }
+    let total = if pattern.is_empty() { 0 } else { text.windows(pattern.len()).filter(|&at| at == pattern).count() };
+    let any = rng.between(0, total);
+    let hits = rng.pick(&[0, 1, total, total, total.saturating_sub(1), total + 1, total + 9, any]);
+    let places = made.table.places;
+    Case::Search {
+        head: head(&made.table),
+        places,
+        n: made.n,
+        h: made.h,
+        buf: made.buf,
+        pattern,
+        hits: (0..hits).map(|_| rng.next() as u32).collect(),
+    }
+}
+
 fn make(seed: u64, call: u64, stock: &[u8]) -> Case {
     let mut rng = Rng::of_call(seed, call);
     match rng.below(100) {
-        0..=9 => count_case(&mut rng, stock),
-        10..=21 => choose_case(&mut rng),
-        22..=33 => codeword_case(&mut rng),
-        34..=47 => character_case(&mut rng),
-        48..=64 => check_case(&mut rng),
-        65..=83 => unpack_case(&mut rng),
-        _ => pack_case(&mut rng),
+        0..=6 => count_case(&mut rng, stock),
+        7..=14 => choose_case(&mut rng),
+        15..=22 => codeword_case(&mut rng),
+        23..=32 => character_case(&mut rng),
+        33..=43 => check_case(&mut rng),
+        44..=54 => unpack_case(&mut rng),
+        55..=63 => pack_case(&mut rng),
+        64..=72 => directory_case(&mut rng),
+        73..=85 => read_one_case(&mut rng),
+        _ => search_case(&mut rng),
     }
 }
 
@@ -907,6 +1202,69 @@ fn corner(case: &Case, number: u32) -> Option<&'static str> {
     }
 }
 
+/// The same for directories, read one and search, where several may be met at once.
+fn corners(case: &Case, number: u32) -> Vec<&'static str> {
+    let mut met = Vec::new();
+    let mut meet = |is_met: bool, name| {
+        if is_met {
+            met.push(name);
+        }
+    };
+    match (case, number) {
+        (Case::MakeDirectory { n, h, .. }, 0) => {
+            meet(*n > 0 && *n as usize % STRIDE < 2, "directories with a last entry of 1 or 32 characters");
+            meet(*n > 2_000, "directories of rolls of over 2,000 characters");
+            meet(*h as usize == LIMIT, "directories of rolls of 65,536 symbols");
+        }
+        (Case::ReadOne { head, places, n, h, buf, directory, place }, 0) => {
+            let entry = directory[place / STRIDE] as usize;
+            let inside = entry > 0 && symbols_of(head.k, buf, entry)[entry - 1] >= head.s;
+            meet(inside, "characters read from an entry inside a codeword");
+            meet(*place >= STRIDE && place % STRIDE == 0, "characters read right at an entry behind the first");
+            let unsound = Reference.check(head, places, *n, *h, buf).0;
+            meet(unsound == 6, "characters read with a bad codeword elsewhere");
+            meet(unsound == 7, "characters read under a wrong n");
+            meet(unsound == 8, "characters read with unused symbols not 0");
+        }
+        (Case::ReadOne { head, places, n, h, buf, directory, place }, 6) => {
+            let value = Reference.read_one(head, places, *n, *h, buf, directory, *place).1;
+            meet(value == u64::from(*h), "codewords refused 6 that would start at h");
+        }
+        (Case::ReadOne { directory, place, .. }, 10) => {
+            meet(*place > u32::MAX as usize, "places over 32 bits refused 10");
+            meet(directory.len() <= place / STRIDE, "places refused 10 with their entry missing too");
+        }
+        (Case::Search { head, places, n, h, buf, pattern, hits }, 0) => {
+            let characters = &places[..usize::from(head.sigma)];
+            let list = listing(head.k, head.s);
+            let ranks: Option<Vec<usize>> =
+                pattern.iter().map(|byte| characters.iter().position(|character| character == byte)).collect();
+            meet(ranks.is_none(), "patterns with a character not in the table");
+            meet(pattern.len() > *n as usize, "patterns longer than the text");
+            let mut all = vec![0; *n as usize];
+            let total = Reference.search(head, places, *n, *h, buf, pattern, &mut all).1 as usize;
+            all.truncate(total);
+            meet(total > 0 && pattern.len() == *n as usize, "patterns that are the whole text");
+            meet(total > 0 && pattern.len() == PATTERN, "patterns of 64 characters found");
+            meet(total > hits.len(), "lists too short for the hits");
+            meet(total > 0 && total == hits.len(), "lists as long as the hits");
+            meet(total < hits.len(), "lists longer than the hits");
+            meet(all.windows(2).any(|two| two[1] - two[0] < pattern.len() as u32), "searches with overlapping hits");
+            if let Some(ranks) = ranks {
+                let codewords: Vec<&[u8]> = ranks.iter().map(|&rank| list.codewords[rank].as_slice()).collect();
+                let longest = codewords.iter().any(|codeword| codeword.len() == LONGEST);
+                meet(total > 0 && longest, "codewords of 86 symbols found");
+                let packed = codewords.concat();
+                let symbols = symbols_of(head.k, buf, *h as usize);
+                let matches = symbols.windows(packed.len()).filter(|&at| at == packed).count();
+                meet(matches > total, "searches with the symbols also where no hit is");
+            }
+        }
+        _ => {}
+    }
+    met
+}
+
 /// Counts by operation and number, or the difference in full.
 fn compare_calls(library: &dyn Library, calls: u64, seed: u64, at: &AtomicU64) -> Result<(Counts, Reached), String> {
     let stock = stock();
@@ -918,7 +1276,7 @@ fn compare_calls(library: &dyn Library, calls: u64, seed: u64, at: &AtomicU64) -
         match compare(&case, library) {
             Ok(number) => {
                 *counts.entry((case.operation(), number)).or_insert(0) += 1;
-                if let Some(corner) = corner(&case, number) {
+                for corner in corner(&case, number).into_iter().chain(corners(&case, number)) {
                     *reached.entry(corner).or_insert(0) += 1;
                 }
             }
@@ -933,7 +1291,7 @@ fn compare_calls(library: &dyn Library, calls: u64, seed: u64, at: &AtomicU64) -
 
 /// The table of counts, and what is listed and never came or came and is not listed.
 fn table_of(counts: &Counts) -> (String, Vec<String>) {
-    let mut text = format!("{:<14}", "refusal");
+    let mut text = format!("{:<15}", "refusal");
     let numbers: Vec<u32> =
         (0..=13).filter(|number| LISTED.iter().any(|(_, listed)| listed.contains(number))).collect();
     for number in &numbers {
@@ -942,7 +1300,7 @@ fn table_of(counts: &Counts) -> (String, Vec<String>) {
     text.push('\n');
     let mut faults = Vec::new();
     for (operation, (name, listed)) in LISTED.iter().enumerate() {
-        text.push_str(&format!("{:<14}", name));
+        text.push_str(&format!("{:<15}", name));
         for number in &numbers {
             match counts.get(&(operation, *number)) {
                 Some(times) => text.push_str(&format!("{:>9}", times)),
@@ -1066,6 +1424,57 @@ mod tests {
         wrap(shorter + digits * s + u128::from(symbols[last])) < u128::from(table.sigma)
     }
 
+    /// 0, and the symbol behind each stopper.
+    fn starts(table: &Head, h: u32, buf: &[u8]) -> Vec<u32> {
+        let symbols = symbols_of(table.k, buf, h as usize);
+        let behind = (1..=h).filter(|&number| symbols[number as usize - 1] < table.s);
+        std::iter::once(0).chain(behind).collect()
+    }
+
+    /// What a search with this error lists, all of it; the reference has accepted.
+    #[rustfmt::skip]
+    fn wrong_hits(name: &str, table: &Head, places: &[u8; 256], n: u32, h: u32, buf: &[u8], pattern: &[u8]) -> Option<Vec<u32>> {
+        let symbols = symbols_of(table.k, buf, h as usize);
+        let search = |pattern: &[u8]| {
+            let mut all = vec![0; n as usize];
+            let total = Reference.search(table, places, n, h, buf, pattern, &mut all).1 as usize;
+            all[..total].to_vec()
+        };
+        let mut all = search(pattern);
+        match name {
+            "search takes any match of symbols" => {
+                let list = listing(table.k, table.s);
+                let characters = &places[..usize::from(table.sigma)];
+                let mut packed = Vec::new();
+                for byte in pattern {
+                    packed.extend(&list.codewords[characters.iter().position(|character| character == byte)?]);
+                }
+                let stoppers = |end| symbols[..end].iter().filter(|&&symbol| symbol < table.s).count() as u32;
+                all = (0..symbols.len()).filter(|&at| symbols[at..].starts_with(&packed)).map(stoppers).collect();
+            }
+            "search goes on behind a hit" => {
+                let mut next = 0;
+                all.retain(|&hit| {
+                    let kept = hit >= next;
+                    if kept {
+                        next = hit + pattern.len() as u32;
+                    }
+                    kept
+                });
+            }
+            "search lists the last hit first" if !all.is_empty() => all.rotate_right(1),
+            "search lists backwards" => all.reverse(),
+            "search lists symbol numbers" => {
+                let starts = starts(table, h, buf);
+                all = all.iter().map(|&hit| starts[hit as usize]).collect();
+            }
+            "search compares 63 characters" => all = search(&pattern[..pattern.len().min(63)]),
+            "search passes over the last place" => all.retain(|&hit| hit as usize + pattern.len() < n as usize),
+            _ => return None,
+        }
+        Some(all)
+    }
+
     /// The reference with one error, by name.
     struct Faulty(&'static str);
 
@@ -1155,6 +1564,103 @@ mod tests {
             }
             answer
         }
+
+        fn make_directory(&self, table: &Head, places: &[u8; 256], n: u32, h: u32, buf: &[u8], directory: &mut [u32]) -> (u32, u64) {
+            let answer = Reference.make_directory(table, places, n, h, buf, directory);
+            let needed = (n as usize + STRIDE - 1) / STRIDE;
+            match (self.0, answer.0) {
+                ("directory counts in characters", 0) => {
+                    for (number, entry) in directory[..needed].iter_mut().enumerate() {
+                        *entry = (number * STRIDE) as u32;
+                    }
+                }
+                ("directory has an entry more", 0) if n as usize % STRIDE == 0 && needed < directory.len() => directory[needed] = h,
+                ("directory clears what is behind", 0) => directory[needed..].fill(0),
+                ("directory writes before it refuses", 12) if !directory.is_empty() => directory[0] = 0,
+                ("directory asks 12 first", 6..=8) if directory.len() < needed => return (12, needed as u64),
+                ("directory refuses one too long", 0) if directory.len() > needed => return (12, needed as u64),
+                _ => {}
+            }
+            answer
+        }
+
+        fn read_one(&self, table: &Head, places: &[u8; 256], n: u32, h: u32, buf: &[u8], directory: &[u32], place: usize) -> (u32, u64) {
+            let read = |n: u32, directory: &[u32], place: usize| Reference.read_one(table, places, n, h, buf, directory, place);
+            let answer = read(n, directory, place);
+            let number = place / STRIDE;
+            let good_entry = directory.get(number).map_or(false, |&entry| entry < h);
+            let check = || Reference.check(table, places, n, h, buf);
+            match (self.0, answer.0) {
+                ("read_one starts one entry early", 0) if place >= STRIDE => read(n, directory, place - STRIDE),
+                ("read_one checks the whole roll", 0 | 6) if check().0 != 0 => check(),
+                ("read_one checks n", 0 | 6) if check().0 == 7 => check(),
+                ("read_one checks unused symbols", 0 | 6) if check().0 == 8 => check(),
+                ("read_one asks 9 before 10", 10) if !good_entry => (9, number as u64),
+                ("read_one asks 10 before 5", 5) if place >= n as usize => (10, 0),
+                ("read_one asks 6 before 9", 9) if check().0 == 6 => check(),
+                ("read_one answers the entry", 9) => (9, directory.get(number).map_or(answer.1, |&entry| u64::from(entry))),
+                ("read_one answers the place", 9) => (9, place as u64),
+                ("read_one takes an entry at h", 9) if directory.get(number) == Some(&h) => (6, u64::from(h)),
+                ("read_one checks the whole directory", 0) if directory.iter().any(|&entry| entry >= h) => (9, 0),
+                ("read_one wants no entry behind", 0) if directory.len() > (n as usize + STRIDE - 1) / STRIDE => (9, 0),
+                ("read_one cuts the place to 32 bits", 10) => read(n, directory, place & 0xFFFF_FFFF),
+                ("read_one takes place n", 10) if n < u32::MAX && place == n as usize => read(n + 1, directory, place),
+                // All entries as a whole reading would find them, whatever is lent.
+                ("read_one reads from the start", 0 | 6) => {
+                    let right: Vec<u32> = starts(table, h, buf).into_iter().step_by(STRIDE).collect();
+                    read(n, &right, place)
+                }
+                // A good codeword at the place is enough; those before it are only cut at their stoppers.
+                ("read_one passes over bad codewords", 6) => {
+                    let from = directory[number];
+                    let behind = starts(table, h, buf).into_iter().filter(|&start| start > from);
+                    match std::iter::once(from).chain(behind).nth(place % STRIDE) {
+                        Some(start) if start < h => read(1, &[start], 0),
+                        _ => answer,
+                    }
+                }
+                ("read_one answers h for all that is unfinished", 6) => {
+                    let symbols = symbols_of(table.k, buf, h as usize);
+                    let finished = symbols.iter().skip(answer.1 as usize).any(|&symbol| symbol < table.s);
+                    (6, if finished { answer.1 } else { u64::from(h) })
+                }
+                ("read_one answers the last symbol and not h", 6) if answer.1 == u64::from(h) => (6, u64::from(h) - 1),
+                ("read_one wraps at 8 bits", 6) if good_if_wrapped(table, h, buf, answer.1 as usize, 8) => (0, 0),
+                ("read_one wraps at 32 bits", 6) if good_if_wrapped(table, h, buf, answer.1 as usize, 32) => (0, 0),
+                ("read_one wraps at 64 bits", 6) if good_if_wrapped(table, h, buf, answer.1 as usize, 64) => (0, 0),
+                _ => answer,
+            }
+        }
+
+        fn search(&self, table: &Head, places: &[u8; 256], n: u32, h: u32, buf: &[u8], pattern: &[u8], hits: &mut [u32]) -> (u32, u64) {
+            let before = hits.to_vec();
+            let answer = Reference.search(table, places, n, h, buf, pattern, hits);
+            if answer.0 == 0 {
+                if let Some(all) = wrong_hits(self.0, table, places, n, h, buf, pattern) {
+                    hits.copy_from_slice(&before);
+                    hits.iter_mut().zip(&all).for_each(|(entry, &hit)| *entry = hit);
+                    return (0, all.len() as u64);
+                }
+            }
+            let foreign = || pattern.iter().position(|byte| !places[..usize::from(table.sigma)].contains(byte));
+            match (self.0, answer.0) {
+                ("search cuts the total to the list", 0) => return (0, answer.1.min(hits.len() as u64)),
+                ("search clears what is behind", 0) => hits.iter_mut().skip(answer.1 as usize).for_each(|entry| *entry = 0),
+                ("search asks 11 first", 5..=8) if pattern.is_empty() || pattern.len() > PATTERN => return (11, 0),
+                ("search asks 11 before 8", 8) if pattern.is_empty() || pattern.len() > PATTERN => return (11, 0),
+                ("search refuses a foreign character", 0) => {
+                    if let Some(place) = foreign() {
+                        return (3, place as u64);
+                    }
+                }
+                ("search refuses 64 characters", 0) if pattern.len() == PATTERN => return (11, 0),
+                ("search finds the empty pattern", 11) if pattern.is_empty() => return (0, u64::from(n)),
+                ("search wraps at 32 bits", 6) if good_if_wrapped(table, h, buf, answer.1 as usize, 32) => return (0, 0),
+                ("search writes though refused", 7) if !hits.is_empty() => hits[0] = 0,
+                _ => {}
+            }
+            answer
+        }
     }
 
     #[test]
@@ -1194,9 +1700,57 @@ mod tests {
             "unpack writes one behind",
             "pack writes n though refused",
             "pack writes before it refuses",
+            "directory counts in characters",
+            "directory has an entry more",
+            "directory clears what is behind",
+            "directory writes before it refuses",
+            "directory asks 12 first",
+            "directory refuses one too long",
+            "read_one starts one entry early",
+            "read_one checks the whole roll",
+            "read_one checks n",
+            "read_one checks unused symbols",
+            "read_one asks 9 before 10",
+            "read_one asks 10 before 5",
+            "read_one asks 6 before 9",
+            "read_one answers the entry",
+            "read_one answers the place",
+            "read_one takes an entry at h",
+            "read_one checks the whole directory",
+            "read_one wants no entry behind",
+            "read_one cuts the place to 32 bits",
+            "read_one takes place n",
+            "read_one reads from the start",
+            "read_one passes over bad codewords",
+            "read_one answers h for all that is unfinished",
+            "read_one answers the last symbol and not h",
+            "read_one wraps at 8 bits",
+            "read_one wraps at 32 bits",
+            "read_one wraps at 64 bits",
+            "search takes any match of symbols",
+            "search goes on behind a hit",
+            "search cuts the total to the list",
+            "search lists the last hit first",
+            "search lists backwards",
+            "search lists symbol numbers",
+            "search compares 63 characters",
+            "search passes over the last place",
+            "search clears what is behind",
+            "search asks 11 first",
+            "search asks 11 before 8",
+            "search refuses a foreign character",
+            "search refuses 64 characters",
+            "search finds the empty pattern",
+            "search wraps at 32 bits",
+            "search writes though refused",
         ] {
             let found = compare_calls(&Faulty(name), 20_000, 3, &AT);
             assert!(found.is_err(), "not found: {}", name);
+            // In the operation it was planted in, and by its answer and not by a panic.
+            let operation = name.split(' ').next().unwrap().replace("directory", "make_directory");
+            let text = found.unwrap_err();
+            assert!(text.starts_with(&format!("{} differs", operation)), "{}: {}", name, text);
+            assert_eq!(text.contains("the library panicked"), name.contains("panics"), "{}", name);
         }
     }
 

@@ -74,15 +74,15 @@ all-known l (b ∷ text) h = char (h b (List·Memᴰ·head refl)) (all-known l t
 -- ---- the first character that is not in the row
 
 module _ (l : List ℕ) where
-  foreign-here : (b : ℕ) (text : List ℕ) → length l ≤ rankIn l b → firstForeign l (b ∷ text) ≡ 0
+  pub foreign-here : (b : ℕ) (text : List ℕ) → length l ≤ rankIn l b → firstForeign l (b ∷ text) ≡ 0
   unfolding firstForeign
   foreign-here b text h = rw (le-leb _ _ h)
 
-  foreign-later : (b : ℕ) (text : List ℕ) → rankIn l b < length l → firstForeign l (b ∷ text) ≡ suc (firstForeign l text)
+  pub foreign-later : (b : ℕ) (text : List ℕ) → rankIn l b < length l → firstForeign l (b ∷ text) ≡ suc (firstForeign l text)
   unfolding firstForeign
   foreign-later b text h = rw (lt-leb _ _ h)
 
-  foreign-none : firstForeign l [] ≡ 0
+  pub foreign-none : firstForeign l [] ≡ 0
   unfolding firstForeign
   foreign-none = refl
 

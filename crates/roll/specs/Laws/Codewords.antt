@@ -16,9 +16,10 @@ use Rattle.stopper.specs.Reading.{bad, ahead, readFrom, First, whole, broken, f
 use Rattle.stopper.specs.Laws.Table.{code-good}
 use Rattle.stopper.specs.Laws.Reading.{first-whole, first-broken, first-codeword, write-append, drop-write}
 use Rattle.stopper.specs.declared.code.Code.{Code}
-use Rattle.roll.specs.Codewords.{foundIn, foundAt, passedFrom}
+use Rattle.roll.specs.Codewords.{foundIn, foundAt, passStep, passedFrom, one, lost, oneFound, onePassed, oneFrom}
+use Rattle.roll.specs.declared.reading.Found.{Found}
 use Rattle.roll.specs.declared.reading.Found.the-variants.{Word, Bad}
-use Rattle.roll.specs.declared.reading.Passed.the-variants.{At}
+use Rattle.roll.specs.declared.reading.Passed.the-variants.{At, Bad as passed-bad}
 
 -- ---- a codeword found, or none
 
@@ -54,6 +55,33 @@ module _ (c : Code) (g : T (goodCode c)) (σ : ℕ) (row : List ℕ) where
   found-bad {p} e h =
       first-broken (base c) (stoppers c) (code-good c g) σ p (drop p row) (none-in p (firstWord (base c) (stoppers c) σ (drop p row)) e)
       (omega (arith, length-drop p row))
+
+  -- passing over codewords does not leave the row
+  pub passed-upto : (p count : ℕ) {q : ℕ} → At q ≡ passedFrom c σ row p count → p ≤ length row → q ≤ length row
+  unfolding passedFrom
+  passed-upto p zero {q} e h = let x : q ≡ p = cc in omega arith
+  passed-upto p (suc count) {q} e h = go (foundAt c σ row p) refl (λ next. passed-upto next count) e
+    where
+      go : (f : Found) → f ≡ foundAt c σ row p → ((next : ℕ) → At q ≡ passedFrom c σ row next count → next ≤ length row → q ≤ length row)
+          → At q ≡ passStep (λ next. passedFrom c σ row next count) p f → q ≤ length row
+      go (Word k next) w later e = later next e (found-word w h .upto)
+      go Bad w later e = let z : _≡_ {A = ℕ} 0 1 = cc in absurd (omega arith)
+
+-- ---- the codeword behind others
+
+module _ (c : Code) (σ : ℕ) (row : List ℕ) (p count : ℕ) where
+  pub one-passed : {at : ℕ} → passed-bad at ≡ passedFrom c σ row p count → oneFrom c σ row p count ≡ lost at
+  unfolding oneFrom onePassed
+  one-passed e = rw (← e)
+
+  module _ {at : ℕ} (e : At at ≡ passedFrom c σ row p count) where
+    pub one-bad : Bad ≡ foundAt c σ row at → oneFrom c σ row p count ≡ lost at
+    unfolding oneFrom onePassed oneFound
+    one-bad f = rw (← e, ← f)
+
+    pub one-word : {rank next : ℕ} → Word rank next ≡ foundAt c σ row at → oneFrom c σ row p count ≡ one rank
+    unfolding oneFrom onePassed oneFound
+    one-word f = rw (← e, ← f)
 
 -- ---- the codewords of a row of ranks
 

@@ -6,7 +6,7 @@ use Prim.Native.Nat.{ℕ, _+_, _-_, _*_, _^_, _≤_}
 use native.Mathlib.Omega.{arith}
 use lib.Dec.{T}
 use lib.ListN.{length, take, drop, getD, length-append, length-drop, length-map, take-append-drop}
-use lib.Seq.{take-at, drop-at, take-add, length-take-le}
+use lib.Seq.{take-at, drop-at, take-add}
 use Rattle.ground.specs.Rows.{Below, zeros}
 use Rattle.ground.specs.Laws.Rows.{below-more, length-zeros, below-take}
 use Rattle.stopper.specs.Table.{base, stoppers, goodCode, goodTable, characters, rankIn}
@@ -25,7 +25,7 @@ use Rattle.roll.specs.Laws.Characters.{InTable, ranks-below, characters-
 use Rattle.roll.specs.Laws.Accepting.{Packs}
 use Rattle.roll.specs.Laws.Texts.{text-below}
 use Rattle.roll.specs.Laws.Reading.{done-whole, done-ranks, zeros-zero, zero-zeros}
-use Rattle.roll.specs.Laws.Sound.{sound-below, sound-row}
+use Rattle.roll.specs.Laws.Sound.{sound-below, sound-row, sound-length}
 use Rattle.roll.specs.declared.roll.Roll.{Roll}
 
 -- ---- a buffer that holds a text: its packed bytes are the buffer's first, and the record says how many characters and symbols
@@ -148,22 +148,22 @@ module _ (r : Roll) (buf : List ℕ) (long : length (r .table .places) ≡ 256) 
   pub sound-known : InTable (characters (r .table)) (textOf r buf)
   sound-known = rw sound-text (ranks-known (characters (r .table)) sound-ranks)
 
+  -- its ranks are those of its characters
+  pub sound-ranked : ranksRead (reading r buf) ≡ map (rankIn (characters (r .table))) (textOf r buf)
+  sound-ranked =
+      let l : List ℕ = characters (r .table) in
+      sym (ap (map (rankIn l)) sound-text ∙ ranks-back l (characters-apart (r .table) (s .table)) sound-ranks)
+
   row-below : Below (2 ^ widthOf r) (rowUpto (r .table .code) (r .h) buf)
   row-below = below-take (symbols-below (widthOf r) buf) (r .h)
 
   row-length : length (rowUpto (r .table .code) (r .h) buf) ≡ r .h
-  row-length = length-take-le (r .h) (symbolsOf (widthOf r) buf) (room-row (widthOf r) buf (r .h) (s .fits))
+  row-length = sound-length r buf s
 
   -- its symbols are the buffer's
   pub sound-symbols : symbolsFor (r .table) (textOf r buf) ≡ rowUpto (r .table .code) (r .h) buf
   unfolding textRow
-  sound-symbols =
-      let m : ℕ = base (r .table .code) in
-      let st : ℕ → ℕ = stoppers (r .table .code) in
-      let l : List ℕ = characters (r .table) in
-      ap (λ (text : List ℕ). write m st (map (rankIn l) text)) sound-text
-      ∙ ap (write m st) (ranks-back l (characters-apart (r .table) (s .table)) sound-ranks)
-      ∙ sym (sound-row r buf s)
+  sound-symbols = ap (write (base (r .table .code)) (stoppers (r .table .code))) (sym sound-ranked) ∙ sym (sound-row r buf s)
 
   -- its record is the roll's
   pub sound-record : recordOf (r .table) (textOf r buf) ≡ r

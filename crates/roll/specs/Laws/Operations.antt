@@ -1,26 +1,28 @@
 -- The promises, row by row: a law for each refusal and one for acceptance.
 -- Assumes nothing.
 use mathlib.Core.Path.{_≡_, refl, sym, ap, _∙_, ap₂}
-use mathlib.Core.Logic.{_≢_, _↔_}
-use mathlib.Core.Bool.{true, false, not, _||_}
+use mathlib.Core.Logic.{_≢_, _⊎_, inl, inr}
+use mathlib.Core.Bool.{true, false, _||_, not}
 use mathlib.Core.List.{List, [], _∷_, _++_}
-use Prim.Native.Nat.{ℕ, _-_, _≤_, _<_, _*_, _^_}
+use Prim.Native.Nat.{ℕ, _-_, _≤_, _<_, _*_, _^_, _/_}
 use native.Mathlib.Omega.{arith}
-use borrow.Author.Tests.{lt-ltb, le-ltb, eq-eqb, ne-eqb, ltb-false, eqb-true, not-false}
-use lib.Dec.{ltb, eqb}
-use lib.ListN.{length, drop}
-use Rattle.ground.specs.Refusals.{Row, refuse, accepted, refused, judged, kept}
-use Rattle.ground.specs.Answers.{doneSays}
-use Rattle.ground.specs.Laws.Refusals.{refused-keeps, refused-front, accepted-front, kept-front}
+use borrow.Author.Tests.{lt-ltb, le-ltb, lt-leb, le-leb, eq-eqb, ne-eqb}
+use lib.Dec.{ltb}
+use lib.ListN.{length, drop, getD}
+use Rattle.ground.specs.Refusals.{Row, refuse, refused, judged, kept}
+use Rattle.ground.specs.Answers.{doneSays, totalSays}
+use Rattle.ground.specs.Laws.Refusals.{refused-keeps, accepted-leaves, accepted-parts, refused-front, accepted-front, kept-front}
 use Rattle.ground.specs.declared.answers.Done.{Done}
 use Rattle.ground.specs.declared.answers.Done.the-variants.{Yes, Refused}
+use Rattle.ground.specs.declared.answers.Answer.the-variants.{Read, Refused as answer-refused}
 use Rattle.stopper.specs.Table.{goodTable, characters}
 use Rattle.stopper.specs.Reading.{Reading, done, bad}
 use Rattle.symbols.specs.Symbols.{room, Width, per, bytesFor, symbolsOf}
 use Rattle.symbols.specs.Runs.{run, cleared}
 use Rattle.roll.specs.Roll.{reading, isBad, firstBad, ranksRead, textOf, allZero, unusedOf, firstForeign, firstOver, symbolsFor, packedInto}
-use Rattle.roll.specs.Codewords.{scanned}
-use Rattle.roll.specs.Operations.{checkRows, Checking, Sound, unpackRows, Unpacking, Packing, refusedPack}
+use Rattle.roll.specs.Codewords.{scanned, one, lost, oneIsLost, oneLost, oneRank}
+use Rattle.roll.specs.Directory.{entries, directoryOf, lengthsOf}
+use Rattle.roll.specs.Operations.{checkRows, Checking, Sound, unpackRows, Unpacking, Packing, refusedPack, makeRows, Making, oneRead, ReadingOne, searchRows, Searching}
 use Rattle.roll.specs.declared.roll.Roll.{Roll}
 use Rattle.roll.specs.declared.reading.Scan.the-variants.{Whole, Bad}
 use Rattle.ground.specs.Rows.{Below}
@@ -29,6 +31,9 @@ use Rattle.symbols.specs.Laws.Packing.{packed-cleared}
 use Rattle.roll.specs.Words.{atFront}
 use Rattle.roll.specs.declared.pack.Packed.{Packed}
 use Rattle.roll.specs.Laws.Accepting.{sound-accepted, accepted-sound}
+use Rattle.ground.specs.declared.answers.Total.{Total}
+use Rattle.ground.specs.declared.answers.Total.the-variants.{Of, Refused as total-refused}
+use Rattle.roll.specs.Hits.{hits, goodPattern, listed}
 
 -- ---- pack
 
@@ -151,3 +156,115 @@ module _ (r : Roll) (buf : List ℕ) (start end : ℕ) (out : List ℕ) where
         pub unpack-yes : {after : List ℕ} → end - start ≤ length out → after ≡ run (textOf r buf) start end ++ drop (end - start) out
             → Unpacking r buf start end out Yes after
         unpack-yes l e = unpack-later (rw (le-ltb _ _ h, le-ltb _ _ k, le-ltb _ _ l)) (rw (le-ltb _ _ h, le-ltb _ _ k, le-ltb _ _ l) e)
+
+-- ---- make a directory
+
+module _ (r : Roll) (buf dir : List ℕ) where
+  -- the row after check's, and what an accepted call leaves
+  abbrev short : List Row
+  short = refuse 12 (entries (r .n)) (ltb (length dir) (entries (r .n))) ∷ []
+
+  abbrev made : List ℕ
+  made = directoryOf (lengthsOf r buf) ++ drop (entries (r .n)) dir
+
+  pub make-check : {a : Done} {n v : ℕ} → Checking r buf a → a ≡ Refused n v → Making r buf dir a dir
+  make-check {a} {n} {v} c e =
+      let j : judged (makeRows r buf dir) tt ≡ refused n v = refused-front (checkRows r buf) short tt tt (sym (c .says) ∙ ap doneSays e) in
+      record { says = ap doneSays e ∙ sym j; leaves = sym (refused-keeps (makeRows r buf dir) tt dir made j) }
+
+  -- an accepted call found the roll sound, and leaves its directory
+  pub made-sound : {after : List ℕ} → Making r buf dir Yes after → Sound r buf
+  made-sound m = accepted-sound r buf (accepted-parts (checkRows r buf) short (sym (m .says)) .0)
+
+  pub made-leaves : {after : List ℕ} → Making r buf dir Yes after → after ≡ directoryOf (lengthsOf r buf) ++ drop (entries (r .n)) dir
+  made-leaves m = m .leaves ∙ accepted-leaves (makeRows r buf dir) tt dir made (sym (m .says))
+
+  module _ (s : Sound r buf) where
+    -- the later row decides
+    make-later : {a : Done} {after : List ℕ} → doneSays a ≡ judged short tt → after ≡ kept short dir made → Making r buf dir a after
+    make-later p q =
+        record {
+          says = p ∙ sym (accepted-front (checkRows r buf) short tt tt (sound-accepted r buf s));
+          leaves = q ∙ sym (kept-front (checkRows r buf) short tt dir made (sound-accepted r buf s));
+        }
+
+    pub make-12 : {v : ℕ} → v ≡ entries (r .n) → length dir < v → Making r buf dir (Refused 12 v) dir
+    make-12 e h = let k = lt-ltb (length dir) (entries (r .n)) (omega arith) in make-later (rw (e, k)) (rw k)
+
+    pub make-yes : {after : List ℕ} → entries (r .n) ≤ length dir → after ≡ directoryOf (lengthsOf r buf) ++ drop (entries (r .n)) dir → Making r buf dir Yes after
+    make-yes h e = make-later (rw (le-ltb _ _ h)) (rw (le-ltb _ _ h) e)
+
+-- ---- read one
+
+module _ (r : Roll) (buf dir : List ℕ) (place : ℕ) where
+  pub read-1 : goodTable (r .table) ≡ false → ReadingOne r buf dir place (answer-refused 1 0)
+  read-1 e = record { says = rw e }
+
+  module _ (g : goodTable (r .table) ≡ true) where
+    pub read-5 : room (r .table .code .k) (length buf) < r .h → ReadingOne r buf dir place (answer-refused 5 (r .h))
+    read-5 h = record { says = rw (g, lt-ltb _ _ h) }
+
+    module _ (h : r .h ≤ room (r .table .code .k) (length buf)) where
+      pub read-10 : r .n ≤ place → ReadingOne r buf dir place (answer-refused 10 0)
+      read-10 k = record { says = rw (g, le-ltb _ _ h, le-leb _ _ k) }
+
+      module _ (k : place < r .n) where
+        pub read-9-missing : length dir ≤ place / 32 → ReadingOne r buf dir place (answer-refused 9 (place / 32))
+        read-9-missing l = record { says = rw (g, le-ltb _ _ h, lt-leb _ _ k, le-leb _ _ l) }
+
+        module _ (l : place / 32 < length dir) where
+          pub read-9-wrong : r .h ≤ getD dir (place / 32) 0 → ReadingOne r buf dir place (answer-refused 9 (place / 32))
+          read-9-wrong m = record { says = rw (g, le-ltb _ _ h, lt-leb _ _ k, lt-leb _ _ l, le-leb _ _ m) }
+
+          module _ (m : getD dir (place / 32) 0 < r .h) where
+            pub read-6 : {p : ℕ} → oneRead r buf dir place ≡ lost p → ReadingOne r buf dir place (answer-refused 6 p)
+            unfolding oneIsLost oneLost
+            read-6 e = record { says = rw (g, le-ltb _ _ h, lt-leb _ _ k, lt-leb _ _ l, lt-leb _ _ m, e) }
+
+            pub read-yes : {rank : ℕ} → oneRead r buf dir place ≡ one rank → ReadingOne r buf dir place (Read (getD (r .table .places) rank 0))
+            unfolding oneIsLost oneRank
+            read-yes e = record { says = rw (g, le-ltb _ _ h, lt-leb _ _ k, lt-leb _ _ l, lt-leb _ _ m, e) }
+
+-- ---- search
+
+module _ (pattern : List ℕ) where
+  pub pattern-bad : (length pattern < 1) ⊎ (64 < length pattern) → goodPattern pattern ≡ false
+  unfolding goodPattern
+  pattern-bad (inl h) = rw (lt-leb 1 (length pattern) h)
+  pattern-bad (inr h) = rw (le-leb 1 (length pattern) (omega arith), lt-leb (length pattern) 64 h)
+
+  pub pattern-good : 1 ≤ length pattern → length pattern ≤ 64 → goodPattern pattern ≡ true
+  unfolding goodPattern
+  pattern-good h k = rw (le-leb 1 (length pattern) h, le-leb (length pattern) 64 k)
+
+module _ (r : Roll) (buf pattern slice : List ℕ) where
+  -- the row after check's, and what an accepted call answers and leaves
+  abbrev last : List Row
+  last = refuse 11 0 (not (goodPattern pattern)) ∷ []
+
+  abbrev total : ℕ
+  total = length (hits pattern (textOf r buf))
+
+  abbrev list : List ℕ
+  list = listed (hits pattern (textOf r buf)) slice
+
+  pub search-check : {a : Done} {n v : ℕ} → Checking r buf a → a ≡ Refused n v → Searching r buf pattern slice (total-refused n v) slice
+  search-check {n = n} {v = v} c e =
+      let j : judged (searchRows r buf pattern) total ≡ refused n v = refused-front (checkRows r buf) last tt total (sym (c .says) ∙ ap doneSays e) in
+      record { says = sym j; leaves = sym (refused-keeps (searchRows r buf pattern) total slice list j) }
+
+  module _ (s : Sound r buf) where
+    -- the last row decides
+    search-last : {a : Total} {after : List ℕ} → totalSays a ≡ judged last total → after ≡ kept last slice list → Searching r buf pattern slice a after
+    search-last p q =
+        record {
+          says = p ∙ sym (accepted-front (checkRows r buf) last tt total (sound-accepted r buf s));
+          leaves = q ∙ sym (kept-front (checkRows r buf) last tt slice list (sound-accepted r buf s));
+        }
+
+    pub search-11 : goodPattern pattern ≡ false → Searching r buf pattern slice (total-refused 11 0) slice
+    search-11 g = search-last (rw g) (rw g)
+
+    pub search-yes : {n : ℕ} {after : List ℕ} → goodPattern pattern ≡ true → n ≡ length (hits pattern (textOf r buf))
+        → after ≡ listed (hits pattern (textOf r buf)) slice → Searching r buf pattern slice (Of n) after
+    search-yes g e f = search-last (rw (g, e)) (rw g f)

@@ -1,6 +1,6 @@
 -- A sound roll: its symbols are the codewords of its ranks, and each is found where it starts.
 -- Assumes nothing.
-use mathlib.Core.Path.{_≡_, refl, sym, ap, _∙_}
+use mathlib.Core.Path.{_≡_, sym, ap, _∙_}
 use mathlib.Core.Logic.{_≢_}
 use mathlib.Core.Bool.{true, false}
 use mathlib.Core.List.{List, _∷_}
@@ -9,20 +9,21 @@ use native.Mathlib.Nat.{sub-self, zero-add}
 use native.Mathlib.Numerals.{add-one}
 use native.Mathlib.Omega.{arith}
 use borrow.Author.Tests.{eq-eqb, ne-eqb}
+use lib.Dec.{T}
 use lib.ListN.{length, getD}
 use lib.Seq.{drop-cons, length-take-le}
 use Rattle.ground.specs.Rows.{Below}
 use Rattle.ground.specs.Laws.Limit.{limit-fits}
 use Rattle.ground.specs.Laws.Rows.{below-take}
-use Rattle.stopper.specs.Table.{base, stoppers}
-use Rattle.stopper.specs.Reading.{Reading, done, bad, write}
+use Rattle.stopper.specs.Table.{base, stoppers, goodTable}
+use Rattle.stopper.specs.Reading.{write}
 use Rattle.stopper.specs.Laws.Table.{table-code, table-few, code-good}
 use Rattle.stopper.specs.Laws.Reading.{read-below, write-read}
 use Rattle.symbols.specs.Runs.{run}
-use Rattle.symbols.specs.Symbols.{symbolsOf}
+use Rattle.symbols.specs.Symbols.{room, symbolsOf}
 use Rattle.symbols.specs.Laws.Sizes.{room-limit}
 use Rattle.symbols.specs.Laws.Rows.{symbols-below, room-row}
-use Rattle.roll.specs.Roll.{rowUpto, reading, isBad, ranksRead, allZero}
+use Rattle.roll.specs.Roll.{rowUpto, reading, ranksRead, allZero}
 use Rattle.roll.specs.Codewords.{Reads, foundAt, passedFrom}
 use Rattle.roll.specs.Operations.{Sound}
 use Rattle.roll.specs.Laws.Reading.{whole-is}
@@ -61,17 +62,27 @@ row r buf = rowUpto (r .table .code) (r .h) buf
 abbrev ranks : Roll → List ℕ → List ℕ
 ranks r buf = ranksRead (reading r buf)
 
+pub row-length : (r : Roll) (buf : List ℕ) → r .h ≤ room (r .table .code .k) (length buf) → length (row r buf) ≡ r .h
+row-length r buf f = let k = r .table .code .k in length-take-le (r .h) (symbolsOf k buf) (room-row k buf (r .h) f)
+
+-- a good table and symbols that the buffer holds: a place up to symbol h may be read
+pub table-reads : (r : Roll) (buf : List ℕ) → T (goodTable (r .table)) → r .h ≤ room (r .table .code .k) (length buf)
+    → (p : ℕ) → p ≤ r .h → Reads (r .table .code) (r .table .sigma) buf (r .h) p
+table-reads r buf g f p h =
+    record {
+      good = table-code (r .table) g;
+      few = table-few (r .table) g;
+      held = room-row (r .table .code .k) buf (r .h) f;
+      small = omega (arith, f, room-limit (r .table .code .k) (length buf), limit-fits);
+      upto = h;
+    }
+
 module _ (r : Roll) (buf : List ℕ) (s : Sound r buf) where
-  -- a place up to symbol h may be read
   pub sound-reads : (p : ℕ) → p ≤ r .h → Reads (r .table .code) (r .table .sigma) buf (r .h) p
-  sound-reads p h =
-      record {
-        good = table-code (r .table) (s .table);
-        few = table-few (r .table) (s .table);
-        held = room-row (r .table .code .k) buf (r .h) (s .fits);
-        small = omega (arith, s .fits, room-limit (r .table .code .k) (length buf), limit-fits);
-        upto = h;
-      }
+  sound-reads = table-reads r buf (s .table) (s .fits)
+
+  pub sound-length : length (row r buf) ≡ r .h
+  sound-length = row-length r buf (s .fits)
 
   pub sound-below : Below (r .table .sigma) (ranks r buf)
   unfolding reading
@@ -100,10 +111,4 @@ module _ (r : Roll) (buf : List ℕ) (s : Sound r buf) where
       (passed-ranks (r .table .code) (table-code (r .table) (s .table)) (r .table .sigma) sound-below j 0 (omega (arith, s .count)) ∙ rw zero-add)
 
   pub sound-start : (j : ℕ) → startOf (r .table .code) (ranks r buf) j ≤ r .h
-  sound-start j =
-      omega (
-        arith,
-        start-upto (r .table .code) (ranks r buf) j,
-        ap length sound-row,
-        length-take-le (r .h) (symbolsOf (r .table .code .k) buf) (room-row (r .table .code .k) buf (r .h) (s .fits)),
-      )
+  sound-start j = omega (arith, start-upto (r .table .code) (ranks r buf) j, ap length sound-row, sound-length)

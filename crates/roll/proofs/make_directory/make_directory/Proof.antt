@@ -1,0 +1,72 @@
+-- `roll::make_directory::make_directory` meets its contract.
+-- Assumes nothing.
+use native.Mathlib.Omega.{arith}
+use borrow.Author.Needs.{needs}
+use Rattle.roll.specs.Operations.{Sound}
+use Rattle.roll.specs.Laws.Operations.{check-sound, make-check, make-12, make-yes}
+use Rattle.roll.proofs.make_directory.make_directory.Statement.{statement}
+use Rattle.roll.proofs.make_directory.make_directory.Tie as tie
+
+-- the way back from a place, and what check leaves
+abbrev start : tie.After-check → tie.Start
+start c = c .before .before .before
+
+abbrev checked : tie.After-enum-told → tie.After-check
+checked c = c .before .before
+
+sound : (c : tie.After-enum-told) → let a = start (checked c) .args in Sound (a .roll) (a .buf .now)
+sound c = let a = start (checked c) .args in check-sound (a .roll) (a .buf .now) (checked c .check .ensures) (c .enum-told .given .1)
+
+check-requires : tie.Need-check-requires
+check-requires c κs = search needs
+
+enum-told : tie.Need-enum-told
+enum-told c = search needs
+
+enum-told-2 : tie.Need-enum-told-2
+enum-told-2 c = search needs
+
+returns : tie.Need-returns
+returns c =
+    let k = c .before .before in
+    let a = start k .args in
+    make-check (a .roll) (a .buf .now) (a .dir .now) (k .check .ensures) (c .enum-told2 .given .1)
+
+entries-for-requires : tie.Need-entries-for-requires
+entries-for-requires c κs = search needs
+
+returns-2 : tie.Need-returns-2
+returns-2 c =
+    let n = c .before in
+    let a = start (checked (n .before)) .args in
+    make-12 (a .roll) (a .buf .now) (a .dir .now) (sound (n .before)) (n .entries-for .ensures) (c .if1 .taken)
+
+make-sound-requires : tie.Need-make-sound-requires
+make-sound-requires c κs =
+    let n = c .before .before in
+    (sound (n .before), omega (arith, n .entries-for .ensures, c .before .if1 .left))
+
+same-length : tie.Need-same-length
+same-length c = search needs
+
+returns-3 : tie.Need-returns-3
+returns-3 c =
+    let m = c .before .before in
+    let l = m .before .before in
+    let n = l .before in
+    let a = start (checked (n .before)) .args in
+    make-yes (a .roll) (a .buf .now) (a .dir .now) (sound (n .before)) (omega (arith, n .entries-for .ensures, l .if1 .left)) (m .make-sound .ensures)
+
+pub make-directory-spec : {M : Type 1} → statement M
+make-directory-spec =
+    tie.close
+    (tie.spec
+    check-requires
+    enum-told
+    enum-told-2
+    returns
+    entries-for-requires
+    returns-2
+    make-sound-requires
+    same-length
+    returns-3)

@@ -1,0 +1,233 @@
+-- `roll::read_one::read_one` meets its contract.
+-- Assumes nothing.
+use mathlib.Core.Path.{_≡_, sym, _∙_}
+use mathlib.Core.Bool.{true}
+use mathlib.Core.List.{List}
+use Prim.Native.Nat.{ℕ, _/_, _%_, _≤_}
+use native.Mathlib.Omega.{arith}
+use borrow.Author.Needs.{needs}
+use borrow.Author.Tests.{not-true, not-false}
+use lib.ListN.{length, getD}
+use Rattle.ground.specs.declared.answers.Answer.the-variants.{Refused}
+use Rattle.stopper.specs.Table.{goodTable}
+use Rattle.stopper.specs.Laws.Table.{is-good, table-code, code-width}
+use Rattle.symbols.specs.Symbols.{room}
+use Rattle.roll.specs.Roll.{rowUpto}
+use Rattle.roll.specs.Codewords.{Reads, foundAt, passedFrom, lost}
+use Rattle.roll.specs.Operations.{oneRead, ReadingOne}
+use Rattle.roll.specs.Laws.Codewords.{found-word, passed-upto, one-passed, one-bad, one-word}
+use Rattle.roll.specs.Laws.Sound.{row-length, table-reads}
+use Rattle.roll.specs.Laws.Operations.{read-1, read-5, read-10, read-9-missing, read-9-wrong, read-6, read-yes}
+use Rattle.roll.specs.declared.reading.Found.the-variants.{Word}
+use Rattle.roll.specs.declared.reading.Passed.the-variants.{At}
+use Rattle.roll.proofs.read_one.read_one.Statement.{statement}
+use Rattle.roll.proofs.read_one.read_one.Tie as tie
+
+-- the way back from a place
+abbrev start : tie.Else1 → tie.Start
+start c = c .before .before .before .before .before
+
+abbrev tabled : tie.Else2 → tie.Else1
+tabled c = c .before .before .before .before
+
+abbrev fitted : tie.Else3 → tie.Else2
+fitted c = c .before .before
+
+abbrev placed : tie.Else5 → tie.Else3
+placed c = c .before .before .before
+
+abbrev entered : tie.After-pass-over → tie.Else5
+entered c = c .before .before .before
+
+abbrev begun : tie.After-pass-over → tie.Start
+begun c = start (tabled (fitted (placed (entered c))))
+
+-- what the tests leave
+good : (c : tie.Else1) → goodTable (start c .args .roll .table) ≡ true
+good c = sym (c .before .good-table .ensures) ∙ not-false _ (c .if1 .left)
+
+fits : (c : tie.Else2) → let a = start (tabled c) .args in a .roll .h ≤ room (a .roll .table .code .k) (length (a .buf .now))
+fits c = omega (arith, c .if2 .left, c .before .room-of .ensures)
+
+reads : (c : tie.Else2) → let a = start (tabled c) .args in (p : ℕ) → p ≤ a .roll .h → Reads (a .roll .table .code) (a .roll .table .sigma) (a .buf .now) (a .roll .h) p
+reads c = let a = start (tabled c) .args in table-reads (a .roll) (a .buf .now) (is-good (a .roll .table) (good (tabled c))) (fits c)
+
+-- the codewords before the place are passed over
+abbrev row : tie.Start → List ℕ
+row s = rowUpto (s .args .roll .table .code) (s .args .roll .h) (s .args .buf .now)
+
+one-is-lost : (c : tie.After-pass-over) {at : ℕ} → let a = begun c .args in
+    oneRead (a .roll) (a .buf .now) (a .dir .now) (a .place) ≡ lost at → ReadingOne (a .roll) (a .buf .now) (a .dir .now) (a .place) (Refused 6 at)
+one-is-lost c e =
+    let w = entered c in
+    let p = placed w in
+    let f = fitted p in
+    let a = begun c .args in
+    read-6 (a .roll) (a .buf .now) (a .dir .now) (a .place) (good (tabled f)) (fits f) (p .if3 .left) (w .before .before .if4 .left) (w .if5 .left) e
+
+-- up to a place of the row
+passed-is : (c : tie.After-passed2) → let s = begun (c .before .before) in
+    At (c .passed2 .given .0 .0) ≡ passedFrom (s .args .roll .table .code) (s .args .roll .table .sigma) (row s) (getD (s .args .dir .now) (s .args .place / 32) 0) (s .args .place % 32)
+passed-is c = sym (c .passed2 .given .1) ∙ c .before .before .pass-over .ensures
+
+long : (c : tie.After-pass-over) → length (row (begun c)) ≡ begun c .args .roll .h
+long c = let a = begun c .args in row-length (a .roll) (a .buf .now) (fits (fitted (placed (entered c))))
+
+at-upto : (c : tie.After-passed2) → c .passed2 .given .0 .0 ≤ length (row (begun (c .before .before)))
+at-upto c =
+    let y = c .before .before in
+    let a = begun y .args in
+    passed-upto (a .roll .table .code) (reads (fitted (placed (entered y))) 0 (omega arith) .good) (a .roll .table .sigma) (row (begun y))
+    (getD (a .dir .now) (a .place / 32) 0) (a .place % 32) (passed-is c) (omega (arith, long y, entered y .if5 .left))
+
+-- the codeword there
+word-is : (c : tie.After-found) → let p = c .before .before .before .before in let s = begun (p .before .before) in
+    Word (c .found .given .0 .0) (c .found .given .0 .1 .0) ≡ foundAt (s .args .roll .table .code) (s .args .roll .table .sigma) (row s) (p .passed2 .given .0 .0)
+word-is c = sym (c .found .given .1) ∙ c .before .before .codeword-at .ensures
+
+good-table-requires : tie.Need-good-table-requires
+good-table-requires c κs = search needs
+
+returns : tie.Need-returns
+returns c =
+    let a = c .before .before .before .before .before .args in
+    read-1 (a .roll) (a .buf .now) (a .dir .now) (a .place) (sym (c .before .good-table .ensures) ∙ not-true _ (c .if1 .taken))
+
+cast-h : tie.Need-cast-h
+cast-h c = search needs
+
+room-of-requires : tie.Need-room-of-requires
+room-of-requires c κs =
+    let e = c .before .before in
+    let t = start e .args .roll .table in
+    code-width (t .code) (table-code t (is-good t (good e)))
+
+returns-2 : tie.Need-returns-2
+returns-2 c =
+    let e = c .before .before .before .before in
+    let a = start e .args in
+    read-5 (a .roll) (a .buf .now) (a .dir .now) (a .place) (good e) (omega (arith, c .if2 .taken, c .before .room-of .ensures))
+
+cast-if3 : tie.Need-cast-if3
+cast-if3 c = search needs
+
+returns-3 : tie.Need-returns-3
+returns-3 c =
+    let f = c .before .before in
+    let a = start (tabled f) .args in
+    read-10 (a .roll) (a .buf .now) (a .dir .now) (a .place) (good (tabled f)) (fits f) (c .if3 .taken)
+
+returns-4 : tie.Need-returns-4
+returns-4 c =
+    let f = fitted (c .before) in
+    let a = start (tabled f) .args in
+    read-9-missing (a .roll) (a .buf .now) (a .dir .now) (a .place) (good (tabled f)) (fits f) (c .before .if3 .left) (c .if4 .taken)
+
+mul-first : tie.Need-mul-first
+mul-first c = search needs
+
+shared-slice-read-first : tie.Need-shared-slice-read-first
+shared-slice-read-first c = search needs
+
+cast-first : tie.Need-cast-first
+cast-first c = let a = start (tabled (fitted (c .before .before))) .args in omega (arith, c .shared-slice-known3 .given (a .place / 32))
+
+returns-5 : tie.Need-returns-5
+returns-5 c =
+    let e = c .before .before in
+    let f = fitted (e .before) in
+    let a = start (tabled f) .args in
+    read-9-wrong (a .roll) (a .buf .now) (a .dir .now) (a .place) (good (tabled f)) (fits f) (e .before .if3 .left) (e .if4 .left) (c .if5 .taken)
+
+cast-sigma : tie.Need-cast-sigma
+cast-sigma c = search needs
+
+pass-over-requires : tie.Need-pass-over-requires
+pass-over-requires c κs = let e = c .before .before in reads (fitted (placed e)) _ (omega (arith, e .if5 .left))
+
+enum-known-passed : tie.Need-enum-known-passed
+enum-known-passed c = search needs
+
+enum-known-passed-2 : tie.Need-enum-known-passed-2
+enum-known-passed-2 c = search needs
+
+codeword-at-requires : tie.Need-codeword-at-requires
+codeword-at-requires c κs =
+    let p = c .before in
+    let y = p .before .before in
+    reads (fitted (placed (entered y))) (p .passed2 .given .0 .0) (omega (arith, at-upto p, long y))
+
+enum-known-found : tie.Need-enum-known-found
+enum-known-found c = search needs
+
+cast-t30 : tie.Need-cast-t30
+cast-t30 c = search needs
+
+array-read-t33 : tie.Need-array-read-t33
+array-read-t33 c =
+    let p = c .before .before .before .before .before in
+    let y = p .before .before in
+    let a = begun y .args in
+    let g = reads (fitted (placed (entered y))) 0 (omega arith) in
+    let w = found-word (a .roll .table .code) (g .good) (a .roll .table .sigma) (row (begun y)) (word-is (c .before)) (at-upto p) in
+    omega (arith, w .rank, g .few)
+
+enum-told : tie.Need-enum-told
+enum-told c = search needs
+
+returns-6 : tie.Need-returns-6
+returns-6 c =
+    let y = c .before .before .before in
+    let a = begun y .args in
+    one-is-lost y
+    (one-passed (a .roll .table .code) (a .roll .table .sigma) (row (begun y)) (getD (a .dir .now) (a .place / 32) 0) (a .place % 32)
+    (sym (c .before .passed .given .1) ∙ y .pass-over .ensures))
+
+returns-7 : tie.Need-returns-7
+returns-7 c =
+    let p = c .before .before .before .before .before in
+    let y = p .before .before in
+    let e = entered y in
+    let f = fitted (placed e) in
+    let a = begun y .args in
+    read-yes (a .roll) (a .buf .now) (a .dir .now) (a .place) (good (tabled f)) (fits f) (placed e .if3 .left) (e .before .before .if4 .left) (e .if5 .left)
+    (one-word (a .roll .table .code) (a .roll .table .sigma) (row (begun y)) (getD (a .dir .now) (a .place / 32) 0) (a .place % 32) (passed-is p) (word-is (c .before)))
+
+returns-8 : tie.Need-returns-8
+returns-8 c =
+    let k = c .before .before in
+    let p = k .before .before in
+    let y = p .before .before in
+    let a = begun y .args in
+    one-is-lost y
+    (one-bad (a .roll .table .code) (a .roll .table .sigma) (row (begun y)) (getD (a .dir .now) (a .place / 32) 0) (a .place % 32) (passed-is p)
+    (sym (c .enum-told .given .1) ∙ k .codeword-at .ensures))
+
+pub read-one-spec : {M : Type 1} → statement M
+read-one-spec =
+    tie.close
+    (tie.spec
+    good-table-requires
+    returns
+    cast-h
+    room-of-requires
+    returns-2
+    cast-if3
+    returns-3
+    returns-4
+    mul-first
+    shared-slice-read-first
+    cast-first
+    returns-5
+    cast-sigma
+    pass-over-requires
+    enum-known-passed
+    enum-known-passed-2
+    codeword-at-requires
+    enum-known-found
+    cast-t30
+    array-read-t33
+    enum-told
+    returns-6
+    returns-7
+    returns-8)

@@ -1,0 +1,50 @@
+// Reading one character.
+use crate::reading::Found;
+use crate::reading::Passed;
+use crate::reading::codeword_at;
+use crate::reading::pass_over;
+use crate::roll::Roll;
+use ground::answers::Answer;
+use stopper::table::good_table;
+use symbols::size::room_of;
+ghost use Rattle.roll.specs.Operations.{ReadingOne};
+
+// It does not check the whole roll: it goes by the entry for place div 32, and judges the codewords from there on.
+pub fn read_one(roll: Roll, buf: &[u8], dir: &[u32], place: usize) -> Answer
+    ensures { λ r. ⌜ ReadingOne roll (now (buf .entry)) (now (dir .entry)) place r ⌝ }
+{
+    let table = roll.table;
+    if !good_table(table) {
+        return Answer::Refused(1, 0);
+    }
+    let code = table.code;
+    let k = code.k;
+    let h = roll.h as usize;
+    if room_of(k, buf.len()) < h {
+        return Answer::Refused(5, h as u64);
+    }
+    if roll.n as usize <= place {
+        return Answer::Refused(10, 0);
+    }
+    let entry = place / 32;
+    if dir.len() <= entry {
+        return Answer::Refused(9, entry as u64);
+    }
+    let first = dir[entry] as usize;
+    if h <= first {
+        return Answer::Refused(9, entry as u64);
+    }
+    let sigma = table.sigma as u32;
+    let places = table.places;
+    let passed = pass_over(code, sigma, buf, h, first, place % 32);
+    match passed {
+        Passed::Bad(at) => Answer::Refused(6, at as u64),
+        Passed::At(at) => {
+            let found = codeword_at(code, sigma, buf, h, at);
+            match found {
+                Found::Word(rank, _) => Answer::Read(places[rank as usize]),
+                Found::Bad => Answer::Refused(6, at as u64),
+            }
+        }
+    }
+}
