@@ -1,4 +1,4 @@
--- Codewords where they lie: what the functions of reading.rt answer.
+-- Codewords where they lie: the one at a symbol, those passed over, and the one that read one reads.
 -- Assumes nothing.
 use mathlib.Core.Bool.{Bool, true, false}
 use mathlib.Core.List.{List}
@@ -16,7 +16,7 @@ use Rattle.roll.specs.declared.reading.Scan.the-variants.{Whole, Bad as 
 use Rattle.roll.specs.declared.reading.Passed.{Passed}
 use Rattle.roll.specs.declared.reading.Passed.the-variants.{At, Bad as passed-bad}
 
--- a place up to symbol h of a buffer that holds so many
+-- a place up to symbol h of a buffer that holds so many (the limit is at most 2 ^ 24, so h is)
 pub record Reads (c : Code) (σ : ℕ) (buf : List ℕ) (h p : ℕ) : Type 0 where
   pub good : T (goodCode c)
   pub few : σ ≤ 256

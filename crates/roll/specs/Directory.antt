@@ -24,10 +24,10 @@ startAt lengths j = sum (take j lengths)
 unfoldable pub directoryOf : List ℕ → List ℕ
 directoryOf lengths = tab (λ i. startAt lengths (i * 32)) 0 (entries (length lengths))
 
--- the lengths of a roll's codewords
+-- the lengths of a sound roll's codewords: n of them
 unfoldable pub lengthsOf : Roll → List ℕ → List ℕ
 lengthsOf r buf = map (lengthOf (r .table .code)) (ranksRead (reading r buf))
 
--- the entries that a roll has are right
+-- the entries that a sound roll has are right
 abbrev pub Right : Roll → List ℕ → List ℕ → Type 0
 Right r buf dir = take (entries (r .n)) dir ≡ directoryOf (lengthsOf r buf)

@@ -6,7 +6,7 @@ use Prim.Native.Nat.{ℕ, suc}
 use lib.Dec.{eqb, leb}
 use lib.ListN.{length, take, drop}
 
--- whether the pattern stands at the start of the text
+-- whether the pattern stands at the start of the text (an empty one would stand everywhere; refusal 11 comes before)
 unfoldable pub stands : List ℕ → List ℕ → Bool
 stands [] text = true
 stands (b ∷ pattern) [] = false

@@ -56,7 +56,7 @@ readRow c σ row = read (base c) (stoppers c) σ row
 unfoldable pub reading : Roll → List ℕ → Reading
 reading r buf = readRow (r .table .code) (r .table .sigma) (rowUpto (r .table .code) (r .h) buf)
 
--- a bad codeword, its first symbol, and the codewords read before it
+-- whether there is a bad codeword, its first symbol, and the ranks read: all of them, or those before the bad one
 unfoldable pub isBad : Reading → Bool
 isBad (done rs) = false
 isBad (bad p rs) = true
@@ -69,7 +69,7 @@ unfoldable pub ranksRead : Reading → List ℕ
 ranksRead (done rs) = rs
 ranksRead (bad p rs) = rs
 
--- the text of a roll
+-- the text of a sound roll
 unfoldable pub textOf : Roll → List ℕ → List ℕ
 textOf r buf = map (λ rank. getD (r .table .places) rank 0) (ranksRead (reading r buf))
 
