@@ -7,16 +7,16 @@ use native.Mathlib.Omega.{arith}
 use borrow.Author.Needs.{needs}
 use borrow.Author.Tests.{not-true, not-false}
 use lib.ListN.{length}
-use Rattle.ground.specs.Laws.Limit.{limit-fits}
 use Rattle.stopper.specs.Table.{goodTable}
-use Rattle.stopper.specs.Laws.Table.{is-good, table-code, table-few, code-width}
+use Rattle.stopper.specs.Laws.Table.{is-good, table-code, code-width}
 use Rattle.symbols.specs.Symbols.{Width, per, bytesFor, room, symbolsOf}
 use Rattle.symbols.specs.Runs.{run}
 use Rattle.symbols.specs.Laws.Width.{per-few}
-use Rattle.symbols.specs.Laws.Sizes.{bytesFor-enough, bytesFor-least, room-limit}
-use Rattle.symbols.specs.Laws.Rows.{room-row, ends-inside}
+use Rattle.symbols.specs.Laws.Sizes.{bytesFor-enough, bytesFor-least}
+use Rattle.symbols.specs.Laws.Rows.{ends-inside}
 use Rattle.roll.specs.Roll.{reading, allZero, unusedOf}
-use Rattle.roll.specs.Codewords.{scanned}
+use Rattle.roll.specs.Codewords.{Reads, scanned}
+use Rattle.roll.specs.Laws.Sound.{table-reads}
 use Rattle.roll.specs.Laws.Operations.{check-1, check-5, check-6, check-7, check-8, check-yes}
 use Rattle.roll.specs.declared.reading.Scan.the-variants.{Whole}
 use Rattle.roll.proofs.check.check.Statement.{statement}
@@ -41,13 +41,12 @@ width c = let t = start c .args .roll .table in code-width (t .code) (table-code
 fits : (c : tie.Else2) → let a = start (tabled c) .args in a .roll .h ≤ room (a .roll .table .code .k) (length (a .buf .now))
 fits c = omega (arith, c .if2 .left, c .before .room-of .ensures)
 
-held : (c : tie.Else2) → let a = start (tabled c) .args in a .roll .h ≤ length (symbolsOf (a .roll .table .code .k) (a .buf .now))
-held c = let a = start (tabled c) .args in room-row (a .roll .table .code .k) (a .buf .now) (a .roll .h) (fits c)
-
-small : (c : tie.Else2) → start (tabled c) .args .roll .h ≤ 16777216
-small c =
-    let a = start (tabled c) .args in
-    omega (arith, fits c, room-limit (a .roll .table .code .k) (length (a .buf .now)), limit-fits)
+-- symbols up to symbol h may be read
+reads : (c : tie.Else2) → let a = start (tabled c) .args in Reads (a .roll .table .code) (a .roll .table .sigma) (a .buf .now) (a .roll .h) 0
+reads c =
+    let e = tabled c in
+    let a = start e .args in
+    table-reads (a .roll) (a .buf .now) (is-good (a .roll .table) (good e)) (fits c) 0 (omega arith)
 
 -- all codewords are read
 whole : (c : tie.After-read2) → let a = start (tabled (fitted c)) .args in Whole (c .read2 .given .0 .0) ≡ scanned (reading (a .roll) (a .buf .now))
@@ -87,11 +86,7 @@ cast-sigma : tie.Need-cast-sigma
 cast-sigma c = search needs
 
 read-all-requires : tie.Need-read-all-requires
-read-all-requires c κs =
-    let e = tabled (c .before) in
-    let t = start e .args .roll .table in
-    let g = is-good t (good e) in
-    record { good = table-code t g; few = table-few t g; held = held (c .before); small = small (c .before); upto = omega arith }
+read-all-requires c κs = reads (c .before)
 
 enum-known-read : tie.Need-enum-known-read
 enum-known-read c = search needs
@@ -116,13 +111,13 @@ add-all-zero : tie.Need-add-all-zero
 add-all-zero c =
     let f = fitted (c .before .before .before .before) in
     let e = tabled f in
-    omega (arith, end-is c, bytesFor-least (width e) (start e .args .roll .h), per-few (width e), small f)
+    omega (arith, end-is c, bytesFor-least (width e) (start e .args .roll .h), per-few (width e), reads f .small)
 
 all-zero-requires : tie.Need-all-zero-requires
 all-zero-requires c κs =
     let f = fitted (c .before .before .before .before) in
     let e = tabled f in
-    (width e, omega arith, omega (arith, end-is c, ends-inside (width e) (start e .args .buf .now) (start e .args .roll .h) (held f)))
+    (width e, omega arith, omega (arith, end-is c, ends-inside (width e) (start e .args .buf .now) (start e .args .roll .h) (reads f .held)))
 
 returns-4 : tie.Need-returns-4
 returns-4 c =
