@@ -8,7 +8,7 @@ use Rattle.ground.specs.declared.answers.Done.{Done}
 use Rattle.ground.specs.declared.answers.Done.the-variants.{Yes, Refused}
 use Rattle.stopper.specs.Table.{characters, rankIn, wordOf}
 use Rattle.stopper.specs.declared.table.Table.{Table}
-use Rattle.roll.specs.declared.roll.Roll.{Roll}
+use Rattle.buffer.specs.declared.roll.Roll.{Roll}
 
 -- 0 and what is answered, or the refusal's number and value
 abbrev pub numberOf : Outcome ℕ → ℕ

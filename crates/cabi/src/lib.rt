@@ -23,11 +23,11 @@ ghost use mathlib.Core.List.{_++_};
 ghost use Prim.Native.Nat.{_-_};
 ghost use lib.ListN.{drop};
 ghost use Rattle.symbols.specs.Runs.{run};
-ghost use Rattle.roll.specs.Roll.{textOf, symbolsFor, recordOf, packedInto};
+ghost use Rattle.buffer.specs.Roll.{textOf, symbolsFor, recordOf, packedInto};
 ghost use lib.ListN.{getD};
-ghost use Rattle.roll.specs.Codewords.{oneRank};
-ghost use Rattle.roll.specs.Directory.{entries, directoryOf, lengthsOf};
-ghost use Rattle.roll.specs.Hits.{hits, listed};
+ghost use Rattle.buffer.specs.Codewords.{oneRank};
+ghost use Rattle.buffer.specs.Directory.{entries, directoryOf, lengthsOf};
+ghost use Rattle.buffer.specs.Hits.{hits, listed};
 ghost use Rattle.roll.specs.Operations.{checkRows, unpackRows, packRows, makeRows, readRows, oneRead, searchRows};
 ghost use Rattle.cabi.specs.Taken.{Told, tableAt, rollAt, wordAt};
 

@@ -1,7 +1,7 @@
 // Arguments taken together, and answers taken apart.
+use buffer::roll::Roll;
 use ground::answers::Answer;
 use ground::answers::Done;
-use roll::roll::Roll;
 use stopper::code::Code;
 use stopper::table::Table;
 ghost use mathlib.Core.Path.{_≡_};

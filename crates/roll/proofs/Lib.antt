@@ -1,4 +1,2 @@
 pub mod Not
-pub mod Scans
-pub mod Seen
 pub mod Tight

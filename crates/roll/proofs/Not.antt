@@ -18,13 +18,13 @@ use Rattle.stopper.specs.Code.{codeword, place, first, shorter, opens, spell, r
 use Rattle.stopper.specs.Table.{stoppers, goodWidth, goodCode, goodCharacters, goodTable, has, repeats, rankIn, lengthOf}
 use Rattle.stopper.specs.Reading.{read, readFrom, ahead, write, firstFrom, firstWord}
 use Rattle.symbols.specs.Symbols.{per, bytesFor, room, shift, symbolAt, symbolsOf, number, byteAt, bytesOf}
-use Rattle.roll.specs.Roll.{firstForeign, firstOver, textRow, reading, isBad, firstBad, ranksRead, textOf, allZero}
-use Rattle.roll.specs.Codewords.{foundIn, foundAt, passedFrom, oneFound, onePassed, oneFrom, oneIsLost, oneLost, oneRank}
-use Rattle.roll.specs.Directory.{entries, sum, startAt, directoryOf, lengthsOf}
-use Rattle.roll.specs.Hits.{stands, hitsFrom, hits, goodPattern}
+use Rattle.buffer.specs.Roll.{firstForeign, firstOver, textRow, reading, isBad, firstBad, ranksRead, textOf, allZero}
+use Rattle.buffer.specs.Codewords.{foundIn, foundAt, passedFrom, oneFound, onePassed, oneFrom, oneIsLost, oneLost, oneRank}
+use Rattle.buffer.specs.Directory.{entries, sum, startAt, directoryOf, lengthsOf}
+use Rattle.buffer.specs.Hits.{stands, hitsFrom, hits, goodPattern}
 use Rattle.roll.specs.Operations.{Searching, Packing, Checking, Unpacking, Making, ReadingOne}
 use Rattle.roll.specs.Worked.{abra, packedAbra}
-use Rattle.roll.specs.declared.roll.Roll.{Roll}
+use Rattle.buffer.specs.declared.roll.Roll.{Roll}
 use Rattle.roll.specs.declared.pack.Packed.{Packed}
 
 -- an accepted outcome is no refusal

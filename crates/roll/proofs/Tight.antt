@@ -7,7 +7,7 @@ use borrow.Fn.Kinds.{Dens, resT, endedOf}
 use denote.Triple.Clauses.{AtExit}
 use Rattle.ground.specs.Laws.Answers.{done-one, answer-one, total-one}
 use Rattle.ground.specs.declared.answers.Done.{Done}
-use Rattle.roll.specs.declared.roll.Roll.{Roll}
+use Rattle.buffer.specs.declared.roll.Roll.{Roll}
 use Rattle.roll.specs.declared.pack.Packed.{Packed}
 use Rattle.roll.proofs.pack.pack.Kinds as pack-kinds
 use Rattle.roll.proofs.pack.pack.Reads as pack-reads

@@ -1,12 +1,12 @@
 -- The operations, in the paper's order: the refusals of each, and its promise.
 -- Assumes nothing.
 use mathlib.Core.Path.{_≡_}
-use mathlib.Core.Bool.{Bool, false, not, _||_}
+use mathlib.Core.Bool.{not, _||_}
 use mathlib.Core.List.{List, [], _∷_, _++_}
-use Prim.Native.Nat.{ℕ, _-_, _*_, _/_, _%_, _≤_}
-use lib.Dec.{T, ltb, leb, eqb}
+use Prim.Native.Nat.{ℕ, _-_, _/_, _%_}
+use lib.Dec.{ltb, leb, eqb}
 use lib.ListN.{length, drop, getD}
-use Rattle.ground.specs.Refusals.{Row, Outcome, refuse, judged, kept}
+use Rattle.ground.specs.Refusals.{Row, refuse, judged, kept}
 use Rattle.ground.specs.Answers.{doneSays, answerSays, totalSays}
 use Rattle.ground.specs.declared.answers.Done.{Done}
 use Rattle.ground.specs.declared.answers.Done.the-variants.{Refused}
@@ -16,11 +16,11 @@ use Rattle.stopper.specs.Table.{goodTable, characters}
 use Rattle.symbols.specs.Symbols.{room}
 use Rattle.symbols.specs.Runs.{run}
 use Rattle.stopper.specs.declared.table.Table.{Table}
-use Rattle.roll.specs.Roll.{firstForeign, firstOver, symbolsFor, recordOf, packedInto, rowUpto, reading, isBad, firstBad, ranksRead, textOf, allZero, unusedOf}
-use Rattle.roll.specs.Codewords.{One, oneFrom, oneIsLost, oneLost, oneRank}
-use Rattle.roll.specs.Directory.{entries, directoryOf, lengthsOf}
-use Rattle.roll.specs.Hits.{hits, goodPattern, listed}
-use Rattle.roll.specs.declared.roll.Roll.{Roll}
+use Rattle.buffer.specs.Roll.{firstForeign, firstOver, symbolsFor, recordOf, packedInto, rowUpto, reading, isBad, firstBad, ranksRead, textOf, allZero, unusedOf}
+use Rattle.buffer.specs.Codewords.{One, oneFrom, oneIsLost, oneLost, oneRank}
+use Rattle.buffer.specs.Directory.{entries, directoryOf, lengthsOf}
+use Rattle.buffer.specs.Hits.{hits, goodPattern, listed}
+use Rattle.buffer.specs.declared.roll.Roll.{Roll}
 use Rattle.roll.specs.declared.pack.Packed.{Packed}
 
 -- ---- pack: 1, 3, 4
@@ -60,14 +60,6 @@ checkRows r buf =
 
 pub record Checking (r : Roll) (buf : List ℕ) (answer : Done) : Type 0 where
   pub says : doneSays answer ≡ judged (checkRows r buf) tt
-
--- a roll is sound if all checks pass
-pub record Sound (r : Roll) (buf : List ℕ) : Type 0 where
-  pub table : T (goodTable (r .table))
-  pub fits : r .h ≤ room (r .table .code .k) (length buf)
-  pub reads : isBad (reading r buf) ≡ false
-  pub count : length (ranksRead (reading r buf)) ≡ r .n
-  pub unused : T (allZero (unusedOf r buf))
 
 -- ---- unpack a range: check's, 10, 13
 

@@ -9,18 +9,18 @@ use Rattle.ground.specs.Limit.{limit}
 use Rattle.ground.specs.Refusals.{Outcome, accepted, refused, judged, kept}
 use Rattle.ground.specs.Rows.{tab, zeros, padded}
 use Rattle.stopper.specs.Code.{codeword, place, first, shorter, opens, spell, rankOf, rankFrom, rankAt}
-use Rattle.stopper.specs.Table.{base, stoppers, goodWidth, goodCode, goodCharacters, goodTable, has, repeats, rankIn, characters, lengthOf, wordOf, tableOf}
+use Rattle.stopper.specs.Table.{stoppers, goodWidth, goodCode, goodCharacters, goodTable, has, repeats, rankIn, lengthOf, wordOf, tableOf}
 use Rattle.stopper.specs.Reading.{read, readFrom, ahead, write}
 use Rattle.stopper.specs.Ranking.{key, insert, rankedFrom, ranked}
 use Rattle.stopper.specs.Choosing.{occurs, countsOf, counted, totalFrom, total, least, chosen, chosenTable}
 use Rattle.symbols.specs.Symbols.{per, bytesFor, room, shift, symbolAt, symbolsOf, number, byteAt, bytesOf}
 use Rattle.stopper.specs.declared.table.Table.{Table}
-use Rattle.roll.specs.Roll.{firstForeign, firstOver, textRow, symbolsFor, recordOf, packedInto, reading, isBad, firstBad, ranksRead, textOf, allZero}
+use Rattle.buffer.specs.Roll.{firstForeign, firstOver, textRow, symbolsFor, recordOf, packedInto, reading, isBad, firstBad, ranksRead, textOf, allZero}
 use Rattle.roll.specs.Operations.{packRows, unpacked, checkRows, unpackRows, searchRows}
 use Rattle.symbols.specs.Runs.{run}
-use Rattle.roll.specs.Directory.{sum, startAt, lengthsOf}
-use Rattle.roll.specs.Hits.{stands, hitsFrom, hits, goodPattern, listed}
-use Rattle.roll.specs.declared.roll.Roll.{Roll}
+use Rattle.buffer.specs.Directory.{sum, startAt, lengthsOf}
+use Rattle.buffer.specs.Hits.{stands, hitsFrom, hits, goodPattern, listed}
+use Rattle.buffer.specs.declared.roll.Roll.{Roll}
 
 -- ---- whether two are the same
 

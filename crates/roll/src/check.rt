@@ -1,7 +1,7 @@
 // Checking a roll. Sound means that all checks pass.
-use crate::reading::Scan;
-use crate::reading::read_all;
-use crate::roll::Roll;
+use buffer::reading::Scan;
+use buffer::reading::read_all;
+use buffer::roll::Roll;
 use ground::answers::Done;
 use stopper::table::good_table;
 use symbols::size::room_of;
@@ -12,7 +12,7 @@ ghost use Prim.Native.Nat.{_+_, _≤_};
 ghost use lib.ListN.{length};
 ghost use Rattle.symbols.specs.Symbols.{Width, symbolsOf};
 ghost use Rattle.symbols.specs.Runs.{run};
-ghost use Rattle.roll.specs.Roll.{allZero};
+ghost use Rattle.buffer.specs.Roll.{allZero};
 ghost use Rattle.roll.specs.Operations.{Checking};
 
 // Whether the symbols from `from` up to `to` are all 0.

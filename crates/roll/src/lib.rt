@@ -1,11 +1,8 @@
 // The packed roll: a text packed as base symbols in a lent buffer, with its record.
-// Read roll.rt (the record) and reading.rt (codewords in a buffer), then the operations: check, unpack, pack, make_directory, read_one, search.
+// Each operation is its refusals, in the paper's order, and then a helper of the crate buffer.
 pub mod check;
 pub mod make_directory;
 pub mod pack;
 pub mod read_one;
-pub mod reading;
-pub mod roll;
 pub mod search;
 pub mod unpack;
-mod words;

@@ -1,10 +1,10 @@
 // Packing a text under a table.
-use crate::roll::Roll;
-use crate::words::Fit;
-use crate::words::first_foreign;
-use crate::words::fitting;
-use crate::words::spell_all;
-use crate::words::write_text;
+use buffer::roll::Roll;
+use buffer::words::Fit;
+use buffer::words::first_foreign;
+use buffer::words::fitting;
+use buffer::words::spell_all;
+use buffer::words::write_text;
 use ground::answers::Done;
 use stopper::table::Table;
 use stopper::table::good_table;

@@ -1,9 +1,9 @@
 // Reading one character.
-use crate::reading::Found;
-use crate::reading::Passed;
-use crate::reading::codeword_at;
-use crate::reading::pass_over;
-use crate::roll::Roll;
+use buffer::reading::Found;
+use buffer::reading::Passed;
+use buffer::reading::codeword_at;
+use buffer::reading::pass_over;
+use buffer::roll::Roll;
 use ground::answers::Answer;
 use stopper::table::good_table;
 use symbols::size::room_of;

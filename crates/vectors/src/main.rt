@@ -6,6 +6,7 @@
 mod given;
 mod printed;
 
+use buffer::roll::Roll;
 use given::bytes;
 use given::number;
 use given::numbers;
@@ -20,7 +21,6 @@ use printed::number_out;
 use printed::refused;
 use printed::roll_out;
 use printed::runs;
-use roll::roll::Roll;
 use stopper::table::Table;
 
 fn main() {

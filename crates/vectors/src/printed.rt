@@ -1,6 +1,6 @@
 // What is printed of an outcome.
+use buffer::roll::Roll;
 use ground::answers::Done;
-use roll::roll::Roll;
 
 pub fn number_out(n: usize) {
     io::print_decimal(1, n as u64);

@@ -3,9 +3,9 @@
 use mathlib.Core.Path.{_≡_, refl, sym, ap, _∙_}
 use Rattle.ground.specs.Answers.{doneSays}
 use Rattle.ground.specs.Laws.Refusals.{refused-keeps, accepted-leaves}
-use Rattle.roll.specs.Roll.{recordOf}
+use Rattle.buffer.specs.Roll.{recordOf}
 use Rattle.roll.specs.Operations.{packRows, unpacked}
-use Rattle.roll.specs.declared.roll.Roll.{Roll}
+use Rattle.buffer.specs.declared.roll.Roll.{Roll}
 use Rattle.cabi.specs.Taken.{tableAt}
 use Rattle.cabi.specs.Laws.{told-yes, told-no}
 use borrow.Author.Needs.{needs}

@@ -13,13 +13,13 @@ use lib.ListN.{length}
 use Rattle.stopper.specs.Table.{goodTable, characters}
 use Rattle.stopper.specs.declared.table.Table.{Table}
 use Rattle.symbols.specs.Symbols.{room}
-use Rattle.roll.specs.Roll.{firstForeign, firstOver, symbolsFor, reading, ranksRead, allZero, unusedOf}
-use Rattle.roll.specs.Operations.{packRows, checkRows, Sound, unpackRows}
-use Rattle.roll.specs.Laws.Characters.{InTable, known-foreign, foreign-known, foreign-within}
+use Rattle.buffer.specs.Roll.{firstForeign, firstOver, symbolsFor, reading, ranksRead, allZero, unusedOf, Sound}
+use Rattle.roll.specs.Operations.{packRows, checkRows, unpackRows}
+use Rattle.buffer.specs.Laws.Characters.{InTable, known-foreign, foreign-known, foreign-within}
 use Rattle.ground.specs.Laws.Refusals.{Accepted, accepted-none, accepted-both, accepted-parts}
 use Rattle.ground.specs.Laws.Tests.{yes-true, true-yes}
-use Rattle.roll.specs.Laws.Texts.{over-all, over-within}
-use Rattle.roll.specs.declared.roll.Roll.{Roll}
+use Rattle.buffer.specs.Laws.Texts.{over-all, over-within}
+use Rattle.buffer.specs.declared.roll.Roll.{Roll}
 use Rattle.ground.specs.Refusals.{Row, refuse}
 
 -- ---- check: the roll is sound

@@ -1,13 +1,13 @@
 -- What a sound roll is: a text packed. Unpacking what was packed gives the text, and packing what was unpacked gives the roll.
 -- Assumes nothing.
-use mathlib.Core.Path.{_≡_, sym, ap, ap₂, subst, _∙_}
+use mathlib.Core.Path.{_≡_, refl, sym, ap, ap₂, subst, _∙_}
 use mathlib.Core.Logic.{_↔_}
 use mathlib.Core.List.{List, _++_}
 use Prim.Native.Nat.{ℕ, _-_, _≤_}
 use native.Mathlib.Nat.{le-refl, le-of-eq, sub-zero}
 use native.Mathlib.Omega.{arith}
-use lib.ListN.{length, take, drop, getD, length-map, take-append-drop}
-use lib.Seq.{take-all}
+use lib.ListN.{length, take, drop, getD, length-append, length-drop, length-map, take-append-drop}
+use lib.Seq.{take-all, take-at}
 use Rattle.ground.specs.Answers.{doneSays}
 use Rattle.ground.specs.Rows.{Below}
 use Rattle.ground.specs.Laws.Answers.{done-one}
@@ -15,19 +15,40 @@ use Rattle.ground.specs.Laws.Refusals.{accepted-leaves}
 use Rattle.ground.specs.declared.answers.Done.{Done}
 use Rattle.ground.specs.declared.answers.Done.the-variants.{Yes}
 use Rattle.stopper.specs.Table.{characters}
+use Rattle.stopper.specs.Laws.Table.{code-width, table-code}
 use Rattle.stopper.specs.declared.table.Table.{Table}
-use Rattle.symbols.specs.Symbols.{bytesFor, room, symbolsOf, bytesOf}
+use Rattle.symbols.specs.Symbols.{Width, bytesFor, room, symbolsOf, bytesOf}
+use Rattle.symbols.specs.Laws.Sizes.{room-bytes}
+use Rattle.symbols.specs.Laws.Packing.{bytes-length}
 use Rattle.symbols.specs.Runs.{run}
-use Rattle.roll.specs.Roll.{symbolsFor, recordOf, packedInto, reading, ranksRead, textOf}
-use Rattle.roll.specs.Operations.{packRows, unpackRows, Packing, Sound, Unpacking}
+use Rattle.buffer.specs.Roll.{symbolsFor, recordOf, packedInto, reading, ranksRead, textOf, Sound}
+use Rattle.roll.specs.Operations.{packRows, unpackRows, Packing, Unpacking}
 use Rattle.ground.specs.Laws.Refusals.{Accepted}
-use Rattle.roll.specs.Laws.Characters.{InTable}
+use Rattle.buffer.specs.Laws.Characters.{InTable}
 use Rattle.roll.specs.Laws.Accepting.{Packs, packs-accepted, accepted-packs, Unpacks, unpacks-accepted}
-use Rattle.roll.specs.Laws.Holding.{widthOf, Holds, packed-holds, holds-sound, holds-text, sound-known, sound-record, sound-symbols, sound-bytes, sound-holds}
-use Rattle.roll.specs.declared.roll.Roll.{Roll}
+use Rattle.buffer.specs.Laws.Holding.{widthOf, Holds, holds-sound, holds-text, sound-known, sound-record, sound-symbols, sound-bytes, sound-holds}
+use Rattle.buffer.specs.declared.roll.Roll.{Roll}
 use Rattle.roll.specs.declared.pack.Packed.{Packed}
 
 -- ---- a packed text
+
+-- packing makes it so
+pub packed-holds : (t : Table) (text buf : List ℕ) → Packs t text buf → Holds (recordOf t text) (packedInto (t .code .k) (symbolsFor t text) buf) text
+packed-holds t text buf p =
+    let k : ℕ = t .code .k in
+    let w : Width k = code-width (t .code) (table-code t (p .good)) in
+    let row : List ℕ = symbolsFor t text in
+    let n : ℕ = bytesFor k (length row) in
+    let e : length (bytesOf k row) ≡ n = bytes-length w row in
+    let within : n ≤ length buf = room-bytes w (length row) (length buf) (p .fits) in
+    let same : length (bytesOf k row ++ drop n buf) ≡ length buf = simp (length-append, length-drop) (omega arith) in
+    record {
+      good = p .good;
+      known = p .known;
+      is = refl;
+      fits = rw same (p .fits);
+      bytes = sym (take-at (bytesOf k row) (drop n buf) n e);
+    }
 
 module _ (t : Table) (text buf : List ℕ) (p : Packs t text buf) where
   pub packed-sound : Sound (recordOf t text) (packedInto (t .code .k) (symbolsFor t text) buf)

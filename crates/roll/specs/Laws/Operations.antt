@@ -19,21 +19,21 @@ use Rattle.stopper.specs.Table.{goodTable, characters}
 use Rattle.stopper.specs.Reading.{Reading, done, bad}
 use Rattle.symbols.specs.Symbols.{room, Width, per, bytesFor, symbolsOf}
 use Rattle.symbols.specs.Runs.{run, cleared}
-use Rattle.roll.specs.Roll.{reading, isBad, firstBad, ranksRead, textOf, allZero, unusedOf, firstForeign, firstOver, symbolsFor, packedInto}
-use Rattle.roll.specs.Codewords.{scanned, one, lost, oneIsLost, oneLost, oneRank}
-use Rattle.roll.specs.Directory.{entries, directoryOf, lengthsOf}
-use Rattle.roll.specs.Operations.{checkRows, Checking, Sound, unpackRows, Unpacking, Packing, refusedPack, makeRows, Making, oneRead, ReadingOne, searchRows, Searching}
-use Rattle.roll.specs.declared.roll.Roll.{Roll}
-use Rattle.roll.specs.declared.reading.Scan.the-variants.{Whole, Bad}
+use Rattle.buffer.specs.Roll.{reading, isBad, firstBad, ranksRead, textOf, allZero, unusedOf, firstForeign, firstOver, symbolsFor, packedInto, Sound}
+use Rattle.buffer.specs.Codewords.{scanned, one, lost, oneIsLost, oneLost, oneRank}
+use Rattle.buffer.specs.Directory.{entries, directoryOf, lengthsOf}
+use Rattle.roll.specs.Operations.{checkRows, Checking, unpackRows, Unpacking, Packing, refusedPack, makeRows, Making, oneRead, ReadingOne, searchRows, Searching}
+use Rattle.buffer.specs.declared.roll.Roll.{Roll}
+use Rattle.buffer.specs.declared.reading.Scan.the-variants.{Whole, Bad}
 use Rattle.ground.specs.Rows.{Below}
 use Rattle.stopper.specs.declared.table.Table.{Table}
 use Rattle.symbols.specs.Laws.Packing.{packed-cleared}
-use Rattle.roll.specs.Words.{atFront}
+use Rattle.buffer.specs.Words.{atFront}
 use Rattle.roll.specs.declared.pack.Packed.{Packed}
 use Rattle.roll.specs.Laws.Accepting.{sound-accepted, accepted-sound}
 use Rattle.ground.specs.declared.answers.Total.{Total}
 use Rattle.ground.specs.declared.answers.Total.the-variants.{Of, Refused as total-refused}
-use Rattle.roll.specs.Hits.{hits, goodPattern, listed}
+use Rattle.buffer.specs.Hits.{hits, goodPattern, listed}
 
 -- ---- pack
 

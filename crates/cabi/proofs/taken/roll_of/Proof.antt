@@ -2,7 +2,7 @@
 -- Assumes nothing.
 use mathlib.Core.Path.{ap}
 use Rattle.stopper.specs.declared.table.Table.{Table}
-use Rattle.roll.specs.declared.roll.Roll.{Roll}
+use Rattle.buffer.specs.declared.roll.Roll.{Roll}
 use borrow.Author.Needs.{needs}
 use Rattle.cabi.proofs.taken.roll_of.Statement.{statement}
 use Rattle.cabi.proofs.taken.roll_of.Tie as tie

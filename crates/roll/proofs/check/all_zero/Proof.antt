@@ -6,8 +6,8 @@ use Prim.Native.Nat.{ℕ, _-_, _≤_}
 use native.Mathlib.Omega.{arith}
 use Rattle.symbols.specs.Symbols.{symbolsOf}
 use Rattle.symbols.specs.Runs.{run}
-use Rattle.roll.specs.Roll.{allZero}
-use Rattle.roll.specs.Laws.Sound.{zero-none, zero-more, zero-not}
+use Rattle.buffer.specs.Roll.{allZero}
+use Rattle.buffer.specs.Laws.Sound.{zero-none, zero-more, zero-not}
 use Rattle.roll.proofs.check.all_zero.Statement.{statement}
 use Rattle.roll.proofs.check.all_zero.Tie as tie
 

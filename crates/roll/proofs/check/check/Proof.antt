@@ -14,11 +14,11 @@ use Rattle.symbols.specs.Runs.{run}
 use Rattle.symbols.specs.Laws.Width.{per-few}
 use Rattle.symbols.specs.Laws.Sizes.{bytesFor-enough, bytesFor-least}
 use Rattle.symbols.specs.Laws.Rows.{ends-inside}
-use Rattle.roll.specs.Roll.{reading, allZero, unusedOf}
-use Rattle.roll.specs.Codewords.{Reads, scanned}
-use Rattle.roll.specs.Laws.Sound.{table-reads}
+use Rattle.buffer.specs.Roll.{reading, allZero, unusedOf}
+use Rattle.buffer.specs.Codewords.{Reads, scanned}
+use Rattle.buffer.specs.Laws.Sound.{table-reads}
 use Rattle.roll.specs.Laws.Operations.{check-1, check-5, check-6, check-7, check-8, check-yes}
-use Rattle.roll.specs.declared.reading.Scan.the-variants.{Whole}
+use Rattle.buffer.specs.declared.reading.Scan.the-variants.{Whole}
 use Rattle.roll.proofs.check.check.Statement.{statement}
 use Rattle.roll.proofs.check.check.Tie as tie
 

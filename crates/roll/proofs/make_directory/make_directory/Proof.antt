@@ -2,7 +2,7 @@
 -- Assumes nothing.
 use native.Mathlib.Omega.{arith}
 use borrow.Author.Needs.{needs}
-use Rattle.roll.specs.Operations.{Sound}
+use Rattle.buffer.specs.Roll.{Sound}
 use Rattle.roll.specs.Laws.Operations.{check-sound, make-check, make-12, make-yes}
 use Rattle.roll.proofs.make_directory.make_directory.Statement.{statement}
 use Rattle.roll.proofs.make_directory.make_directory.Tie as tie

@@ -21,11 +21,11 @@ use Rattle.symbols.specs.Symbols.{Width, per, bytesFor, room, symbolsOf}
 use Rattle.symbols.specs.Laws.Rows.{room-row, symbols-even, ends-inside}
 use Rattle.symbols.specs.Laws.Sizes.{room-limit, bytesFor-enough, bytesFor-least}
 use Rattle.symbols.specs.Laws.Width.{per-few}
-use Rattle.roll.specs.Roll.{firstForeign, symbolsFor}
-use Rattle.roll.specs.Words.{uptoOf, takenOf, Spelt}
-use Rattle.roll.specs.Laws.Words.{Fitted, foreign-found, over-found, all-fitted, laid, row-below}
+use Rattle.buffer.specs.Roll.{firstForeign, symbolsFor}
+use Rattle.buffer.specs.Words.{uptoOf, takenOf, Spelt}
+use Rattle.buffer.specs.Laws.Words.{Fitted, foreign-found, over-found, all-fitted, laid, row-below}
 use Rattle.roll.specs.Laws.Operations.{pack-1, pack-3, pack-4, pack-yes, packed-front}
-use Rattle.roll.specs.declared.words.Fit.{Fit}
+use Rattle.buffer.specs.declared.words.Fit.{Fit}
 use Rattle.roll.proofs.pack.pack.Statement.{statement}
 use Rattle.roll.proofs.pack.pack.Tie as tie
 

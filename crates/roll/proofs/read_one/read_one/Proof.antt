@@ -12,14 +12,14 @@ use Rattle.ground.specs.declared.answers.Answer.the-variants.{Refused}
 use Rattle.stopper.specs.Table.{goodTable}
 use Rattle.stopper.specs.Laws.Table.{is-good, table-code, code-width}
 use Rattle.symbols.specs.Symbols.{room}
-use Rattle.roll.specs.Roll.{rowUpto}
-use Rattle.roll.specs.Codewords.{Reads, foundAt, passedFrom, lost}
+use Rattle.buffer.specs.Roll.{rowUpto}
+use Rattle.buffer.specs.Codewords.{Reads, foundAt, passedFrom, lost}
 use Rattle.roll.specs.Operations.{oneRead, ReadingOne}
-use Rattle.roll.specs.Laws.Codewords.{found-word, passed-upto, one-passed, one-bad, one-word}
-use Rattle.roll.specs.Laws.Sound.{row-length, table-reads}
+use Rattle.buffer.specs.Laws.Codewords.{found-word, passed-upto, one-passed, one-bad, one-word}
+use Rattle.buffer.specs.Laws.Sound.{row-length, table-reads}
 use Rattle.roll.specs.Laws.Operations.{read-1, read-5, read-10, read-9-missing, read-9-wrong, read-6, read-yes}
-use Rattle.roll.specs.declared.reading.Found.the-variants.{Word}
-use Rattle.roll.specs.declared.reading.Passed.the-variants.{At}
+use Rattle.buffer.specs.declared.reading.Found.the-variants.{Word}
+use Rattle.buffer.specs.declared.reading.Passed.the-variants.{At}
 use Rattle.roll.proofs.read_one.read_one.Statement.{statement}
 use Rattle.roll.proofs.read_one.read_one.Tie as tie
 

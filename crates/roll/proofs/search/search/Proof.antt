@@ -6,8 +6,8 @@ use mathlib.Core.Bool.{true}
 use borrow.Author.Needs.{needs}
 use borrow.Author.Tests.{ltb-true, ltb-false}
 use Rattle.ground.specs.Laws.Tests.{true-yes}
-use Rattle.roll.specs.Hits.{goodPattern}
-use Rattle.roll.specs.Operations.{Sound}
+use Rattle.buffer.specs.Hits.{goodPattern}
+use Rattle.buffer.specs.Roll.{Sound}
 use Rattle.roll.specs.Laws.Operations.{check-sound, pattern-bad, pattern-good, search-check, search-11, search-yes}
 use Rattle.roll.proofs.search.search.Statement.{statement}
 use Rattle.roll.proofs.search.search.Tie as tie

@@ -1,7 +1,7 @@
 -- `roll::unpack::unpack` meets its contract.
 -- Assumes nothing.
 use borrow.Author.Needs.{needs}
-use Rattle.roll.specs.Operations.{Sound}
+use Rattle.buffer.specs.Roll.{Sound}
 use Rattle.roll.specs.Laws.Operations.{check-sound, unpack-check, unpack-10-start, unpack-10-end, unpack-13, unpack-yes}
 use Rattle.roll.proofs.unpack.unpack.Statement.{statement}
 use Rattle.roll.proofs.unpack.unpack.Tie as tie

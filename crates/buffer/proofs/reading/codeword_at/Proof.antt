@@ -1,0 +1,133 @@
+-- `buffer::reading::codeword_at` meets its contract: `Seen` of the symbols up to h.
+-- Assumes nothing.
+use mathlib.Core.Path.{_≡_, sym, _∙_}
+use mathlib.Core.List.{List}
+use Prim.Native.Nat.{ℕ, _-_, _≤_, _<_}
+use native.Mathlib.Omega.{arith}
+use borrow.Author.Needs.{needs}
+use lib.ListN.{length, getD}
+use lib.Seq.{length-take-le, getD-take}
+use Rattle.ground.specs.Laws.Rows.{below-at}
+use Rattle.stopper.specs.Table.{base}
+use Rattle.stopper.specs.Laws.Table.{code-width}
+use Rattle.stopper.specs.Laws.State.{state-small}
+use Rattle.symbols.specs.Symbols.{symbolsOf}
+use Rattle.symbols.specs.Laws.Rows.{symbols-below}
+use Rattle.buffer.specs.Roll.{rowUpto}
+use Rattle.buffer.proofs.Seen.{Seen, start, ended, is-bad, is-rank, is-open}
+use Rattle.buffer.proofs.reading.codeword_at.Statement.{statement}
+use Rattle.buffer.proofs.reading.codeword_at.Tie as tie
+
+abbrev Inv-loop : tie.InvT-loop
+Inv-loop code sigma buf h p k r₀ i₀ r i = (i ≤ h) × Seen code sigma (rowUpto code h buf) p i r
+
+abbrev μ-loop : tie.MeasureT-loop
+μ-loop code sigma buf h p k r₀ i₀ r i = h - i
+
+-- all symbols, and those up to h
+abbrev all : (c : tie.Start Inv-loop μ-loop) → List ℕ
+all c = symbolsOf (c .args .code .k) (c .args .buf .now)
+
+abbrev row : (c : tie.Start Inv-loop μ-loop) → List ℕ
+row c = rowUpto (c .args .code) (c .args .h) (c .args .buf .now)
+
+long : (c : tie.Start Inv-loop μ-loop) → length (row c) ≡ c .args .h
+long c = length-take-le (c .args .h) (all c) (c .pre .held)
+
+-- the symbol in hand
+inside : (c : tie.In-loop Inv-loop μ-loop) → c .before .loop .i < length (row (c .before .before .before .before))
+inside c = omega (arith, long (c .before .before .before .before), c .loop-test .taken)
+
+here : (c : tie.After-get Inv-loop μ-loop) → let l = c .before .before in getD (row (l .before .before .before)) (l .loop .i) 0 ≡ c .get .result
+here c =
+    let l = c .before .before in
+    let s = l .before .before .before in
+    getD-take (s .args .h) (all s) (l .loop .i) 0 (c .before .loop-test .taken) ∙ sym (c .get .ensures)
+
+opening-requires : tie.Need-opening-requires Inv-loop μ-loop
+opening-requires c κs = search needs
+
+loop-holds : tie.Need-loop-holds Inv-loop μ-loop
+loop-holds c =
+    let s = c .before .before in
+    (s .pre .upto, rw (c .opening .ensures) (start (s .args .code) (s .args .sigma) (row s) (s .args .p)))
+
+get-requires : tie.Need-get-requires Inv-loop μ-loop
+get-requires c κs =
+    let s = c .before .before .before .before in
+    (code-width (s .args .code) (s .pre .good), omega (arith, s .pre .held, c .loop-test .taken))
+
+add-i : tie.Need-add-i Inv-loop μ-loop
+add-i c = omega arith
+
+read-symbol-requires : tie.Need-read-symbol-requires Inv-loop μ-loop
+read-symbol-requires c κs =
+    let l = c .before .before in
+    let s = l .before .before .before in
+    let v = l .loop .inv .1 in
+    (s .pre .good, s .pre .few, rw (v .state) (state-small (s .args .code) (s .pre .good) (s .args .sigma) (s .pre .few) (v .j) (v .x) (v .value)))
+
+enum-known-next : tie.Need-enum-known-next Inv-loop μ-loop
+enum-known-next c = search needs
+
+returns : tie.Need-returns Inv-loop μ-loop
+returns c =
+    let x = c .before in
+    let y = x .before .before in
+    let n = y .before .before in
+    let s = n .before .before .before .before in
+    is-rank (s .args .code) (s .pre .good) (s .args .sigma) (row s) (n .before .loop .inv .1) (inside n) (here (y .before)) (sym (x .next .given .1) ∙ y .read-symbol .ensures)
+
+enum-told : tie.Need-enum-told Inv-loop μ-loop
+enum-told c = search needs
+
+returns-2 : tie.Need-returns-2 Inv-loop μ-loop
+returns-2 c =
+    let y = c .before .before in
+    let n = y .before .before in
+    let s = n .before .before .before .before in
+    is-bad (s .args .code) (s .pre .good) (s .args .sigma) (row s) (n .before .loop .inv .1) (inside n) (here (y .before)) (sym (c .enum-told .given .1) ∙ y .read-symbol .ensures)
+
+enum-known-next-2 : tie.Need-enum-known-next-2 Inv-loop μ-loop
+enum-known-next-2 c = search needs
+
+loop-less : tie.Need-loop-less Inv-loop μ-loop
+loop-less c = omega arith
+
+loop-again : tie.Need-loop-again Inv-loop μ-loop
+loop-again c =
+    let x = c .before in
+    let y = x .before .before in
+    let n = y .before .before in
+    let s = n .before .before .before .before in
+    let b : getD (all s) (n .before .loop .i) 0 < base (s .args .code)
+    = below-at (symbols-below (s .args .code .k) (s .args .buf .now)) (n .before .loop .i) (omega (arith, s .pre .held, n .loop-test .taken)) in (
+      omega (arith, n .loop-test .taken),
+      is-open (s .args .code) (s .pre .good) (s .args .sigma) (row s) (n .before .loop .inv .1) (inside n) (here (y .before)) (rw (y .before .get .ensures) b)
+          (sym (x .next2 .given .1) ∙ y .read-symbol .ensures),
+    )
+
+returns-3 : tie.Need-returns-3 Inv-loop μ-loop
+returns-3 c =
+    let s = c .before .before .before .before in
+    ended (s .args .code) (s .args .sigma) (row s) (s .args .p) (c .before .loop .inv .1) (omega (arith, long s, c .loop-test .left))
+
+pub codeword-at-spec : {M : Type 1} → statement M
+codeword-at-spec =
+    tie.close
+    (tie.spec
+    Inv-loop
+    μ-loop
+    opening-requires
+    loop-holds
+    get-requires
+    add-i
+    read-symbol-requires
+    enum-known-next
+    returns
+    enum-told
+    returns-2
+    enum-known-next-2
+    loop-less
+    loop-again
+    returns-3)

@@ -1,0 +1,33 @@
+-- A directory: an entry for each of characters 0, 32, 64, .. of a roll, the number of that character's first symbol.
+-- Assumes nothing.
+use mathlib.Core.Path.{_≡_}
+use mathlib.Core.List.{List, [], _∷_, map}
+use Prim.Native.Nat.{ℕ, _+_, _*_, _/_}
+use lib.ListN.{length, take}
+use Rattle.ground.specs.Rows.{tab}
+use Rattle.stopper.specs.Table.{lengthOf}
+use Rattle.buffer.specs.Roll.{reading, ranksRead}
+use Rattle.buffer.specs.declared.roll.Roll.{Roll}
+
+-- as many entries as n characters have: n / 32, rounded up
+unfoldable pub entries : ℕ → ℕ
+entries n = (n + 31) / 32
+
+unfoldable pub sum : List ℕ → ℕ
+sum [] = 0
+sum (x ∷ l) = x + sum l
+
+-- over the lengths of the codewords: character j starts behind those of characters 0 .. j - 1
+unfoldable pub startAt : List ℕ → ℕ → ℕ
+startAt lengths j = sum (take j lengths)
+
+unfoldable pub directoryOf : List ℕ → List ℕ
+directoryOf lengths = tab (λ i. startAt lengths (i * 32)) 0 (entries (length lengths))
+
+-- the lengths of a sound roll's codewords: n of them
+unfoldable pub lengthsOf : Roll → List ℕ → List ℕ
+lengthsOf r buf = map (lengthOf (r .table .code)) (ranksRead (reading r buf))
+
+-- the entries that a sound roll has are right
+abbrev pub Right : Roll → List ℕ → List ℕ → Type 0
+Right r buf dir = take (entries (r .n)) dir ≡ directoryOf (lengthsOf r buf)

@@ -1,0 +1,12 @@
+-- The laws, by subject: characters and texts under a table, codewords in a row, a sound roll, what it holds, the directory, and hits.
+-- Words and Finding are what this crate's functions cite.
+pub mod Characters
+pub mod Texts
+pub mod Reading
+pub mod Codewords
+pub mod Sound
+pub mod Holding
+pub mod Directory
+pub mod Hits
+pub mod Words
+pub mod Finding

@@ -1,0 +1,122 @@
+-- The laws of directories: an entry is where a codeword starts, and by a right one each codeword is reached.
+-- Assumes nothing.
+use mathlib.Core.Path.{_≡_, refl, sym, ap, _∙_}
+use mathlib.Core.List.{List, [], _∷_, map}
+use Prim.Native.Nat.{ℕ, zero, suc, _+_, _*_, _/_, _%_, _≤_, _<_}
+use native.Mathlib.Omega.{arith}
+use lib.ListN.{length, take, getD, length-append, length-map, length-take}
+use lib.Seq.{getD-take}
+use Rattle.ground.specs.Laws.Rows.{length-tab, tab-at}
+use Rattle.stopper.specs.Code.{codeword}
+use Rattle.stopper.specs.Table.{base, stoppers, lengthOf}
+use Rattle.stopper.specs.Reading.{write}
+use Rattle.stopper.specs.Laws.Table.{table-code}
+use Rattle.stopper.specs.declared.code.Code.{Code}
+use Rattle.buffer.specs.Roll.{rowUpto, reading, ranksRead, Sound}
+use Rattle.buffer.specs.Codewords.{passedFrom}
+use Rattle.buffer.specs.Directory.{entries, sum, startAt, directoryOf, lengthsOf, Right}
+use Rattle.buffer.specs.Laws.Codewords.{startOf, found-word, passed-ranks}
+use Rattle.buffer.specs.Laws.Sound.{row-length, sound-below, sound-row, sound-found, sound-start}
+use Rattle.buffer.specs.declared.roll.Roll.{Roll}
+use Rattle.buffer.specs.declared.reading.Passed.{Passed}
+use Rattle.buffer.specs.declared.reading.Passed.the-variants.{At}
+
+-- ---- how many entries
+
+module _ (j : ℕ) where
+  pub entries-upto : {n : ℕ} → j ≤ n → entries j ≤ entries n
+  unfolding entries
+  entries-upto h = omega arith
+
+  pub entries-inside : {n : ℕ} → j < n → j / 32 < entries n
+  unfolding entries
+  entries-inside h = omega arith
+
+  -- character j has an entry of its own, or none
+  module _ (e : j % 32 ≡ 0) where
+    pub entries-at : entries j ≡ j / 32
+    unfolding entries
+    entries-at = omega arith
+
+    pub entries-next : entries (j + 1) ≡ j / 32 + 1
+    unfolding entries
+    entries-next = omega arith
+
+  pub entries-same : (j % 32 ≡ 0 → ⊥) → entries (j + 1) ≡ entries j
+  unfolding entries
+  entries-same e = omega arith
+
+-- ---- the entries
+
+pub directory-length : (lengths : List ℕ) → length (directoryOf lengths) ≡ entries (length lengths)
+unfolding directoryOf
+directory-length lengths = length-tab _ 0 (entries (length lengths))
+
+pub directory-at : (lengths : List ℕ) (i : ℕ) → i < entries (length lengths) → getD (directoryOf lengths) i 0 ≡ startAt lengths (i * 32)
+unfolding directoryOf
+directory-at lengths i h = tab-at _ (entries (length lengths)) i h
+
+-- the lengths before codeword j together: where it starts
+pub start-at : (c : Code) (rs : List ℕ) (j : ℕ) → startOf c rs j ≡ startAt (map (lengthOf c) rs) j
+unfolding startOf startAt sum write lengthOf
+start-at c rs zero = refl
+start-at c [] (suc j) = refl
+start-at c (r ∷ rs) (suc j) =
+    length-append (codeword (base c) (stoppers c) r) (write (base c) (stoppers c) (take j rs))
+    ∙ ap (λ (n : ℕ). length (codeword (base c) (stoppers c) r) + n) (start-at c rs j)
+
+-- entry i of the directory of a row of ranks
+pub entry-at : (c : Code) (rs : List ℕ) (i : ℕ) → i < entries (length rs) → getD (directoryOf (map (lengthOf c) rs)) i 0 ≡ startOf c rs (i * 32)
+entry-at c rs i h = directory-at (map (lengthOf c) rs) i (rw length-map h) ∙ sym (start-at c rs (i * 32))
+
+-- ---- the directory of a sound roll
+
+abbrev ranks : Roll → List ℕ → List ℕ
+ranks r buf = ranksRead (reading r buf)
+
+module _ (r : Roll) (buf : List ℕ) (s : Sound r buf) where
+  pub sound-entries : length (directoryOf (lengthsOf r buf)) ≡ entries (r .n)
+  unfolding lengthsOf
+  sound-entries = directory-length (lengthsOf r buf) ∙ ap entries (rw length-map (s .count))
+
+-- ---- a right directory: by its entry a character's codeword is reached
+
+module _ (r : Roll) (buf : List ℕ) (s : Sound r buf) (dir : List ℕ) (right : Right r buf dir) (place : ℕ) (inside : place < r .n) where
+  abbrev c : Code
+  c = r .table .code
+
+  abbrev row : List ℕ
+  row = rowUpto c (r .h) buf
+
+  abbrev starts : ℕ → ℕ
+  starts j = startOf c (ranks r buf) j
+
+  pub entry-held : place / 32 < length dir
+  entry-held =
+      omega (
+        arith,
+        entries-inside place inside,
+        sym (length-take (entries (r .n)) dir) ∙ ap length right ∙ sound-entries r buf s,
+      )
+
+  pub entry-is : getD dir (place / 32) 0 ≡ starts (place / 32 * 32)
+  unfolding lengthsOf
+  entry-is =
+      sym (getD-take (entries (r .n)) dir (place / 32) 0 (entries-inside place inside))
+      ∙ ap (λ (l : List ℕ). getD l (place / 32) 0) right
+      ∙ entry-at c (ranks r buf) (place / 32) (rw (s .count) (entries-inside place inside))
+
+  -- the codewords from the entry on, up to the place
+  pub entry-passes : At (starts place) ≡ passedFrom c (r .table .sigma) row (getD dir (place / 32) 0) (place % 32)
+  entry-passes =
+      let e : place / 32 * 32 + place % 32 ≡ place = omega arith in
+      sym (rw (entry-is, sound-row r buf s)
+      (passed-ranks c (table-code (r .table) (s .table)) (r .table .sigma) (sound-below r buf s) (place % 32) (place / 32 * 32) (omega (arith, s .count))
+      ∙ ap {B = Passed} (λ (j : ℕ). At (starts j)) e))
+
+  -- a codeword starts before symbol h
+  pub entry-before : getD dir (place / 32) 0 < r .h
+  entry-before =
+      let j = place / 32 * 32 in
+      let w = found-word c (table-code (r .table) (s .table)) (r .table .sigma) row (sym (sound-found r buf s j (omega arith))) (omega (arith, row-length r buf (s .fits), sound-start r buf s j)) in
+      omega (arith, entry-is, w .some, sound-start r buf s (suc j))

@@ -1,0 +1,163 @@
+-- Searching by symbols, step by step: the comparison, the list, the pattern's symbols; and that it finds the hits.
+-- Assumes nothing.
+use mathlib.Core.Path.{_≡_, refl, sym, ap, ap₂, _∙_}
+use mathlib.Core.Logic.{_≢_}
+use mathlib.Core.Bool.{Bool, true, false, cond, _&&_}
+use mathlib.Core.List.{List, [], _∷_, _++_, append-nil}
+use Prim.Native.Nat.{ℕ, zero, suc, _+_, _≤_, _<_}
+use native.Mathlib.Nat.{add-zero, zero-add}
+use native.Mathlib.Numerals.{add-one}
+use native.Mathlib.Omega.{arith}
+use borrow.Author.Tests.{eq-eqb, ne-eqb}
+use mir.Facts.{and-yes}
+use lib.Dec.{T, eqb, leb, leb→le}
+use lib.ListN.{length, take, drop, getD, set, length-append, length-map, drop-of-length-le}
+use lib.Seq.{drop-cons, drop-drop, drop-length, take-all, take-append-le, take-suc, take-nil, set-append-seam, append-snoc}
+use Rattle.stopper.specs.Table.{goodCode, characters, rankIn, wordOf}
+use Rattle.stopper.specs.Laws.Table.{length-place}
+use Rattle.stopper.specs.declared.code.Code.{Code}
+use Rattle.buffer.specs.Roll.{firstForeign, textRow, symbolsFor, textOf, Sound}
+use Rattle.buffer.specs.Hits.{stands, hitsFrom, hits, goodPattern, listed}
+use Rattle.buffer.specs.Finding.{patternRow, grown, passing, wordHits}
+use Rattle.buffer.specs.Laws.Characters.{foreign-within, foreign-known, foreign-none, foreign-later, foreign-here}
+use Rattle.buffer.specs.Laws.Texts.{text-none, text-cons, text-append, length-cons}
+use Rattle.buffer.specs.Laws.Holding.{sound-known, sound-ranked}
+use Rattle.buffer.specs.Laws.Hits.{hit-rank, foreign-hits}
+use Rattle.buffer.specs.declared.roll.Roll.{Roll}
+
+-- ---- the comparison
+
+pub stands-end : (p t : List ℕ) → stands (drop (length p) p) t ≡ true
+unfolding stands
+stands-end p t = rw (drop-length p)
+
+module _ (p t : List ℕ) (j i : ℕ) (hj : j < length p) where
+  pub stands-past : length t ≤ i → stands (drop j p) (drop i t) ≡ false
+  unfolding stands
+  stands-past h = rw (drop-cons p j 0 hj, drop-of-length-le t h)
+
+  module _ (hi : i < length t) where
+    stands-step : stands (drop j p) (drop i t) ≡ (eqb (getD p j 0) (getD t i 0) && stands (drop (j + 1) p) (drop (i + 1) t))
+    unfolding stands
+    stands-step = ap₂ stands (drop-cons p j 0 hj) (drop-cons t i 0 hi) ∙ rw (add-one i, add-one j)
+
+    pub stands-same : getD t i 0 ≡ getD p j 0 → stands (drop j p) (drop i t) ≡ stands (drop (j + 1) p) (drop (i + 1) t)
+    stands-same e = stands-step ∙ rw (eq-eqb _ _ (sym e))
+
+    pub stands-differ : getD t i 0 ≢ getD p j 0 → stands (drop j p) (drop i t) ≡ false
+    stands-differ n = stands-step ∙ rw (ne-eqb _ _ (λ e. n (sym e)))
+
+-- ---- the list
+
+pub passing-more : (f : ℕ → Bool) (n : ℕ) {b : Bool} → b ≡ f n → passing f (n + 1) ≡ grown b n (passing f n)
+unfolding passing
+passing-more f n e = rw (add-one n, e)
+
+pub listed-none : (slice : List ℕ) → listed [] slice ≡ slice
+listed-none slice = ap (λ (l : List ℕ). l ++ slice) (take-nil (length slice))
+
+module _ (found slice : List ℕ) (x : ℕ) where
+  pub listed-more : length found < length slice → listed (found ++ (x ∷ [])) slice ≡ set (listed found slice) (length found) x
+  listed-more h =
+      let n : length (found ++ (x ∷ [])) ≡ suc (length found) = length-append found (x ∷ []) ∙ add-one (length found) in
+      ap₂ (λ (a b : List ℕ). a ++ b) (take-all (length slice) (found ++ (x ∷ [])) (omega arith)) (ap (λ (k : ℕ). drop k slice) n)
+      ∙ append-snoc found x (drop (suc (length found)) slice)
+      ∙ sym (set-append-seam found (getD slice (length found) 0) (drop (suc (length found)) slice) x)
+      ∙ ap₂ (λ (a b : List ℕ). set (a ++ b) (length found) x) (sym (take-all (length slice) found (omega arith))) (sym (drop-cons slice (length found) 0 h))
+
+  pub listed-full : length slice ≤ length found → listed (found ++ (x ∷ [])) slice ≡ listed found slice
+  listed-full h =
+      let k : length slice ≤ length (found ++ (x ∷ [])) = omega (arith, length-append found (x ∷ [])) in
+      ap₂ (λ (a b : List ℕ). a ++ b) (take-append-le (length slice) found (x ∷ []) h) (drop-of-length-le slice k ∙ sym (drop-of-length-le slice h))
+
+-- ---- the pattern's symbols
+
+module _ (c : Code) (l p : List ℕ) where
+  pub pattern-known : firstForeign l p ≡ length p → patternRow c l p ≡ textRow c l p
+  unfolding patternRow
+  pattern-known e = rw (eq-eqb _ _ e)
+
+  pub pattern-foreign : firstForeign l p < length p → patternRow c l p ≡ []
+  unfolding patternRow
+  pattern-foreign h = rw (ne-eqb (firstForeign l p) (length p) (λ e. omega arith))
+
+-- character by character
+module _ (c : Code) (l p : List ℕ) (i : ℕ) (h : i < length p) where
+  pub text-more : textRow c l (take (suc i) p) ≡ textRow c l (take i p) ++ wordOf c (rankIn l (getD p i 0))
+  text-more =
+      ap (textRow c l) (take-suc p i 0 h)
+      ∙ text-append c l (take i p) (getD p i 0 ∷ [])
+      ∙ ap (λ (w : List ℕ). textRow c l (take i p) ++ w) (text-cons c l (getD p i 0) [] ∙ rw (text-none c l, append-nil))
+
+  pub foreign-more : rankIn l (getD p i 0) < length l → firstForeign l (drop i p) ≡ suc (firstForeign l (drop (suc i) p))
+  foreign-more k = ap (firstForeign l) (drop-cons p i 0 h) ∙ foreign-later l (getD p i 0) (drop (suc i) p) k
+
+  pub foreign-first : length l ≤ rankIn l (getD p i 0) → firstForeign l (drop i p) ≡ 0
+  foreign-first k = ap (firstForeign l) (drop-cons p i 0 h) ∙ foreign-here l (getD p i 0) (drop (suc i) p) k
+
+pub foreign-end : (l p : List ℕ) → firstForeign l (drop (length p) p) ≡ 0
+foreign-end l p = ap (firstForeign l) (drop-length p) ∙ foreign-none l
+
+-- none of them: a character is not in the table
+module _ (c : Code) (g : T (goodCode c)) (l p : List ℕ) (k : T (goodPattern p)) where
+  pattern-some : 0 < length (textRow c l p)
+  unfolding goodPattern
+  pattern-some = go p (leb→le _ _ (and-yes (leb 1 (length p)) (leb (length p) 64) k .0))
+    where
+      go : (p : List ℕ) → 0 < length p → 0 < length (textRow c l p)
+      go [] h = absurd (omega arith)
+      go (b ∷ p) h = omega (arith, length-cons c l b p, length-place c g (rankIn l b))
+
+  pub none-foreign : length (patternRow c l p) ≡ 0 → firstForeign l p < length p
+  none-foreign e =
+      let n : firstForeign l p ≢ length p = λ q. omega (arith, ap length (pattern-known c l p q), pattern-some) in
+      omega (arith, foreign-within l p, n)
+
+pub some-known : (c : Code) (l p : List ℕ) → length (patternRow c l p) ≢ 0 → firstForeign l p ≡ length p
+some-known c l p n =
+    let h : firstForeign l p < length p → ⊥ = λ h. n (ap length (pattern-foreign c l p h)) in
+    omega (arith, foreign-within l p, h)
+
+-- ---- the numbers that pass are the hits
+
+passing-same : {f g : ℕ → Bool} → ((i : ℕ) → f i ≡ g i) → (n : ℕ) → passing f n ≡ passing g n
+unfolding passing
+passing-same e zero = refl
+passing-same e (suc n) = rw (e n, passing-same e n)
+
+passing-hits : (p whole t : List ℕ) (i : ℕ) → drop i whole ≡ t
+    → passing (λ j. stands p (drop j whole)) (i + length t) ≡ passing (λ j. stands p (drop j whole)) i ++ hitsFrom p i t
+unfolding passing hitsFrom
+passing-hits p whole [] i e = rw (add-zero, append-nil)
+passing-hits p whole (x ∷ t) i e =
+    let f : ℕ → Bool = λ j. stands p (drop j whole) in
+    let n : i + suc (length t) ≡ suc i + length t = omega arith in
+    ap (passing f) n
+    ∙ passing-hits p whole t (suc i) (next whole i e)
+    ∙ go (stands p (drop i whole)) (stands p (x ∷ t)) (ap (stands p) e) (passing f i) (hitsFrom p (suc i) t)
+  where
+    next : (whole : List ℕ) (i : ℕ) → drop i whole ≡ x ∷ t → drop (suc i) whole ≡ t
+    next whole i e = ap (λ (n : ℕ). drop n whole) (sym (add-one i)) ∙ sym (drop-drop 1 i whole) ∙ ap (drop 1) e
+
+    go : (a b : Bool) → a ≡ b → (found later : List ℕ) → grown a i found ++ later ≡ found ++ cond b (i ∷ later) later
+    go true true q found later = append-snoc found i later
+    go true false q found later = let z : _≡_ {A = ℕ} 0 1 = cc in absurd (omega arith)
+    go false true q found later = let z : _≡_ {A = ℕ} 0 1 = cc in absurd (omega arith)
+    go false false q found later = refl
+
+pub passing-all : (p t : List ℕ) → passing (λ j. stands p (drop j t)) (length t) ≡ hits p t
+unfolding passing hits
+passing-all p t = ap (passing (λ j. stands p (drop j t))) (sym (zero-add (length t))) ∙ passing-hits p t t 0 refl
+
+module _ (r : Roll) (buf : List ℕ) (long : length (r .table .places) ≡ 256) (s : Sound r buf) (p : List ℕ) where
+  pub word-hits : firstForeign (characters (r .table)) p ≡ length p → wordHits r buf (symbolsFor (r .table) p) ≡ hits p (textOf r buf)
+  unfolding wordHits
+  word-hits e =
+      let l : List ℕ = characters (r .table) in
+      let t : List ℕ = textOf r buf in
+      passing-same (hit-rank r buf long s (foreign-known l p e)) _
+      ∙ ap (passing (λ j. stands p (drop j t))) (ap length (sound-ranked r buf long s) ∙ length-map t (rankIn l))
+      ∙ passing-all p t
+
+  pub no-hits : firstForeign (characters (r .table)) p < length p → hits p (textOf r buf) ≡ []
+  no-hits h = foreign-hits (characters (r .table)) p h (sound-known r buf long s)

@@ -1,0 +1,113 @@
+-- A sound roll: its symbols are the codewords of its ranks, and each is found where it starts.
+-- Assumes nothing.
+use mathlib.Core.Path.{_≡_, sym, ap, _∙_}
+use mathlib.Core.Logic.{_≢_}
+use mathlib.Core.Bool.{true, false}
+use mathlib.Core.List.{List, _∷_}
+use Prim.Native.Nat.{ℕ, suc, _+_, _-_, _≤_, _<_}
+use native.Mathlib.Nat.{sub-self, zero-add}
+use native.Mathlib.Numerals.{add-one}
+use native.Mathlib.Omega.{arith}
+use borrow.Author.Tests.{eq-eqb, ne-eqb}
+use lib.Dec.{T}
+use lib.ListN.{length, getD}
+use lib.Seq.{drop-cons, length-take-le}
+use Rattle.ground.specs.Rows.{Below}
+use Rattle.ground.specs.Laws.Limit.{limit-fits}
+use Rattle.ground.specs.Laws.Rows.{below-take}
+use Rattle.stopper.specs.Table.{base, stoppers, goodTable}
+use Rattle.stopper.specs.Reading.{write}
+use Rattle.stopper.specs.Laws.Table.{table-code, table-few, code-good}
+use Rattle.stopper.specs.Laws.Reading.{read-below, write-read}
+use Rattle.symbols.specs.Runs.{run}
+use Rattle.symbols.specs.Symbols.{room, symbolsOf}
+use Rattle.symbols.specs.Laws.Sizes.{room-limit}
+use Rattle.symbols.specs.Laws.Rows.{symbols-below, room-row}
+use Rattle.buffer.specs.Roll.{rowUpto, reading, ranksRead, allZero, Sound}
+use Rattle.buffer.specs.Codewords.{Reads, foundAt, passedFrom}
+use Rattle.buffer.specs.Laws.Reading.{whole-is}
+use Rattle.buffer.specs.Laws.Codewords.{startOf, found-rank, passed-ranks, start-first, start-upto}
+use Rattle.buffer.specs.declared.roll.Roll.{Roll}
+use Rattle.buffer.specs.declared.reading.Found.the-variants.{Word}
+use Rattle.buffer.specs.declared.reading.Passed.the-variants.{At}
+
+-- ---- a run that is all 0, from its first symbol on
+
+run-next : (row : List ℕ) (i to : ℕ) → i < to → to ≤ length row → run row i to ≡ getD row i 0 ∷ run row (i + 1) to
+run-next row i to h k =
+    let l : i < length row = omega arith in
+    let e : to - i ≡ suc (to - suc i) = omega arith in
+    rw (drop-cons row i 0 l, e, add-one)
+
+pub zero-none : (row : List ℕ) (to : ℕ) → allZero (run row to to) ≡ true
+unfolding allZero
+zero-none row to = rw sub-self
+
+module _ (row : List ℕ) (i to : ℕ) (h : i < to) (k : to ≤ length row) where
+  pub zero-more : getD row i 0 ≡ 0 → allZero (run row i to) ≡ allZero (run row (i + 1) to)
+  unfolding allZero
+  zero-more e = ap allZero (run-next row i to h k) ∙ rw (eq-eqb (getD row i 0) 0 e)
+
+  pub zero-not : getD row i 0 ≢ 0 → allZero (run row i to) ≡ false
+  unfolding allZero
+  zero-not e = ap allZero (run-next row i to h k) ∙ rw (ne-eqb (getD row i 0) 0 e)
+
+-- ---- a sound roll
+
+-- the symbols up to symbol h, and the ranks that they give
+abbrev row : Roll → List ℕ → List ℕ
+row r buf = rowUpto (r .table .code) (r .h) buf
+
+abbrev ranks : Roll → List ℕ → List ℕ
+ranks r buf = ranksRead (reading r buf)
+
+pub row-length : (r : Roll) (buf : List ℕ) → r .h ≤ room (r .table .code .k) (length buf) → length (row r buf) ≡ r .h
+row-length r buf f = let k = r .table .code .k in length-take-le (r .h) (symbolsOf k buf) (room-row k buf (r .h) f)
+
+-- a good table and symbols that the buffer holds: a place up to symbol h may be read
+pub table-reads : (r : Roll) (buf : List ℕ) → T (goodTable (r .table)) → r .h ≤ room (r .table .code .k) (length buf)
+    → (p : ℕ) → p ≤ r .h → Reads (r .table .code) (r .table .sigma) buf (r .h) p
+table-reads r buf g f p h =
+    record {
+      good = table-code (r .table) g;
+      few = table-few (r .table) g;
+      held = room-row (r .table .code .k) buf (r .h) f;
+      small = omega (arith, f, room-limit (r .table .code .k) (length buf), limit-fits);
+      upto = h;
+    }
+
+module _ (r : Roll) (buf : List ℕ) (s : Sound r buf) where
+  pub sound-reads : (p : ℕ) → p ≤ r .h → Reads (r .table .code) (r .table .sigma) buf (r .h) p
+  sound-reads = table-reads r buf (s .table) (s .fits)
+
+  pub sound-length : length (row r buf) ≡ r .h
+  sound-length = row-length r buf (s .fits)
+
+  pub sound-below : Below (r .table .sigma) (ranks r buf)
+  unfolding reading
+  sound-below =
+      let c = r .table .code in
+      read-below (base c) (stoppers c) (code-good c (table-code (r .table) (s .table))) (r .table .sigma) (row r buf) (ranks r buf) (whole-is (reading r buf) (s .reads))
+
+  -- the symbols up to symbol h are the codewords of the ranks
+  pub sound-row : row r buf ≡ write (base (r .table .code)) (stoppers (r .table .code)) (ranks r buf)
+  unfolding reading
+  sound-row =
+      let c = r .table .code in
+      sym (write-read (base c) (stoppers c) (code-good c (table-code (r .table) (s .table))) (r .table .sigma) (below-take (symbols-below (c .k) buf) (r .h)) (ranks r buf)
+      (whole-is (reading r buf) (s .reads)))
+
+  -- codeword j, and where it starts
+  pub sound-found : (j : ℕ) → j < r .n
+      → foundAt (r .table .code) (r .table .sigma) (row r buf) (startOf (r .table .code) (ranks r buf) j)
+      ≡ Word (getD (ranks r buf) j 0) (startOf (r .table .code) (ranks r buf) (suc j))
+  sound-found j h = rw sound-row (found-rank (r .table .code) (table-code (r .table) (s .table)) (r .table .sigma) sound-below j (omega (arith, s .count)))
+
+  pub sound-passed : (j : ℕ) → j ≤ r .n
+      → passedFrom (r .table .code) (r .table .sigma) (row r buf) 0 j ≡ At (startOf (r .table .code) (ranks r buf) j)
+  sound-passed j h =
+      rw (sound-row, ← start-first (r .table .code) (ranks r buf))
+      (passed-ranks (r .table .code) (table-code (r .table) (s .table)) (r .table .sigma) sound-below j 0 (omega (arith, s .count)) ∙ rw zero-add)
+
+  pub sound-start : (j : ℕ) → startOf (r .table .code) (ranks r buf) j ≤ r .h
+  sound-start j = omega (arith, start-upto (r .table .code) (ranks r buf) j, ap length sound-row, sound-length)

@@ -1,0 +1,50 @@
+-- A directory that is made is right, and by a right one the text is read.
+-- Assumes nothing.
+use mathlib.Core.Path.{_≡_, sym, ap, _∙_}
+use mathlib.Core.List.{List}
+use Prim.Native.Nat.{ℕ, _/_, _%_, _<_}
+use native.Mathlib.Omega.{arith}
+use lib.ListN.{take, drop, getD}
+use lib.Seq.{take-at}
+use Rattle.ground.specs.Refusals.{accepted, judged}
+use Rattle.ground.specs.Laws.Answers.{answer-one}
+use Rattle.ground.specs.Laws.Rows.{map-at}
+use Rattle.ground.specs.Laws.Tests.{yes-true}
+use Rattle.ground.specs.declared.answers.Done.the-variants.{Yes}
+use Rattle.ground.specs.declared.answers.Answer.{Answer}
+use Rattle.ground.specs.declared.answers.Answer.the-variants.{Read}
+use Rattle.stopper.specs.Table.{goodTable}
+use Rattle.buffer.specs.Roll.{rowUpto, reading, ranksRead, textOf, Sound}
+use Rattle.buffer.specs.Codewords.{oneRank}
+use Rattle.buffer.specs.Directory.{entries, directoryOf, lengthsOf, Right}
+use Rattle.roll.specs.Operations.{Making, oneRead, readRows, ReadingOne}
+use Rattle.buffer.specs.Laws.Codewords.{one-word}
+use Rattle.buffer.specs.Laws.Sound.{sound-found}
+use Rattle.buffer.specs.Laws.Directory.{sound-entries, entry-held, entry-passes, entry-before}
+use Rattle.roll.specs.Laws.Operations.{made-sound, made-leaves, read-yes}
+use Rattle.buffer.specs.declared.roll.Roll.{Roll}
+
+-- what make_directory writes is right
+pub made-right : {r : Roll} {buf dir after : List ℕ} → Making r buf dir Yes after → Right r buf after
+made-right {r} {buf} {dir} m =
+    ap (take (entries (r .n))) (made-leaves r buf dir m)
+    ∙ take-at (directoryOf (lengthsOf r buf)) (drop (entries (r .n)) dir) (entries (r .n)) (sound-entries r buf (made-sound r buf dir m))
+
+-- ---- a character read by a right directory
+
+module _ (r : Roll) (buf : List ℕ) (s : Sound r buf) (dir : List ℕ) (right : Right r buf dir) (place : ℕ) (inside : place < r .n) where
+  -- read_one's answer is the character of the text
+  pub right-reads : judged (readRows r buf dir place) (getD (r .table .places) (oneRank (oneRead r buf dir place)) 0) ≡ accepted (getD (textOf r buf) place 0)
+  unfolding textOf
+  right-reads =
+      sym (read-yes r buf dir place (yes-true (goodTable (r .table)) (s .table)) (s .fits) inside (entry-held r buf s dir right place inside) (entry-before r buf s dir right place inside)
+      (one-word (r .table .code) (r .table .sigma) (rowUpto (r .table .code) (r .h) buf) (getD dir (place / 32) 0) (place % 32) (entry-passes r buf s dir right place inside) (sym (sound-found r buf s place inside))) .says)
+      ∙ ap (λ (x : ℕ). accepted x) (sym (map-at (λ rank. getD (r .table .places) rank 0) (ranksRead (reading r buf)) place (omega (arith, s .count))))
+
+  pub reads-right : {answer : Answer} → ReadingOne r buf dir place answer → answer ≡ Read (getD (textOf r buf) place 0)
+  reads-right {answer} p = answer-one answer (Read (getD (textOf r buf) place 0)) (p .says ∙ right-reads)
+
+-- by a directory that make_directory left, read_one answers what unpack would write
+pub reads-made : {r : Roll} {buf dir after : List ℕ} {place : ℕ} {answer : Answer} → Making r buf dir Yes after → place < r .n
+    → ReadingOne r buf after place answer → answer ≡ Read (getD (textOf r buf) place 0)
+reads-made {r} {buf} {dir} {after} {place} m h p = reads-right r buf (made-sound r buf dir m) after (made-right m) place h p
