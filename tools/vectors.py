@@ -168,6 +168,35 @@ def search(t, n, h, buf, pattern, hits):
     return None, len(found), found[:len(hits)] + hits[len(found):]
 
 
+def edit(t, n, h, buf, entries, start, end, text):
+    """The refusal or None, n, h, the buffer and the directory afterwards: the edited text packed afresh."""
+    refusal = check(t, n, h, buf)
+    if refusal:
+        return refusal, n, h, buf, entries
+    k, s, sigma, places = t
+    words, old = codewords(k, s), [places[r] for r in read(t, symbols(k, buf)[:h])[0]]
+    lengths = {b: len(words[r]) for r, b in enumerate(places[:sigma])}
+    wanted = [sum(lengths[b] for b in old[:i]) for i in range(0, n, 32)]
+    for i, x in enumerate(wanted):
+        if entries[i:i + 1] != [x]:
+            return (9, i), n, h, buf, entries
+    if start > end or end > n:
+        return (10, 0), n, h, buf, entries
+    for i, b in enumerate(text):
+        if b not in places[:sigma]:
+            return (3, i), n, h, buf, entries
+    new = old[:start] + text + old[end:]
+    refusal, n2, h2, after = pack(t, new, buf)
+    if refusal:
+        return refusal, n, h, buf, entries
+    behind = [sum(lengths[b] for b in new[:i]) for i in range(0, n2, 32)]
+    if len(entries) < len(behind):
+        return (12, len(behind)), n, h, buf, entries
+    for i in range(-(-h2 * k // 8), -(-h * k // 8)):
+        after[i] = 0
+    return None, n2, h2, after, behind + [0] * (len(wanted) - len(behind)) + entries[max(len(wanted), len(behind)):]
+
+
 # ---- the cases
 
 given, said = [], []
@@ -268,6 +297,15 @@ def search_case(words, t, n, h, buf, pattern, hits, expect=...):
     note(words)
     given.append(f"6 {table_in(t)} {n} {h} {row_in(buf)} {row_in(pattern)} {numbers_in(hits)}")
     said.append("search" + (answer(r) if r else f" {total}") + numbers_out(after))
+
+
+def edit_case(words, t, n, h, buf, entries, start, end, text, expect=...):
+    r, n2, h2, after, behind = edit(t, n, h, buf, entries, start, end, list(text))
+    assert expect is ... or r == expect, (words, r, expect)
+    note(words)
+    given.append(f"7 {table_in(t)} {n} {h} {row_in(buf)} {numbers_in(entries)} {start} {end} {row_in(list(text))}")
+    said.append("edit" + answer(r) + f" n {n2} h {h2} k {t[0]} s {t[1]} sigma {t[2]}" + row_out(t[3]) + row_out(after) + numbers_out(behind))
+    return n2, h2, after, behind
 
 
 def table(k, s, characters, sigma=None, rest=0):
@@ -486,6 +524,84 @@ rare = [255] * 66
 _, n, h, buf = pack(every, rare, [0xFF] * 1500)
 search_case("64 characters of 86 symbols each", every, n, h, buf, [255] * 64, [9] * 4, None)
 search_case("no roll inside a codeword: 254 stands in 255's symbols", every, n, h, buf, [252], [9] * 4, None)
+
+# the edit
+edit_case("P10: 4..5 by dd", ABRA, 11, 13, BYTES, [0], 4, 5, b"dd", None)
+edit_case("P11: 4..7 dropped", ABRA, 11, 13, BYTES, [0], 4, 7, b"", None)
+assert edit(ABRA, 11, 13, BYTES, [0], 4, 5, list(b"dd")) == (None, 12, 15, [0x18, 0xDD, 0x34, 0x60], [0])
+assert edit(ABRA, 11, 13, BYTES, [0], 4, 7, []) == (None, 8, 8, [0x18, 0x18, 0, 0], [0])
+LONG = list(b"0123456789+") + [10]
+for k, s in ((2, 3), (2, 1), (4, 14), (4, 3)):
+    w = f"width {k}, s {s}: "
+    per = 8 // k
+    t = (k, s, 12, LONG + [7] * 244)      # places past sigma come back as given
+    lengths = [len(x) for x in codewords(k, s)[:12]]
+
+    def rolled(text, room=30, entries=2):
+        """A roll of a text with bytes and entries behind it that are not 0."""
+        r, n, h, buf = pack(t, text, [0xA5] * room)
+        assert r is None
+        return n, h, buf, make_directory(t, n, h, buf, [77] * entries)[1]
+
+    roll = list(b"012+345+678\n")
+    n, h, buf, entries = rolled(roll)
+    for start, end, text in ((0, 1, b"0"), (3, 4, b"+"), (0, 12, roll), (4, 7, b"543"), (8, 11, b"876")):
+        edit_case(w + "as many symbols: only the run is stored", t, n, h, buf, entries, start, end, text, None)
+    for at in range(0, 13, 3):
+        edit_case(w + f"one symbol more at {at}: the tail moves by less than a byte", t, n, h, buf, entries, at, at, b"0", None)
+        edit_case(w + f"a byte more at {at}", t, n, h, buf, entries, at, at, b"0" * per, None)
+        edit_case(w + f"many more at {at}", t, n, h, buf, entries, at, at, b"9+8+7+6", None)
+    for at in range(0, 12, 4):
+        edit_case(w + f"character {at} gone", t, n, h, buf, entries, at, at + 1, b"", None)
+    r8 = [48] * (3 * per)
+    m, g, b8, e8 = rolled(r8)
+    for start, end in ((0, 1), (per - 1, per), (per, 2 * per), (per - 1, per + 1), (2 * per, 3 * per), (1, 3 * per), (3 * per - 1, 3 * per)):
+        edit_case(w + f"{start}..{end} of whole bytes dropped", t, m, g, b8, e8, start, end, b"", None)
+    edit_case(w + "runs across bytes by one that is shorter", t, n, h, buf, entries, 1, 11, b"1", None)
+    edit_case(w + "nothing by nothing", t, n, h, buf, entries, 5, 5, b"", None)
+    edit_case(w + "the whole roll gone: its digits are gone from memory", t, n, h, buf, entries, 0, 12, b"", None)
+    edit_case(w + "an empty roll filled", t, 0, 0, [0xA5] * 30, [77] * 2, 0, 0, b"+4420\n", None)
+    edit_case(w + "an empty roll left empty", t, 0, 0, [], [], 0, 0, b"", None)
+    # more and fewer entries
+    n40, h40, b40, e40 = rolled([48] * 40, 60, 4)
+    edit_case(w + "an entry no longer used is 0", t, n40, h40, b40, e40, 0, 20, b"", None)
+    edit_case(w + "one entry more", t, n40, h40, b40, e40, 40, 40, b"1" * 30, None)
+    edit_case(w + "entries behind the run go up", t, n40, h40, b40, e40, 3, 4, b"9", None)
+    edit_case(w + "characters change places with entries", t, n40, h40, b40, e40, 0, 0, b"+", None)
+    edit_case(w + "at an entry", t, n40, h40, b40, e40, 32, 32, b"+", None)
+    edit_case(w + "just enough entries", t, n40, h40, b40, e40[:2], 40, 40, b"1" * 24, None)
+    edit_case(w + "a chain of edits on one roll", t, *edit_case(w + "its first", t, n40, h40, b40, e40, 10, 20, b"98765", None), 30, 35, b"\n+\n", None)
+    # refusals, and each pair of neighbours
+    bad = (3, s, 12, t[3])
+    edit_case(w + "1 before 9", bad, n, h, buf, [], 0, 0, b"", (1, 0))
+    edit_case(w + "8 before 9", t, 1, 1, packed(k, [0, 1]), [], 0, 0, b"", (8, 0))
+    edit_case(w + "7 before 9", t, n + 1, h, buf, [], 0, 0, b"", (7, n))
+    edit_case(w + "5, 6 for the edit", t, n, 9999, buf, entries, 0, 0, b"", (5, 9999))
+    edit_case(w + "6 for the edit", t, 1, 1, packed(k, [s]), [0], 0, 0, b"", (6, 0))
+    edit_case(w + "9, no entries", t, n, h, buf, [], 0, 0, b"", (9, 0))
+    edit_case(w + "9, the second missing", t, n40, h40, b40, e40[:1], 0, 0, b"", (9, 1))
+    edit_case(w + "9, the second wrong", t, n40, h40, b40, [0, e40[1] + 1], 0, 0, b"", (9, 1))
+    edit_case(w + "9, both wrong", t, n40, h40, b40, [1, 1], 0, 0, b"", (9, 0))
+    edit_case(w + "9 before 10", t, n, h, buf, [5], 1, 0, b"", (9, 0))
+    edit_case(w + "10, start over end", t, n, h, buf, entries, 2, 1, b"", (10, 0))
+    edit_case(w + "10, end over n", t, n, h, buf, entries, 0, n + 1, b"", (10, 0))
+    edit_case(w + "10, huge", t, n, h, buf, entries, 10 ** 11, 10 ** 11, b"", (10, 0))
+    edit_case(w + "10 before 3", t, n, h, buf, entries, 1, 0, b"x", (10, 0))
+    edit_case(w + "3, the place in the text put in", t, n, h, buf, entries, 5, 6, b"01x", (3, 2))
+    edit_case(w + "3, a character that stands past sigma alone", t, n, h, buf, entries, 5, 6, [7], (3, 0))
+    tight = buf[:-(-h * k // 8)]
+    spare = len(tight) * per - h
+    edit_case(w + "3 before 4, though it stands behind", t, n, h, tight, entries, 0, 0, b"0" * 9 + b"x", (3, 9))
+    edit_case(w + "the room just filled", t, n, h, tight, entries, 5, 5, b"0" * spare, None)
+    edit_case(w + "4, in the text put in", t, n, h, tight, entries, 12, 12, b"0" * (spare + 2), (4, 12 + spare))
+    edit_case(w + "4, behind the text put in", t, n, h, tight, entries, 5, 5, b"0" * (spare + 1))
+    edit_case(w + "4, a long codeword before a short one", t, n, h, tight, entries, 0, 0, b"\n" * 3)
+    full, fullen = [48] * 32, 32
+    m, g, b32, e32 = rolled(full, -(-32 * k // 8), 1)
+    edit_case(w + "4 before 12", t, m, g, b32, e32, 32, 32, b"0", (4, 32))
+    m, g, b32, e32 = rolled(full, 30, 1)
+    edit_case(w + "12", t, m, g, b32, e32, 32, 32, b"0", (12, 2))
+    edit_case(w + "12, many", t, m, g, b32, e32, 0, 0, b"0" * 40 if k == 2 else b"0" * 28, (12, 3) if k == 2 else (12, 2))
 
 given.append("0")
 (CRATE / "stdin").write_text("\n".join(given) + "\n")

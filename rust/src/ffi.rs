@@ -18,6 +18,7 @@ extern "C" {
     fn monterculo_make_directory(k: u8, s: u8, sigma: u16, places: *const u8, n: u32, h: u32, buf: *const u8, buf_len: usize, dir: *mut u32, dir_len: usize, value: *mut u64) -> u32;
     fn monterculo_read_one(k: u8, s: u8, sigma: u16, places: *const u8, n: u32, h: u32, buf: *const u8, buf_len: usize, dir: *const u32, dir_len: usize, place: usize, value: *mut u64) -> u32;
     fn monterculo_search(k: u8, s: u8, sigma: u16, places: *const u8, n: u32, h: u32, buf: *const u8, buf_len: usize, pattern: *const u8, pattern_len: usize, hits: *mut u32, hits_len: usize, value: *mut u64) -> u32;
+    fn monterculo_edit(k: u8, s: u8, sigma: u16, places: *const u8, n: *mut u32, h: *mut u32, buf: *mut u8, buf_len: usize, dir: *mut u32, dir_len: usize, start: usize, end: usize, text: *const u8, text_len: usize, value: *mut u64) -> u32;
 }
 
 /// A number written through a pointer, with its complement as a guard on either side.
@@ -268,5 +269,41 @@ impl Library for Archive {
             )
         };
         (number, value.number(UNWRITTEN))
+    }
+
+    fn edit(
+        &self,
+        table: &Head,
+        places: &[u8; 256],
+        n: u32,
+        h: u32,
+        buf: &mut [u8],
+        directory: &mut [u32],
+        start: usize,
+        end: usize,
+        text: &[u8],
+    ) -> (u32, u64, u32, u32) {
+        let mut value = Cell::new(UNWRITTEN);
+        let (mut n_cell, mut h_cell) = (Cell::new(n), Cell::new(h));
+        let number = unsafe {
+            monterculo_edit(
+                table.k,
+                table.s,
+                table.sigma,
+                places.as_ptr(),
+                n_cell.pointer(),
+                h_cell.pointer(),
+                buf.as_mut_ptr(),
+                buf.len(),
+                directory.as_mut_ptr(),
+                directory.len(),
+                start,
+                end,
+                text.as_ptr(),
+                text.len(),
+                value.pointer(),
+            )
+        };
+        (number, value.number(UNWRITTEN), n_cell.number(n), h_cell.number(h))
     }
 }

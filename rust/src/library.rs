@@ -1,4 +1,4 @@
-//! The ten operations as the archive offers them, behind a trait, and the reference's own copy of them.
+//! The eleven operations as the archive offers them, behind a trait, and the reference's own copy of them.
 //!
 //! Each answers its number (0 for accepted), its value and the plain numbers it writes;
 //! these numbers come in as they stood before the call, so that a refusal can be seen to leave them.
@@ -76,6 +76,21 @@ pub trait Library {
         pattern: &[u8],
         hits: &mut [u32],
     ) -> (u32, u64);
+
+    /// Outputs behind the value: n, h.
+    #[allow(clippy::too_many_arguments)]
+    fn edit(
+        &self,
+        table: &Head,
+        places: &[u8; 256],
+        n: u32,
+        h: u32,
+        buf: &mut [u8],
+        directory: &mut [u32],
+        start: usize,
+        end: usize,
+        text: &[u8],
+    ) -> (u32, u64, u32, u32);
 }
 
 /// A table without its places, which are lent.
@@ -204,5 +219,26 @@ impl Library for Reference {
     ) -> (u32, u64) {
         let roll = Roll { table: table_of(table, places), n, h };
         pair(reference::search(&roll, buf, pattern, hits).map(u64::from))
+    }
+
+    fn edit(
+        &self,
+        table: &Head,
+        places: &[u8; 256],
+        n: u32,
+        h: u32,
+        buf: &mut [u8],
+        directory: &mut [u32],
+        start: usize,
+        end: usize,
+        text: &[u8],
+    ) -> (u32, u64, u32, u32) {
+        let roll = Roll { table: table_of(table, places), n, h };
+        let (answer, roll) = reference::edit(&roll, buf, directory, start, end, text);
+        let (number, value) = pair(answer.map(|()| 0));
+        if number != 0 {
+            return (number, value, n, h);
+        }
+        (number, value, roll.n, roll.h)
     }
 }

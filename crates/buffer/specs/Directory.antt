@@ -2,10 +2,13 @@
 -- Assumes nothing.
 use mathlib.Core.Path.{_≡_}
 use mathlib.Core.List.{List, [], _∷_, map}
-use Prim.Native.Nat.{ℕ, _+_, _*_, _/_}
+use mathlib.Core.Bool.{cond}
+use Prim.Native.Nat.{ℕ, suc, _+_, _*_, _/_}
+use lib.Dec.{eqb}
 use lib.ListN.{length, take}
 use Rattle.ground.specs.Rows.{tab}
-use Rattle.stopper.specs.Table.{lengthOf}
+use Rattle.stopper.specs.Table.{characters, rankIn, lengthOf}
+use Rattle.stopper.specs.declared.table.Table.{Table}
 use Rattle.buffer.specs.Roll.{reading, ranksRead}
 use Rattle.buffer.specs.declared.roll.Roll.{Roll}
 
@@ -27,6 +30,16 @@ directoryOf lengths = tab (λ i. startAt lengths (i * 32)) 0 (entries (length le
 -- the lengths of a sound roll's codewords: n of them
 unfoldable pub lengthsOf : Roll → List ℕ → List ℕ
 lengthsOf r buf = map (lengthOf (r .table .code)) (ranksRead (reading r buf))
+
+-- the lengths of a text's codewords
+unfoldable pub lengthsFor : Table → List ℕ → List ℕ
+lengthsFor t text = map (λ b. lengthOf (t .code) (rankIn (characters t) b)) text
+
+-- the number of the first entry that is missing or wrong, of those wanted; or how many are wanted
+unfoldable pub firstWrong : List ℕ → List ℕ → ℕ
+firstWrong [] dir = 0
+firstWrong (e ∷ wanted) [] = 0
+firstWrong (e ∷ wanted) (x ∷ dir) = let later : ℕ = suc (firstWrong wanted dir) in cond (eqb e x) later 0
 
 -- the entries that a sound roll has are right
 abbrev pub Right : Roll → List ℕ → List ℕ → Type 0

@@ -9,4 +9,9 @@ pub mod Holding
 pub mod Directory
 pub mod Hits
 pub mod Words
+pub mod Mending
+pub mod Editing
+pub mod Edited
+pub mod Replaced
+pub mod Replacing
 pub mod Finding

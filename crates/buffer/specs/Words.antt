@@ -58,16 +58,16 @@ unfoldable pub rowOf : List ℕ → List ℕ → List ℕ → List ℕ
 rowOf lengths words [] = []
 rowOf lengths words (b ∷ text) = wordAt lengths words b ++ rowOf lengths words text
 
--- a row of symbols laid over the front of another
-abbrev pub atFront : List ℕ → List ℕ → List ℕ
-atFront row xs = over row 0 xs (length xs)
+-- a row of symbols laid over another from a symbol on
+abbrev pub laidFrom : List ℕ → ℕ → List ℕ → List ℕ
+laidFrom row first xs = over row first xs (first + length xs)
 
--- the words are symbols of k bits in their places, and those of the text are within the buffer
-pub record Laid (k : ℕ) (lengths words text buf : List ℕ) : Type 0 where
+-- the words are symbols of k bits in their places, and those of the text are within the buffer from a symbol on
+pub record Laid (k : ℕ) (lengths words text buf : List ℕ) (first : ℕ) : Type 0 where
   pub width : Width k
   pub characters : length lengths ≡ 256
   pub few : Below 87 lengths
   pub places : length words ≡ 22016
   pub symbols : Below (2 ^ k) (rowOf lengths words text)
-  pub fits : length (rowOf lengths words text) ≤ length (symbolsOf k buf)
-  pub counts : length (rowOf lengths words text) < 2 ^ 64
+  pub fits : first + length (rowOf lengths words text) ≤ length (symbolsOf k buf)
+  pub counts : first + length (rowOf lengths words text) < 2 ^ 64

@@ -1,12 +1,16 @@
-// The directory of a sound roll.
+// The directory of a sound roll: written from a character on, compared, gone by, and cleared behind its end.
 use crate::reading::Found;
+use crate::reading::Passed;
 use crate::reading::codeword_at;
+use crate::reading::pass_over;
 use crate::roll::Roll;
 ghost use mathlib.Core.Path.{_≡_};
 ghost use mathlib.Core.List.{_++_};
-ghost use Prim.Native.Nat.{_≤_};
+ghost use Prim.Native.Nat.{_+_, _-_, _≤_};
 ghost use lib.ListN.{length, drop};
-ghost use Rattle.buffer.specs.Directory.{entries, directoryOf, lengthsOf};
+ghost use Rattle.ground.specs.Rows.{zeros};
+ghost use Rattle.symbols.specs.Runs.{over, run};
+ghost use Rattle.buffer.specs.Directory.{entries, startAt, directoryOf, lengthsOf, firstWrong, Right};
 ghost use Rattle.buffer.specs.Roll.{Sound};
 
 // How many entries n characters have.
@@ -16,10 +20,42 @@ pub fn entries_for(n: u32) -> usize
     (n as usize + 31) / 32
 }
 
-// The directory of a sound roll, written from the start of dir: at each 32nd codeword its first symbol.
+// The entries of the characters from `from`, which starts at symbol first, up to `upto`.
+pub fn mend(roll: Roll, buf: &[u8], dir: &mut [u32], from: usize, upto: usize, first: usize)
+    requires { ⌜ Sound roll (now buf) × (from ≤ upto) × (upto ≤ roll .n) × (entries upto ≤ length (now dir)) × (first ≡ startAt (lengthsOf roll (now buf)) from) ⌝ }
+    ensures { λ _. ⌜ now (dir .exit) ≡ over (now (dir .entry)) (entries from) (run (directoryOf (lengthsOf roll (now (buf .entry)))) (entries from) (entries upto)) (entries upto) ⌝ }
+{
+    let table = roll.table;
+    let code = table.code;
+    let sigma = table.sigma as u32;
+    let h = roll.h as usize;
+    let mut p = first;
+    let mut j = from;
+    while j < upto {
+        if j % 32 == 0 {
+            dir[j / 32] = p as u32;
+        }
+        let found = codeword_at(code, sigma, buf, h, p);
+        let Found::Word(_, next) = found else {
+            return;
+        };
+        p = next;
+        j += 1;
+    }
+}
+
+// All entries, written from the start of dir.
 pub fn make_sound(roll: Roll, buf: &[u8], dir: &mut [u32])
     requires { ⌜ Sound roll (now buf) × (entries (roll .n) ≤ length (now dir)) ⌝ }
     ensures { λ _. ⌜ now (dir .exit) ≡ directoryOf (lengthsOf roll (now (buf .entry))) ++ drop (entries (roll .n)) (now (dir .entry)) ⌝ }
+{
+    mend(roll, buf, dir, 0, roll.n as usize, 0);
+}
+
+// The number of the first entry that is missing or wrong, or how many there are.
+pub fn first_wrong(roll: Roll, buf: &[u8], dir: &[u32]) -> usize
+    requires { ⌜ Sound roll (now buf) ⌝ }
+    ensures { λ r. ⌜ r ≡ firstWrong (directoryOf (lengthsOf roll (now (buf .entry)))) (now (dir .entry)) ⌝ }
 {
     let table = roll.table;
     let code = table.code;
@@ -30,13 +66,50 @@ pub fn make_sound(roll: Roll, buf: &[u8], dir: &mut [u32])
     let mut j: usize = 0;
     while j < n {
         if j % 32 == 0 {
-            dir[j / 32] = p as u32;
+            if dir.len() <= j / 32 {
+                return j / 32;
+            }
+            if dir[j / 32] as usize != p {
+                return j / 32;
+            }
         }
         let found = codeword_at(code, sigma, buf, h, p);
         let Found::Word(_, next) = found else {
-            return;
+            return j / 32;
         };
         p = next;
         j += 1;
+    }
+    entries_for(roll.n)
+}
+
+// The first symbol of character j, or the roll's end for j = n.
+pub fn start_of(roll: Roll, buf: &[u8], dir: &[u32], j: usize) -> usize
+    requires { ⌜ Sound roll (now buf) × Right roll (now buf) (now dir) × (j ≤ roll .n) ⌝ }
+    ensures { λ r. ⌜ r ≡ startAt (lengthsOf roll (now (buf .entry))) j ⌝ }
+{
+    let h = roll.h as usize;
+    if roll.n as usize <= j {
+        return h;
+    }
+    let table = roll.table;
+    let code = table.code;
+    let sigma = table.sigma as u32;
+    let passed = pass_over(code, sigma, buf, h, dir[j / 32] as usize, j % 32);
+    let Passed::At(at) = passed else {
+        return h;
+    };
+    at
+}
+
+// The entries from `from` up to `to` are cleared, if there are any.
+pub fn clear_entries(dir: &mut [u32], from: usize, to: usize)
+    requires { ⌜ to ≤ length (now dir) ⌝ }
+    ensures { λ _. ⌜ now (dir .exit) ≡ over (now (dir .entry)) from (zeros (to - from)) (from + (to - from)) ⌝ }
+{
+    let mut i = from;
+    while i < to {
+        dir[i] = 0;
+        i += 1;
     }
 }

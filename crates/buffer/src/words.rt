@@ -11,7 +11,7 @@ ghost use Rattle.ground.specs.Rows.{Below, zeros};
 ghost use Rattle.stopper.specs.Table.{goodCode};
 ghost use Rattle.symbols.specs.Symbols.{Width, symbolsOf};
 ghost use Rattle.symbols.specs.Runs.{over};
-ghost use Rattle.buffer.specs.Words.{Spelt, goesOn, fitOf, foreignOf, Laid, atFront, rowOf};
+ghost use Rattle.buffer.specs.Words.{Spelt, goesOn, fitOf, foreignOf, Laid, laidFrom, rowOf};
 
 fn wide(x: u8) -> usize
     ensures { λ r. ⌜ (r ≡ x) × (r < 256) ⌝ }
@@ -93,12 +93,12 @@ fn put_word(k: u8, word: &[u8], buf: &mut [u8], p: usize) -> usize
     p + i
 }
 
-// The codewords of a text stored from the first symbol on.
-pub fn write_text(k: u8, lengths: &[u8], words: &[u8], text: &[u8], buf: &mut [u8])
-    requires { ⌜ Laid k (now lengths) (now words) (now text) (now buf) ⌝ }
-    ensures { λ _. ⌜ symbolsOf k (now (buf .exit)) ≡ atFront (symbolsOf k (now (buf .entry))) (rowOf (now (lengths .entry)) (now (words .entry)) (now (text .entry))) ⌝ }
+// The codewords of a text stored from symbol first on.
+pub fn write_text(k: u8, lengths: &[u8], words: &[u8], text: &[u8], buf: &mut [u8], first: usize)
+    requires { ⌜ Laid k (now lengths) (now words) (now text) (now buf) first ⌝ }
+    ensures { λ _. ⌜ symbolsOf k (now (buf .exit)) ≡ laidFrom (symbolsOf k (now (buf .entry))) first (rowOf (now (lengths .entry)) (now (words .entry)) (now (text .entry))) ⌝ }
 {
-    let mut p: usize = 0;
+    let mut p = first;
     let mut i = 0;
     while i < text.len() {
         let b = wide(text[i]);

@@ -1,9 +1,10 @@
--- An answer that says what its rows say tells it.
+-- An answer that says what its rows say tells it, and a part of a record is kept as the record is.
 -- Assumes nothing.
 use mathlib.Core.Path.{_≡_, refl, sym, ap, _∙_}
-use mathlib.Core.List.{List, [], append-nil}
+use mathlib.Core.Bool.{Bool, true, false, cond}
+use mathlib.Core.List.{List, [], _∷_, append-nil}
 use Prim.Native.Nat.{ℕ}
-use Rattle.ground.specs.Refusals.{Row, Outcome, accepted, refused, judged}
+use Rattle.ground.specs.Refusals.{Row, Outcome, accepted, refused, judged, kept}
 use Rattle.ground.specs.Answers.{doneSays}
 use Rattle.ground.specs.Laws.Refusals.{refused-front, accepted-front}
 use Rattle.ground.specs.declared.answers.Done.{Done}
@@ -38,3 +39,13 @@ told-done rows (Refused n v) answer e p q = rw (p, q) (told-no rows answer (sym 
 
 pub told-says : (rows : List Row) (answer : ℕ) (a : Outcome ℕ) {number value : ℕ} → a ≡ judged rows answer → number ≡ numberOf a → value ≡ valueOf a → Told rows answer number value
 told-says rows answer a e p q = record { number-is = p ∙ ap numberOf e; value-is = q ∙ ap valueOf e }
+
+-- a part of what is kept
+pub kept-part : {A B : Type 0} (f : A → B) (rows : List Row) (before after : A) → f (kept rows before after) ≡ kept rows (f before) (f after)
+kept-part f [] before after = refl
+kept-part {A} {B} f (r ∷ rows) before after = go (r .applies) (kept-part f rows before after)
+  where
+    go : (b : Bool) → f (kept rows before after) ≡ kept rows (f before) (f after)
+        → f (cond b before (kept rows before after)) ≡ cond b (f before) (kept rows (f before) (f after))
+    go true e = refl
+    go false e = e

@@ -28,7 +28,8 @@ ghost use lib.ListN.{getD};
 ghost use Rattle.buffer.specs.Codewords.{oneRank};
 ghost use Rattle.buffer.specs.Directory.{entries, directoryOf, lengthsOf};
 ghost use Rattle.buffer.specs.Hits.{hits, listed};
-ghost use Rattle.roll.specs.Operations.{checkRows, unpackRows, packRows, makeRows, readRows, oneRead, searchRows};
+ghost use Rattle.buffer.specs.Editing.{edited, bytesAfter, directoryAfter};
+ghost use Rattle.roll.specs.Operations.{checkRows, unpackRows, packRows, makeRows, readRows, oneRead, searchRows, editRows};
 ghost use Rattle.cabi.specs.Taken.{Told, tableAt, rollAt, wordAt};
 
 #[no_mangle]
@@ -272,4 +273,36 @@ pub extern "C" fn monterculo_search(
             number as u32
         }
     }
+}
+
+// The record's table is the one given; n and h are its numbers, and take those of the edited roll.
+#[no_mangle]
+pub extern "C" fn monterculo_edit(
+    k: u8,
+    s: u8,
+    sigma: u16,
+    places: &[u8; 256],
+    n: &mut u32,
+    h: &mut u32,
+    buf: &mut [u8],
+    dir: &mut [u32],
+    start: usize,
+    end: usize,
+    text: &[u8],
+    value: &mut u64,
+) -> u32
+    ensures told { λ r. ⌜ Told (editRows (rollAt k s sigma (now (places .entry)) (now (n .entry)) (now (h .entry))) (now (buf .entry)) (now (dir .entry)) start end (now (text .entry))) 0 r (now (value .exit)) ⌝ }
+    ensures buf { λ _. ⌜ now (buf .exit) ≡ kept (editRows (rollAt k s sigma (now (places .entry)) (now (n .entry)) (now (h .entry))) (now (buf .entry)) (now (dir .entry)) start end (now (text .entry))) (now (buf .entry)) (bytesAfter (rollAt k s sigma (now (places .entry)) (now (n .entry)) (now (h .entry))) (edited (textOf (rollAt k s sigma (now (places .entry)) (now (n .entry)) (now (h .entry))) (now (buf .entry))) start end (now (text .entry))) (now (buf .entry))) ⌝ }
+    ensures dir { λ _. ⌜ now (dir .exit) ≡ kept (editRows (rollAt k s sigma (now (places .entry)) (now (n .entry)) (now (h .entry))) (now (buf .entry)) (now (dir .entry)) start end (now (text .entry))) (now (dir .entry)) (directoryAfter (rollAt k s sigma (now (places .entry)) (now (n .entry)) (now (h .entry))) (edited (textOf (rollAt k s sigma (now (places .entry)) (now (n .entry)) (now (h .entry))) (now (buf .entry))) start end (now (text .entry))) (now (dir .entry))) ⌝ }
+    ensures n { λ _. ⌜ now (n .exit) ≡ kept (editRows (rollAt k s sigma (now (places .entry)) (now (n .entry)) (now (h .entry))) (now (buf .entry)) (now (dir .entry)) start end (now (text .entry))) (now (n .entry)) (recordOf (tableAt k s sigma (now (places .entry))) (edited (textOf (rollAt k s sigma (now (places .entry)) (now (n .entry)) (now (h .entry))) (now (buf .entry))) start end (now (text .entry))) .n) ⌝ }
+    ensures h { λ _. ⌜ now (h .exit) ≡ kept (editRows (rollAt k s sigma (now (places .entry)) (now (n .entry)) (now (h .entry))) (now (buf .entry)) (now (dir .entry)) start end (now (text .entry))) (now (h .entry)) (recordOf (tableAt k s sigma (now (places .entry))) (edited (textOf (rollAt k s sigma (now (places .entry)) (now (n .entry)) (now (h .entry))) (now (buf .entry))) start end (now (text .entry))) .h) ⌝ }
+{
+    let roll = roll_of(k, s, sigma, places, *n, *h);
+    let edited = roll::edit::edit(roll, buf, dir, start, end, text);
+    let answer = edited.answer;
+    let record = edited.roll;
+    // A refused edit answers the record that came in.
+    *n = record.n;
+    *h = record.h;
+    told(answer, 0, value)
 }

@@ -20,12 +20,13 @@ use Rattle.stopper.specs.Reading.{read, readFrom, ahead, write, firstFrom, firs
 use Rattle.symbols.specs.Symbols.{per, bytesFor, room, shift, symbolAt, symbolsOf, number, byteAt, bytesOf}
 use Rattle.buffer.specs.Roll.{firstForeign, firstOver, textRow, reading, isBad, firstBad, ranksRead, textOf, allZero}
 use Rattle.buffer.specs.Codewords.{foundIn, foundAt, passedFrom, oneFound, onePassed, oneFrom, oneIsLost, oneLost, oneRank}
-use Rattle.buffer.specs.Directory.{entries, sum, startAt, directoryOf, lengthsOf}
+use Rattle.buffer.specs.Directory.{entries, sum, startAt, directoryOf, lengthsOf, lengthsFor, firstWrong}
 use Rattle.buffer.specs.Hits.{stands, hitsFrom, hits, goodPattern}
-use Rattle.roll.specs.Operations.{Searching, Packing, Checking, Unpacking, Making, ReadingOne}
+use Rattle.roll.specs.Operations.{Searching, Packing, Checking, Unpacking, Making, ReadingOne, Editing}
 use Rattle.roll.specs.Worked.{abra, packedAbra}
 use Rattle.buffer.specs.declared.roll.Roll.{Roll}
 use Rattle.roll.specs.declared.pack.Packed.{Packed}
+use Rattle.roll.specs.declared.edit.Edited.{Edited}
 
 -- an accepted outcome is no refusal
 apart : {n v : ℕ} → _≡_ {A = Outcome (Unit {0})} (accepted tt) (refused n v) → ⊥
@@ -105,3 +106,82 @@ search-not-last p = let e = first-of (p .leaves) in omega arith
 pub search-not-skipping : {after : List ℕ} → Searching (record { table = abra; n = 7; h = 7 }) (17 ∷ 16 ∷ []) (97 ∷ 98 ∷ 97 ∷ []) [] (Of 2) after → ⊥
 unfolding abra packedAbra limit tab zeros padded shorter opens rankAt stoppers goodWidth goodCode goodCharacters goodTable has repeats read readFrom ahead per bytesFor room shift symbolAt symbolsOf reading isBad firstBad ranksRead textOf allZero stands hitsFrom hits goodPattern
 search-not-skipping p = let e = total-of (p .says) in omega arith
+
+-- ---- edit: abracadabra, packed, with its directory
+
+abbrev packed : Roll
+packed = record { table = abra; n = 11; h = 13 }
+
+-- element i of a row that equals another
+at : {l m : List ℕ} (i : ℕ) → l ≡ m → getD l i 0 ≡ getD m i 0
+at i e = ap (λ (l : List ℕ). getD l i 0) e
+
+-- an edit that refuses everything: dd in place of c fits
+pub edit-not-refusing : {e : Edited} {after behind : List ℕ} {n v : ℕ} → Editing packed packedAbra (0 ∷ []) 4 5 (100 ∷ 100 ∷ []) e after behind → e .answer ≡ Refused n v → ⊥
+unfolding abra packedAbra limit tab zeros padded codeword place first shorter opens spell rankAt stoppers goodWidth goodCode goodCharacters goodTable has repeats rankIn lengthOf read readFrom ahead per bytesFor room shift symbolAt symbolsOf firstForeign firstOver reading isBad firstBad ranksRead textOf allZero entries sum startAt directoryOf lengthsOf firstWrong
+edit-not-refusing p e = apart (sym (p .says) ∙ ap doneSays e)
+
+-- the buffer left as it was, whatever is answered: dd in place of c
+pub edit-not-untouched : {e : Edited} {behind : List ℕ} → Editing packed packedAbra (0 ∷ []) 4 5 (100 ∷ 100 ∷ []) e packedAbra behind → ⊥
+unfolding abra packedAbra limit tab zeros padded codeword place first shorter opens spell rankAt stoppers goodWidth goodCode goodCharacters goodTable has repeats rankIn lengthOf read readFrom ahead write per bytesFor room shift symbolAt symbolsOf number byteAt bytesOf firstForeign firstOver textRow reading isBad firstBad ranksRead textOf allZero entries sum startAt directoryOf lengthsOf firstWrong
+edit-not-untouched p = let e = at 1 (p .leaves) in omega arith
+
+-- the record left as it was: there are 12 characters then
+pub edit-not-record : {e : Edited} {after behind : List ℕ} → Editing packed packedAbra (0 ∷ []) 4 5 (100 ∷ 100 ∷ []) e after behind → e .roll ≡ packed → ⊥
+unfolding abra packedAbra limit tab zeros padded codeword place first shorter opens spell rankAt stoppers goodWidth goodCode goodCharacters goodTable has repeats rankIn lengthOf read readFrom ahead per bytesFor room shift symbolAt symbolsOf firstForeign firstOver reading isBad firstBad ranksRead textOf allZero entries sum startAt directoryOf lengthsOf firstWrong
+edit-not-record p q = let e = ap (λ (r : Roll). r .n) (sym q ∙ p .roll) in omega arith
+
+-- the same outcome for every edit: dd in place of c, and cad dropped, leave other bytes
+pub edit-not-constant : {e : Edited} {after behind : List ℕ} → Editing packed packedAbra (0 ∷ []) 4 5 (100 ∷ 100 ∷ []) e after behind
+    → Editing packed packedAbra (0 ∷ []) 4 7 [] e after behind → ⊥
+unfolding abra packedAbra limit tab zeros padded codeword place first shorter opens spell rankAt stoppers goodWidth goodCode goodCharacters goodTable has repeats rankIn lengthOf read readFrom ahead write per bytesFor room shift symbolAt symbolsOf number byteAt bytesOf firstForeign firstOver textRow reading isBad firstBad ranksRead textOf allZero entries sum startAt directoryOf lengthsOf firstWrong
+edit-not-constant p q = let e = at 1 (sym (p .leaves) ∙ q .leaves) in omega arith
+
+-- the tail moved by a whole byte where the length changes by one symbol: a put before all, and the old byte 0 is byte 1
+pub edit-not-bytes : {e : Edited} {x : ℕ} {rest behind : List ℕ} → Editing packed packedAbra (0 ∷ []) 0 0 (97 ∷ []) e (x ∷ 24 ∷ rest) behind → ⊥
+unfolding abra packedAbra limit tab zeros padded codeword place first shorter opens spell rankAt stoppers goodWidth goodCode goodCharacters goodTable has repeats rankIn lengthOf read readFrom ahead write per bytesFor room shift symbolAt symbolsOf number byteAt bytesOf firstForeign firstOver textRow reading isBad firstBad ranksRead textOf allZero entries sum startAt directoryOf lengthsOf firstWrong
+edit-not-bytes p = let e = at 1 (p .leaves) in omega arith
+
+-- digits left behind the new end: cad dropped, and byte 2 is 70 as before
+pub edit-not-left : {e : Edited} {x y : ℕ} {rest behind : List ℕ} → Editing packed packedAbra (0 ∷ []) 4 7 [] e (x ∷ y ∷ 70 ∷ rest) behind → ⊥
+unfolding abra packedAbra limit tab zeros padded codeword place first shorter opens spell rankAt stoppers goodWidth goodCode goodCharacters goodTable has repeats rankIn lengthOf read readFrom ahead write per bytesFor room shift symbolAt symbolsOf number byteAt bytesOf firstForeign firstOver textRow reading isBad firstBad ranksRead textOf allZero entries sum startAt directoryOf lengthsOf firstWrong
+edit-not-left p = let e = at 2 (p .leaves) in omega arith
+
+-- the directory left as it was: with a in place of c, character 32 starts at symbol 32
+pub edit-not-directory : {e : Edited} {after : List ℕ} → Editing longer packedLonger (0 ∷ 33 ∷ []) 0 1 (97 ∷ []) e after (0 ∷ 33 ∷ []) → ⊥
+unfolding abra limit tab zeros padded codeword place first shorter opens spell rankAt stoppers goodWidth goodCode goodCharacters goodTable has repeats rankIn lengthOf read readFrom ahead per bytesFor room shift symbolAt symbolsOf firstForeign firstOver reading isBad firstBad ranksRead textOf allZero entries sum startAt directoryOf lengthsOf lengthsFor firstWrong
+edit-not-directory p = let e = at 1 (p .mends) in omega arith
+
+-- an entry left that is used no longer: with c dropped, 32 characters have one
+pub edit-not-entry : {e : Edited} {after : List ℕ} → Editing longer packedLonger (0 ∷ 33 ∷ []) 0 1 [] e after (0 ∷ 33 ∷ []) → ⊥
+unfolding abra limit tab zeros padded codeword place first shorter opens spell rankAt stoppers goodWidth goodCode goodCharacters goodTable has repeats rankIn lengthOf read readFrom ahead per bytesFor room shift symbolAt symbolsOf firstForeign firstOver reading isBad firstBad ranksRead textOf allZero entries sum startAt directoryOf lengthsOf lengthsFor firstWrong
+edit-not-entry p = let e = at 1 (p .mends) in omega arith
+
+-- the byte before the run written with a zero: c starts in byte 1, and byte 0 stays
+pub edit-not-before : {e : Edited} {rest behind : List ℕ} → Editing packed packedAbra (0 ∷ []) 4 5 (100 ∷ 100 ∷ []) e (0 ∷ rest) behind → ⊥
+unfolding abra packedAbra limit tab zeros padded codeword place first shorter opens spell rankAt stoppers goodWidth goodCode goodCharacters goodTable has repeats rankIn lengthOf read readFrom ahead write per bytesFor room shift symbolAt symbolsOf number byteAt bytesOf firstForeign firstOver textRow reading isBad firstBad ranksRead textOf allZero entries sum startAt directoryOf lengthsOf firstWrong
+edit-not-before p = let e = first-of (p .leaves) in omega arith
+
+number-of : {n m v w : ℕ} → _≡_ {A = Outcome (Unit {0})} (refused n v) (refused m w) → n ≡ m
+number-of e = cc
+
+-- 12 asked before 4: 32 times a fill 8 bytes and one entry, and one more has neither room nor an entry
+pub edit-not-12-first : {e : Edited} {after behind : List ℕ} {v : ℕ}
+    → Editing (record { table = abra; n = 32; h = 32 }) (replicate 8 0) (0 ∷ []) 32 32 (97 ∷ []) e after behind → e .answer ≡ Refused 12 v → ⊥
+unfolding abra limit tab zeros padded codeword place first shorter opens spell rankAt stoppers goodWidth goodCode goodCharacters goodTable has repeats rankIn lengthOf read readFrom ahead per bytesFor room shift symbolAt symbolsOf firstForeign firstOver reading isBad firstBad ranksRead textOf allZero entries sum startAt directoryOf lengthsOf firstWrong
+edit-not-12-first p q = let e = number-of (sym (ap doneSays q) ∙ p .says) in omega arith
+
+-- 12 not asked: with a byte more there is room, and still no entry
+pub edit-not-unlisted : {e : Edited} {after behind : List ℕ}
+    → Editing (record { table = abra; n = 32; h = 32 }) (replicate 9 0) (0 ∷ []) 32 32 (97 ∷ []) e after behind → e .answer ≡ Yes → ⊥
+unfolding abra limit tab zeros padded codeword place first shorter opens spell rankAt stoppers goodWidth goodCode goodCharacters goodTable has repeats rankIn lengthOf read readFrom ahead per bytesFor room shift symbolAt symbolsOf firstForeign firstOver reading isBad firstBad ranksRead textOf allZero entries sum startAt directoryOf lengthsOf firstWrong
+edit-not-unlisted p q = apart (sym (ap doneSays q) ∙ p .says)
+
+value-of : {n m v w : ℕ} → _≡_ {A = Outcome (Unit {0})} (refused n v) (refused m w) → v ≡ w
+value-of e = cc
+
+-- 4 with a number in the new text, and not in the edited one: it is 32
+pub edit-not-piece : {e : Edited} {after behind : List ℕ}
+    → Editing (record { table = abra; n = 32; h = 32 }) (replicate 8 0) (0 ∷ []) 32 32 (97 ∷ []) e after behind → e .answer ≡ Refused 4 0 → ⊥
+unfolding abra limit tab zeros padded codeword place first shorter opens spell rankAt stoppers goodWidth goodCode goodCharacters goodTable has repeats rankIn lengthOf read readFrom ahead per bytesFor room shift symbolAt symbolsOf firstForeign firstOver reading isBad firstBad ranksRead textOf allZero entries sum startAt directoryOf lengthsOf firstWrong
+edit-not-piece p q = let e = value-of (sym (ap doneSays q) ∙ p .says) in omega arith

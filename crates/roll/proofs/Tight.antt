@@ -19,6 +19,9 @@ use Rattle.roll.proofs.make_directory.make_directory.Kinds as make-dire
 use Rattle.roll.proofs.make_directory.make_directory.Reads as make-directory-reads
 use Rattle.roll.proofs.read_one.read_one.Kinds as read-one-kinds
 use Rattle.roll.proofs.read_one.read_one.Reads as read-one-reads
+use Rattle.roll.specs.declared.edit.Edited.{Edited}
+use Rattle.roll.proofs.edit.edit.Kinds as edit-kinds
+use Rattle.roll.proofs.edit.edit.Reads as edit-reads
 use Rattle.roll.proofs.search.search.Kinds as search-kinds
 use Rattle.roll.proofs.search.search.Reads as search-reads
 
@@ -53,3 +56,12 @@ read-one-tight κs a r₁ r₂ s₁ s₂ p q = answer-one r₁ r₂ (p .says ∙
 pub search-tight : (κs : Lfts 3) (a : Dens κs search-kinds.ps) (r₁ r₂ : resT search-kinds.r κs .Denot) (s₁ s₂ : AtExit (endedOf 3 search-kinds.ps search-kinds.r) κs)
     → search-reads.Learnt κs a r₁ s₁ → search-reads.Learnt κs a r₂ s₂ → (r₁ ≡ r₂) × (s₁ .1 .1 .1 .0 .now ≡ s₂ .1 .1 .1 .0 .now)
 search-tight κs a r₁ r₂ s₁ s₂ p q = (total-one r₁ r₂ (p .says ∙ sym (q .says)), p .leaves ∙ sym (q .leaves))
+
+-- the second and third parameters, the buffer and the directory, are lent
+pub edit-tight : (κs : Lfts 3) (a : Dens κs edit-kinds.ps) (r₁ r₂ : resT edit-kinds.r κs .Denot) (s₁ s₂ : AtExit (endedOf 3 edit-kinds.ps edit-kinds.r) κs)
+    → edit-reads.Learnt κs a r₁ s₁ → edit-reads.Learnt κs a r₂ s₂ → (r₁ ≡ r₂) × (s₁ .1 .0 .now ≡ s₂ .1 .0 .now) × (s₁ .1 .1 .0 .now ≡ s₂ .1 .1 .0 .now)
+edit-tight κs a r₁ r₂ s₁ s₂ p q = (
+  ap₂ {C = Edited} (λ (x : Done) (y : Roll). record { answer = x; roll = y }) (done-one (r₁ .answer) (r₂ .answer) (p .says ∙ sym (q .says))) (p .roll ∙ sym (q .roll)),
+  p .leaves ∙ sym (q .leaves),
+  p .mends ∙ sym (q .mends),
+)

@@ -5,3 +5,4 @@ pub mod Meaning
 pub mod Counted
 pub mod Operations
 pub mod Made
+pub mod Edits

@@ -18,10 +18,12 @@ use Rattle.symbols.specs.Runs.{run}
 use Rattle.stopper.specs.declared.table.Table.{Table}
 use Rattle.buffer.specs.Roll.{firstForeign, firstOver, symbolsFor, recordOf, packedInto, rowUpto, reading, isBad, firstBad, ranksRead, textOf, allZero, unusedOf}
 use Rattle.buffer.specs.Codewords.{One, oneFrom, oneIsLost, oneLost, oneRank}
-use Rattle.buffer.specs.Directory.{entries, directoryOf, lengthsOf}
+use Rattle.buffer.specs.Directory.{entries, directoryOf, lengthsOf, firstWrong}
 use Rattle.buffer.specs.Hits.{hits, goodPattern, listed}
+use Rattle.buffer.specs.Editing.{edited, bytesAfter, directoryAfter}
 use Rattle.buffer.specs.declared.roll.Roll.{Roll}
 use Rattle.roll.specs.declared.pack.Packed.{Packed}
+use Rattle.roll.specs.declared.edit.Edited.{Edited}
 
 -- ---- pack: 1, 3, 4
 
@@ -109,3 +111,39 @@ searchRows r buf pattern = checkRows r buf ++ (refuse 11 0 (not (goodPattern pat
 pub record Searching (r : Roll) (buf pattern slice : List ℕ) (answer : Total) (after : List ℕ) : Type 0 where
   pub says : totalSays answer ≡ judged (searchRows r buf pattern) (length (hits pattern (textOf r buf)))
   pub leaves : after ≡ kept (searchRows r buf pattern) slice (listed (hits pattern (textOf r buf)) slice)
+
+-- ---- edit: check's, 9, 10, 3, 4, 12
+
+-- a sound roll with a right directory
+abbrev pub directoryRows : Roll → List ℕ → List ℕ → List Row
+directoryRows r buf dir =
+    let wrong : ℕ = firstWrong (directoryOf (lengthsOf r buf)) dir in
+    checkRows r buf ++ (refuse 9 wrong (ltb wrong (entries (r .n))) ∷ [])
+
+pub record DirectoryChecked (r : Roll) (buf dir : List ℕ) (answer : Done) : Type 0 where
+  pub says : doneSays answer ≡ judged (directoryRows r buf dir) tt
+
+abbrev pub changeRows : Roll → List ℕ → List ℕ → ℕ → ℕ → List ℕ → List Row
+changeRows r buf dir start end text =
+    let t : Table = r .table in
+    let new : List ℕ = edited (textOf r buf) start end text in
+    let foreign : ℕ = firstForeign (characters t) text in
+    let over : ℕ = firstOver (t .code) (characters t) (room (t .code .k) (length buf)) new in
+    refuse 10 0 (ltb end start || ltb (r .n) end)
+    ∷ refuse 3 foreign (ltb foreign (length text))
+    ∷ refuse 4 over (ltb over (length new))
+    ∷ refuse 12 (entries (length new)) (ltb (length dir) (entries (length new)))
+    ∷ []
+
+abbrev pub editRows : Roll → List ℕ → List ℕ → ℕ → ℕ → List ℕ → List Row
+editRows r buf dir start end text = directoryRows r buf dir ++ changeRows r buf dir start end text
+
+unfoldable pub refusedEdit : Roll → ℕ → ℕ → Edited
+refusedEdit r number value = record { answer = Refused number value; roll = r }
+
+-- `after` and `behind` are what the buffer and the directory hold then
+pub record Editing (r : Roll) (buf dir : List ℕ) (start end : ℕ) (text : List ℕ) (e : Edited) (after behind : List ℕ) : Type 0 where
+  pub says : doneSays (e .answer) ≡ judged (editRows r buf dir start end text) tt
+  pub roll : e .roll ≡ kept (editRows r buf dir start end text) r (recordOf (r .table) (edited (textOf r buf) start end text))
+  pub leaves : after ≡ kept (editRows r buf dir start end text) buf (bytesAfter r (edited (textOf r buf) start end text) buf)
+  pub mends : behind ≡ kept (editRows r buf dir start end text) dir (directoryAfter r (edited (textOf r buf) start end text) dir)

@@ -1,4 +1,5 @@
--- Worked on paper: rows of one table under one claim, which the check computes over the definitions that the promises cite.
+-- Worked on paper: rows of one table under one claim, which the check computes over the definitions that the promises cite. Every case
+-- that the paper marks with a star, P1 to P11, is in the table.
 -- Assumes nothing.
 use Prim.Native.Nat.{ℕ, _-_, _^_}
 use mathlib.Core.Bool.{Bool, true, false, not, _&&_}
@@ -16,10 +17,11 @@ use Rattle.stopper.specs.Choosing.{occurs, countsOf, counted, totalFrom, total,
 use Rattle.symbols.specs.Symbols.{per, bytesFor, room, shift, symbolAt, symbolsOf, number, byteAt, bytesOf}
 use Rattle.stopper.specs.declared.table.Table.{Table}
 use Rattle.buffer.specs.Roll.{firstForeign, firstOver, textRow, symbolsFor, recordOf, packedInto, reading, isBad, firstBad, ranksRead, textOf, allZero}
-use Rattle.roll.specs.Operations.{packRows, unpacked, checkRows, unpackRows, searchRows}
+use Rattle.roll.specs.Operations.{packRows, unpacked, checkRows, unpackRows, searchRows, editRows}
 use Rattle.symbols.specs.Runs.{run}
-use Rattle.buffer.specs.Directory.{sum, startAt, lengthsOf}
+use Rattle.buffer.specs.Directory.{entries, sum, startAt, directoryOf, lengthsOf, lengthsFor, firstWrong}
 use Rattle.buffer.specs.Hits.{stands, hitsFrom, hits, goodPattern, listed}
+use Rattle.buffer.specs.Editing.{edited, bytesAfter, directoryAfter}
 use Rattle.buffer.specs.declared.roll.Roll.{Roll}
 
 -- ---- whether two are the same
@@ -67,6 +69,8 @@ data Row : Type 0 where
   finds : Roll → List ℕ → List ℕ → List ℕ → Outcome ℕ → List ℕ → Row
   -- roll, buffer, pattern, symbol: the pattern's symbols stand there, and no hit starts there
   inside : Roll → List ℕ → List ℕ → ℕ → Row
+  -- roll, buffer, directory, start, end, text: the outcome, the record, the buffer and the directory afterwards
+  edits : Roll → List ℕ → List ℕ → ℕ → ℕ → List ℕ → Outcome (Unit {0}) → Roll → List ℕ → List ℕ → Row
 
 right : Row → Bool
 right (word k s r w) = same (wordOf (record { k = k; s = s }) r) w && eqb (rankOf (2 ^ k) (stoppers (record { k = k; s = s })) w) r
@@ -91,6 +95,13 @@ right (finds r buf pattern slice o after) =
 right (inside r buf pattern q) =
     stands (symbolsFor (r .table) pattern) (drop q (symbolsOf (r .table .code .k) buf))
     && not (has q (map (startAt (lengthsOf r buf)) (hits pattern (textOf r buf))))
+right (edits r buf dir start end text o r′ after behind) =
+    let rows = editRows r buf dir start end text in
+    let new = edited (textOf r buf) start end text in
+    sameOutcome (judged rows tt) o
+    && sameRoll (kept rows r (recordOf (r .table) new)) r′
+    && same (kept rows buf (bytesAfter r new buf)) after
+    && same (kept rows dir (directoryAfter r new dir)) behind
 
 every : List Row → Bool
 every [] = true
@@ -151,11 +162,17 @@ rows =
     -- P9
     ∷ word 4 15 255 (replicate 17 15 ++ 0 ∷ [])
     ∷ word 2 3 255 (replicate 85 3 ++ 0 ∷ [])
+    -- P10: dd in place of c; a byte and an entry behind stay
+    ∷ edits (record { table = abra; n = 11; h = 13 }) (packedAbra ++ 9 ∷ []) (0 ∷ 9 ∷ []) 4 5 (100 ∷ 100 ∷ []) yes
+    (record { table = abra; n = 12; h = 15 }) (24 ∷ 221 ∷ 52 ∷ 96 ∷ 9 ∷ []) (0 ∷ 9 ∷ [])
+    -- P11: cad dropped; the bytes used no longer are 0
+    ∷ edits (record { table = abra; n = 11; h = 13 }) (packedAbra ++ 9 ∷ []) (0 ∷ 9 ∷ []) 4 7 [] yes
+    (record { table = abra; n = 8; h = 8 }) (24 ∷ 24 ∷ 0 ∷ 0 ∷ 9 ∷ []) (0 ∷ 9 ∷ [])
     -- all counts 0
     ∷ choice 2 [] (tableOf (record { k = 2; s = 1 }) []) 0
     ∷ choice 4 [] (tableOf (record { k = 4; s = 1 }) []) 0
     ∷ []
 
 worked : T (every rows)
-unfolding every rows right same sameTable sameRoll sameOutcome sameTotal yes abracadabra abra packedAbra banana bananas limit tab zeros padded codeword place first shorter opens spell rankOf rankFrom rankAt stoppers goodWidth goodCode goodCharacters goodTable has repeats rankIn lengthOf read readFrom ahead write key insert rankedFrom ranked occurs countsOf counted totalFrom total least chosen chosenTable per bytesFor room shift symbolAt symbolsOf number byteAt bytesOf firstForeign firstOver textRow reading isBad firstBad ranksRead textOf allZero sum startAt lengthsOf stands hitsFrom hits goodPattern
+unfolding every rows right same sameTable sameRoll sameOutcome sameTotal yes abracadabra abra packedAbra banana bananas limit tab zeros padded codeword place first shorter opens spell rankOf rankFrom rankAt stoppers goodWidth goodCode goodCharacters goodTable has repeats rankIn lengthOf read readFrom ahead write key insert rankedFrom ranked occurs countsOf counted totalFrom total least chosen chosenTable per bytesFor room shift symbolAt symbolsOf number byteAt bytesOf firstForeign firstOver textRow reading isBad firstBad ranksRead textOf allZero entries sum startAt directoryOf lengthsOf lengthsFor firstWrong stands hitsFrom hits goodPattern
 worked = tt

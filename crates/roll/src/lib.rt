@@ -1,6 +1,7 @@
 // The packed roll: a text packed as base symbols in a lent buffer, with its record.
 // Each operation is its refusals, in the paper's order, and then a helper of the crate buffer.
 pub mod check;
+pub mod edit;
 pub mod make_directory;
 pub mod pack;
 pub mod read_one;

@@ -51,7 +51,7 @@ pub fn pack(table: Table, text: &[u8], buf: &mut [u8]) -> Packed
         return refused(table, 4, upto);
     }
     let h = fit.taken;
-    write_text(k, &lengths, &words, text, buf);
+    write_text(k, &lengths, &words, text, buf, 0);
     clear(k, buf, h, h + unused(k, h));
     Packed {
         answer: Done::Yes,

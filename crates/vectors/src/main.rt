@@ -24,7 +24,7 @@ use printed::runs;
 use stopper::table::Table;
 
 fn main() {
-    let mut input = [0u8; 262144];
+    let mut input = [0u8; 393216];
     let n = io::read_full(0, &mut input);
     cases(&input[..n]);
 }
@@ -50,6 +50,7 @@ fn one_case(s: &[u8], at: usize) -> usize {
         4 => directory_case(s, op.next),
         5 => read_case(s, op.next),
         6 => search_case(s, op.next),
+        7 => edit_case(s, op.next),
         _ => s.len(),
     }
 }
@@ -196,5 +197,43 @@ fn searched(roll: Roll, buf: &[u8], pattern: &[u8], slice: &mut [u32]) {
         }
     }
     list(slice);
+    end();
+}
+
+// A roll, a buffer, a directory, start, end, a text.
+fn edit_case(s: &[u8], at: usize) -> usize {
+    let given = roll_at(s, at);
+    let mut space = [0u8; 32800];
+    let buf = bytes(s, given.next, &mut space);
+    let n = buf.value;
+    let mut entries = [0u32; 2100];
+    let dir = numbers(s, buf.next, &mut entries);
+    let m = dir.value;
+    let start = number(s, dir.next);
+    let stop = number(s, start.next);
+    let mut letters = [0u8; 128];
+    let text = bytes(s, stop.next, &mut letters);
+    let p = text.value;
+    let roll = given.roll;
+    edited(
+        roll,
+        &mut space[..n],
+        &mut entries[..m],
+        start.value,
+        stop.value,
+        &letters[..p],
+    );
+    text.next
+}
+
+fn edited(roll: Roll, buf: &mut [u8], dir: &mut [u32], start: usize, stop: usize, text: &[u8]) {
+    io::write_all(1, b"edit");
+    let outcome = roll::edit::edit(roll, buf, dir, start, stop, text);
+    let answer = outcome.answer;
+    let record = outcome.roll;
+    done(answer);
+    roll_out(record);
+    runs(buf);
+    list(dir);
     end();
 }

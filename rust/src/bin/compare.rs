@@ -1,10 +1,12 @@
-//! Holds the archive's ten operations to the reference, call by call, from a seed.
+//! Holds the archive's eleven operations to the reference, call by call, from a seed.
+//! A chain of edits on the same slices is one call; each of its edits is compared and counted.
 //!
 //! `compare [--self] [--call NUMBER] [CALLS] [SEED]`: with --self a second copy of the reference stands in
 //! for the archive; with --call that one call of the seed is made and printed.
 
 #![forbid(unsafe_code)]
 
+use std::borrow::Cow;
 use std::collections::BTreeMap;
 use std::fmt;
 use std::panic::{catch_unwind, AssertUnwindSafe};
@@ -18,7 +20,7 @@ use monterculo_reference::reference::{
 };
 
 /// The numbers of each operation's order in the paper, and 0 for accepted.
-const LISTED: [(&str, &[u32]); 10] = [
+const LISTED: [(&str, &[u32]); 11] = [
     ("count", &[0, 2, 4]),
     ("choose", &[0, 1, 2]),
     ("codeword_of", &[0, 1, 3]),
@@ -29,6 +31,7 @@ const LISTED: [(&str, &[u32]); 10] = [
     ("make_directory", &[0, 1, 5, 6, 7, 8, 12]),
     ("read_one", &[0, 1, 5, 6, 9, 10]),
     ("search", &[0, 1, 5, 6, 7, 8, 11]),
+    ("edit", &[0, 1, 3, 4, 5, 6, 7, 8, 9, 10, 12]),
 ];
 
 // The generator (splitmix64).
@@ -117,6 +120,15 @@ enum Case {
     MakeDirectory { head: Head, places: [u8; 256], n: u32, h: u32, buf: Vec<u8>, directory: Vec<u32> },
     ReadOne { head: Head, places: [u8; 256], n: u32, h: u32, buf: Vec<u8>, directory: Vec<u32>, place: usize },
     Search { head: Head, places: [u8; 256], n: u32, h: u32, buf: Vec<u8>, pattern: Vec<u8>, hits: Vec<u32> },
+    Edit { head: Head, places: [u8; 256], n: u32, h: u32, buf: Vec<u8>, directory: Vec<u32>, changes: Vec<Change> },
+}
+
+/// The range of an edit and the text put in for it. Several are a chain on the same slices and record.
+#[derive(Clone, Debug)]
+struct Change {
+    start: usize,
+    end: usize,
+    text: Vec<u8>,
 }
 
 impl Case {
@@ -133,11 +145,13 @@ impl Case {
             Case::MakeDirectory { .. } => 7,
             Case::ReadOne { .. } => 8,
             Case::Search { .. } => 9,
+            Case::Edit { .. } => 10,
         }
     }
 }
 
 /// A slice inside a larger allocation, with guards before and behind it.
+#[derive(Clone)]
 struct Lent<T> {
     all: Vec<T>,
     start: usize,
@@ -201,7 +215,7 @@ fn array_mut<const N: usize>(lent: &mut Lent<u8>) -> &mut [u8; N] {
 struct Outcome {
     number: u32,
     value: u64,
-    /// s and sigma of choosing, n and h of packing.
+    /// s and sigma of choosing, n and h of packing and editing.
     outputs: Vec<u64>,
     /// Counts, a directory or a list of hits.
     numbers: Vec<Lent<u32>>,
@@ -223,9 +237,9 @@ impl Outcome {
     }
 }
 
-/// Lends fresh copies of the case's slices, and calls.
-fn run(case: &Case, library: &dyn Library) -> Outcome {
-    match case {
+/// Lends fresh copies of the case's slices, and calls: once, or once for each edit of a chain.
+fn run(case: &Case, library: &dyn Library) -> Vec<Outcome> {
+    let outcome = match case {
         Case::Count { text, counts } => {
             let (text, mut counts) = (Lent::new(text), Lent::new(counts));
             let answer = library.count(text.slice(), counts.slice_mut());
@@ -281,10 +295,50 @@ fn run(case: &Case, library: &dyn Library) -> Outcome {
             let bytes = vec![("places", places), ("buf", buf), ("pattern", pattern)];
             Outcome::new(answer, vec![], vec![hits], bytes)
         }
+        Case::Edit { head, places, n, h, buf, directory, changes } => {
+            let (places, mut buf, mut directory) = (Lent::new(places), Lent::new(buf), Lent::new(directory));
+            let (mut n, mut h) = (*n, *h);
+            let mut outcomes = Vec::new();
+            for Change { start, end, text } in changes {
+                let text = Lent::new(text);
+                let (buf_slice, entries) = (buf.slice_mut(), directory.slice_mut());
+                let answer = library.edit(head, array(&places), n, h, buf_slice, entries, *start, *end, text.slice());
+                (n, h) = (answer.2, answer.3);
+                let outputs = vec![u64::from(n), u64::from(h)];
+                let bytes = vec![("places", places.clone()), ("text", text), ("buf", buf.clone())];
+                outcomes.push(Outcome::new((answer.0, answer.1), outputs, vec![directory.clone()], bytes));
+            }
+            return outcomes;
+        }
+    };
+    vec![outcome]
+}
+
+/// A chain's edit of this number as a case of its own, on what the one before left; else the case itself.
+fn step<'a>(case: &'a Case, outcomes: &[Outcome], number: usize) -> Cow<'a, Case> {
+    match case {
+        Case::Edit { head, places, n, h, buf, directory, changes } if changes.len() > 1 => {
+            let (n, h, buf, directory) = match number.checked_sub(1).map(|before| &outcomes[before]) {
+                Some(Outcome { outputs, numbers, bytes, .. }) => {
+                    (outputs[0] as u32, outputs[1] as u32, bytes[2].1.slice(), numbers[0].slice())
+                }
+                None => (*n, *h, &buf[..], &directory[..]),
+            };
+            Cow::Owned(Case::Edit {
+                head: *head,
+                places: *places,
+                n,
+                h,
+                buf: buf.to_vec(),
+                directory: directory.to_vec(),
+                changes: vec![changes[number].clone()],
+            })
+        }
+        _ => Cow::Borrowed(case),
     }
 }
 
-/// What a refusal leaves: everything as it was.
+/// What a refusal leaves: everything as it was. A chain comes here edit by edit.
 fn untouched(case: &Case, number: u32, value: u64) -> Outcome {
     struct Idle(u32, u64);
     impl Library for Idle {
@@ -323,22 +377,36 @@ fn untouched(case: &Case, number: u32, value: u64) -> Outcome {
         fn search(&self, _: &Head, _: &[u8; 256], _: u32, _: u32, _: &[u8], _: &[u8], _: &mut [u32]) -> (u32, u64) {
             (self.0, self.1)
         }
+        #[rustfmt::skip]
+        fn edit(&self, _: &Head, _: &[u8; 256], n: u32, h: u32, _: &mut [u8], _: &mut [u32], _: usize, _: usize, _: &[u8]) -> (u32, u64, u32, u32) {
+            (self.0, self.1, n, h)
+        }
     }
-    run(case, &Idle(number, value))
+    run(case, &Idle(number, value)).remove(0)
 }
 
-/// The number both answer, or what differs.
-fn compare(case: &Case, library: &dyn Library) -> Result<u32, String> {
+/// What both answer, for a chain edit by edit, or what differs.
+fn compare(case: &Case, library: &dyn Library) -> Result<Vec<Outcome>, String> {
     let called = |library: &dyn Library| catch_unwind(AssertUnwindSafe(|| run(case, library)));
-    let expected = called(&Reference).map_err(|_| "the reference panicked")?;
-    if expected.number != 0 && expected != untouched(case, expected.number, expected.value) {
-        return Err(format!("the reference refused and changed something: {:?}", expected));
+    let all_expected = called(&Reference).map_err(|_| "the reference panicked")?;
+    for (number, expected) in all_expected.iter().enumerate().filter(|(_, expected)| expected.number != 0) {
+        let alone = step(case, &all_expected, number);
+        if *expected != untouched(&alone, expected.number, expected.value) {
+            return Err(format!("the reference refused and changed something: {:?}", expected));
+        }
     }
-    let found = called(library).map_err(|_| format!("the library panicked\nreference: {:?}", expected))?;
-    if found != expected || !found.intact() {
-        return Err(format!("reference: {:?}\nlibrary: {:?}", expected, found));
+    let all_found = called(library).map_err(|_| format!("the library panicked\nreference: {:?}", all_expected))?;
+    for (number, (expected, found)) in all_expected.iter().zip(&all_found).enumerate() {
+        if found != expected || !found.intact() {
+            let of = if all_expected.len() > 1 {
+                format!("edit {} of {}\n", number + 1, all_expected.len())
+            } else {
+                String::new()
+            };
+            return Err(format!("{}reference: {:?}\nlibrary: {:?}", of, expected, found));
+        }
     }
-    Ok(expected.number)
+    Ok(all_expected)
 }
 
 // Making cases: a sound one first, then none, one or several faults.
@@ -353,6 +421,40 @@ fn per_byte(k: u8) -> usize {
 
 fn bytes_for(k: u8, symbols: usize) -> usize {
     (symbols + per_byte(k) - 1) / per_byte(k)
+}
+
+fn room(k: u8, bytes: usize) -> usize {
+    LIMIT.min(bytes * per_byte(k))
+}
+
+fn entries_for(characters: usize) -> usize {
+    (characters + STRIDE - 1) / STRIDE
+}
+
+/// 0, and the symbol behind each stopper.
+fn starts(table: &Head, h: u32, buf: &[u8]) -> Vec<u32> {
+    let symbols = symbols_of(table.k, buf, h as usize);
+    let behind = (1..=h).filter(|&number| symbols[number as usize - 1] < table.s);
+    std::iter::once(0).chain(behind).collect()
+}
+
+/// How many symbols each character has; a foreign one has none.
+fn lengths(k: u8, s: u8, characters: &[u8]) -> [usize; 256] {
+    let mut lengths = [0; 256];
+    for (&character, codeword) in characters.iter().zip(&listing(k, s).codewords) {
+        lengths[usize::from(character)] = codeword.len();
+    }
+    lengths
+}
+
+fn characters(table: &Table) -> &[u8] {
+    &table.places[..usize::from(table.sigma)]
+}
+
+/// Symbols of a text, those of foreign characters left out.
+fn symbols_in(table: &Table, text: &[u8]) -> usize {
+    let lengths = lengths(table.k, table.s, characters(table));
+    text.iter().map(|&character| lengths[usize::from(character)]).sum()
 }
 
 /// The greatest σ whose codewords have at most this length.
@@ -497,7 +599,7 @@ fn strange_codeword(rng: &mut Rng, table: &Table) -> Vec<u8> {
         4 => (1 << 8) + below,
         // Ranks that a number of this width cannot tell from one below σ.
         5 => (1 << rng.pick(&[16, 31, 32])) + below,
-        6 => (1 << rng.pick(&[32, 63, 64])) + below,
+        6 => (1 << rng.pick(&[63, 64, 64])) + below,
         _ => return run_of_continuers(rng, table),
     };
     // With c = 1 a great rank is a run as long: seldom, and not over the limit.
@@ -614,15 +716,19 @@ fn roll(rng: &mut Rng, faults: &[Fault]) -> Made {
 }
 
 /// A roll of about this many characters.
-fn roll_of(rng: &mut Rng, mut table: Table, length: usize, faults: &[Fault]) -> Made {
-    let has = |fault| faults.contains(&fault);
+fn roll_of(rng: &mut Rng, table: Table, length: usize, faults: &[Fault]) -> Made {
     if rng.one_in(12) {
         return wild_roll(rng, table, length, faults);
     }
-    let list = listing(table.k, table.s);
     // Seldom a roll as long as there may be: the limit alone then decides.
     let full = rng.one_in(500);
-    let length = if full { LIMIT } else { length };
+    packed_roll(rng, table, if full { LIMIT } else { length }, full, faults)
+}
+
+/// A roll of so many characters, or up to the limit; sound without faults.
+fn packed_roll(rng: &mut Rng, mut table: Table, length: usize, full: bool, faults: &[Fault]) -> Made {
+    let has = |fault| faults.contains(&fault);
+    let list = listing(table.k, table.s);
     let mut codewords: Vec<Vec<u8>> = Vec::new();
     let mut taken = 0;
     for rank in ranks(rng, usize::from(table.sigma), length) {
@@ -698,7 +804,7 @@ fn roll_of(rng: &mut Rng, mut table: Table, length: usize, faults: &[Fault]) -> 
             if rng.one_in(300) {
                 buf.resize(bytes_for(k, LIMIT) + 8, 0);
             }
-            let room = LIMIT.min(buf.len() * per_byte(k)) as u32;
+            let room = room(k, buf.len()) as u32;
             // The great ones are h again once 32 bits have lost what is over.
             h = rng.pick(&[room + 1, room + 1, room + 4, 65_537, 0x8000_0000 + h, 0x4000_0000 + h, u32::MAX]);
         }
@@ -903,17 +1009,7 @@ fn unpack_case(rng: &mut Rng) -> Case {
         end = n;
     }
     if faults.contains(&Range) {
-        let (low, high) = (start, end);
-        match rng.below(8) {
-            0 => (start, end) = (low + 1, low),
-            1 => end = n + 1,
-            2 => (start, end) = (n + 1, n + 1),
-            3 => (start, end) = (n + 1, n),
-            4 => end = usize::MAX - rng.below(2),
-            5 => (start, end) = (low + (1 << 32), high + (1 << 32)),
-            6 => (start, end) = (usize::MAX, usize::MAX - rng.below(2)),
-            _ => (start, end) = (high + 1, low),
-        }
+        (start, end) = bad_range(rng, n, start, end);
     }
     // A wrong n or range may be far longer than any text.
     let longest = if faults.contains(&Count) || faults.contains(&Range) { 300 } else { LIMIT };
@@ -937,6 +1033,20 @@ fn unpack_case(rng: &mut Rng) -> Case {
     }
 }
 
+/// A range that refusal 10 names, from one that it does not.
+fn bad_range(rng: &mut Rng, n: usize, start: usize, end: usize) -> (usize, usize) {
+    match rng.below(8) {
+        0 => (start + 1, start),
+        1 => (start, n + 1),
+        2 => (n + 1, n + 1),
+        3 => (n + 1, n),
+        4 => (start, usize::MAX - rng.below(2)),
+        5 => (start + (1 << 32), end + (1 << 32)),
+        6 => (usize::MAX, usize::MAX - rng.below(2)),
+        _ => (end + 1, start),
+    }
+}
+
 fn pack_case(rng: &mut Rng) -> Case {
     use Fault::*;
     let faults = faults(rng, &[Table, Foreign, Foreign, Short, Short]);
@@ -949,13 +1059,8 @@ fn pack_case(rng: &mut Rng) -> Case {
     let ranks = if over && sigma > 0 && !rng.one_in(4) { vec![0; length] } else { ranks(rng, sigma, length) };
     let symbols: usize = ranks.iter().map(|&rank| list.codewords[rank].len()).sum();
     let mut text: Vec<u8> = ranks.iter().map(|&rank| table.places[rank]).collect();
-    let absent: Vec<u8> = (0..=255).filter(|byte| !table.places[..sigma].contains(byte)).collect();
-    if faults.contains(&Foreign) && !absent.is_empty() {
-        for _ in 0..rng.between(1, 2) {
-            let any = rng.between(0, text.len());
-            let place = rng.pick(&[0, text.len(), any]);
-            text.insert(place, rng.pick(&absent));
-        }
+    if faults.contains(&Foreign) {
+        put_foreign(rng, &table, &mut text);
     }
     let needed = bytes_for(table.k, symbols);
     let bytes = if faults.contains(&Short) && needed > 0 {
@@ -971,13 +1076,26 @@ fn pack_case(rng: &mut Rng) -> Case {
     Case::Pack { head: head(&table), places: table.places, text, buf, n: rng.next() as u32, h: rng.next() as u32 }
 }
 
+/// Puts one or two characters in that are not in the table, if there are any.
+fn put_foreign(rng: &mut Rng, table: &Table, text: &mut Vec<u8>) {
+    let absent: Vec<u8> = (0..=255).filter(|byte| !characters(table).contains(byte)).collect();
+    if absent.is_empty() {
+        return;
+    }
+    for _ in 0..rng.between(1, 2) {
+        let any = rng.between(0, text.len());
+        let place = rng.pick(&[0, text.len(), any]);
+        text.insert(place, rng.pick(&absent));
+    }
+}
+
 fn directory_case(rng: &mut Rng) -> Case {
     use Fault::*;
     #[rustfmt::skip]
     let faults = faults(rng, &[Table, OtherTable, Room, Rank, Unfinished, Count, Length, Unused, Unused, Bits, Directory, Directory]);
     let (table, length) = (good_table(rng), rng.border_length());
     let made = roll_of(rng, table, length, &faults);
-    let needed = (made.cut().1.len() + STRIDE - 1) / STRIDE;
+    let needed = entries_for(made.cut().1.len());
     let entries = if faults.contains(&Directory) && needed > 0 {
         let any = rng.below(needed);
         rng.pick(&[needed - 1, needed - 1, 0, any])
@@ -1022,7 +1140,7 @@ fn read_one_case(rng: &mut Rng) -> Case {
         2 => rng.pick(&[31, 32, 33, 63, 64, 65]),
         3 => rng.pick(&[read.saturating_sub(1), read, read + 1]),
         4 => rng.below(n.max(1)),
-        5 => made.strange + rng.below(3),
+        5 | 6 => made.strange + rng.below(3),
         _ => rng.below(read.max(1)),
     };
     if faults.contains(&Place) {
@@ -1147,9 +1265,277 @@ fn search_case(rng: &mut Rng) -> Case {
     }
 }
 
+/// A range of a text; the bounds are where its codewords start, and h.
+fn range(rng: &mut Rng, k: u8, bounds: &[u32]) -> (usize, usize) {
+    let n = bounds.len() - 1;
+    let any = rng.between(0, n);
+    let one = rng.below(n.max(1));
+    match rng.below(16) {
+        0..=2 => {
+            let place = rng.pick(&[0, n, any]);
+            (place, place)
+        }
+        3 | 4 if n > 0 => {
+            let place = rng.pick(&[0, n - 1, one, one]);
+            (place, place + 1)
+        }
+        5 => (0, n),
+        6 => (0, any),
+        7 => (any, n),
+        // As many as end in the byte where the first one starts.
+        8 | 9 if n > 0 => {
+            let byte_ends = (bounds[one] as usize / per_byte(k) + 1) * per_byte(k);
+            let inside = bounds[one + 1..].iter().take_while(|&&bound| bound as usize <= byte_ends).count();
+            (one, one + if inside > 0 { rng.between(1, inside) } else { 1 })
+        }
+        // Next to where entries stand.
+        10 => {
+            let near = (any / STRIDE * STRIDE + rng.below(3)).saturating_sub(1).min(n);
+            (near, (near + rng.pick(&[0, 1, 2, 31, 32, 33])).min(n))
+        }
+        11 | 12 => (any, (any + rng.below(9)).min(n)),
+        _ => (any, rng.between(any, n)),
+    }
+}
+
+/// A text of exactly so many symbols; an empty one under a table without characters.
+fn text_of_symbols(rng: &mut Rng, table: &Table, symbols: usize) -> Vec<u8> {
+    let list = listing(table.k, table.s);
+    let codewords = &list.codewords[..usize::from(table.sigma)];
+    let kind = rng.below(4);
+    let (mut text, mut left) = (Vec::new(), symbols);
+    while left > 0 && !codewords.is_empty() {
+        // Rank 0 has one symbol, so that some rank always fits.
+        let fitting = codewords.partition_point(|codeword| codeword.len() <= left);
+        let rank = match kind {
+            0 => rng.below(fitting.min(4)),
+            1 => fitting - 1 - rng.below(fitting.min(3)),
+            _ => rng.below(fitting),
+        };
+        text.push(table.places[rank]);
+        left -= codewords[rank].len();
+    }
+    text
+}
+
+/// A range of this text and what to put in for it; the bounds are where its codewords start, and h.
+fn change(rng: &mut Rng, table: &Table, text: &[u8], bounds: &[u32], faults: &[Fault]) -> Change {
+    let (k, n, h) = (table.k, text.len(), bounds[text.len()] as usize);
+    let (start, end) = range(rng, k, bounds);
+    let run = (bounds[end] - bounds[start]) as usize;
+    let behind = h - bounds[end] as usize;
+    let of_characters = |rng: &mut Rng, length: usize| -> Vec<u8> {
+        ranks(rng, characters(table).len(), length).iter().map(|&rank| table.places[rank]).collect()
+    };
+    let mut new = if faults.contains(&Fault::Directory) {
+        // One character more than the entries now used stand for, or some.
+        let edited = entries_for(n) * STRIDE + rng.pick(&[1, 1, 2, 32, 33]);
+        of_characters(rng, edited - (n - (end - start)))
+    } else if faults.contains(&Fault::Short) {
+        // With these symbols the edited text ends where a byte ends; one more needs another byte.
+        let even = run + bytes_for(k, h) * per_byte(k) - h + rng.pick(&[0, 0, 1, 5, 30]) * per_byte(k);
+        let over = match rng.below(4) {
+            0 | 1 => 1,
+            2 => rng.between(1, per_byte(k)),
+            // What is over stands in the text put in if the room is the least.
+            _ => behind + rng.between(1, 40),
+        };
+        text_of_symbols(rng, table, even + over)
+    } else if rng.one_in(200) {
+        // As many symbols as there may be, or more.
+        let most = LIMIT - (h - run);
+        let symbols = rng.pick(&[most, most, most + 1, most + 1, most + 2, LIMIT + 1]);
+        text_of_symbols(rng, table, symbols)
+    } else {
+        let symbols = match rng.below(16) {
+            0 | 1 => 0,
+            2..=4 => run,
+            5 => run + 1,
+            6 => run.saturating_sub(1),
+            7 => run + per_byte(k),
+            8 => run.saturating_sub(per_byte(k)),
+            9 => run + rng.between(1, 3 * per_byte(k)),
+            10 => run.saturating_sub(rng.between(1, 3 * per_byte(k))),
+            11 => run + rng.between(20, 400),
+            12 => run / rng.between(2, 16),
+            _ => usize::MAX,
+        };
+        match rng.below(4) {
+            _ if symbols < usize::MAX => text_of_symbols(rng, table, symbols),
+            0 => text[start..end].to_vec(),
+            1 => {
+                let length = rng.length();
+                of_characters(rng, length)
+            }
+            // As many characters as the run, or an entry's more or fewer.
+            2 => {
+                let length = end - start + rng.pick(&[0, 1, 31, 32, 33]);
+                of_characters(rng, length)
+            }
+            _ => {
+                let length = (end - start).saturating_sub(rng.pick(&[0, 1, 31, 32, 33]));
+                of_characters(rng, length)
+            }
+        }
+    };
+    if faults.contains(&Fault::Foreign) {
+        put_foreign(rng, table, &mut new);
+    }
+    Change { start, end, text: new }
+}
+
+/// As for the others, or two that stand side by side in the order of an edit.
+fn edit_faults(rng: &mut Rng) -> Vec<Fault> {
+    use Fault::*;
+    if rng.one_in(6) {
+        let pairs = [[Unused, Entry], [Entry, Range], [Range, Foreign], [Foreign, Short], [Short, Directory]];
+        return rng.pick(&pairs).to_vec();
+    }
+    #[rustfmt::skip]
+    let from = [Table, OtherTable, Room, Rank, Unfinished, Count, Length, Unused, Bits, Entry, Entry, Range, Range, Foreign, Foreign, Short, Short, Directory, Directory];
+    faults(rng, &from)
+}
+
+/// What may stand in an entry that is not used.
+fn any_entry(rng: &mut Rng, h: u32) -> u32 {
+    let any = rng.next() as u32;
+    rng.pick(&[any, any, any, u32::MAX, 1, 0, h, h.wrapping_add(1)])
+}
+
+/// Lengthens or cuts to so many bytes, the further ones mostly not 0.
+fn resize_buf(rng: &mut Rng, buf: &mut Vec<u8>, length: usize) {
+    let kind = rng.below(6);
+    while buf.len() < length {
+        buf.push(match kind {
+            0 => 0,
+            1 => 0xFF,
+            _ => rng.byte(),
+        });
+    }
+    buf.truncate(length);
+}
+
+fn edit_case(rng: &mut Rng) -> Case {
+    use Fault::*;
+    let faults = edit_faults(rng);
+    let has = |fault| faults.contains(&fault);
+    let (table, length) = (table_to_search(rng), rng.border_length());
+    let mut made = roll_of(rng, table, length, &faults);
+    let (text, mut bounds) = made.cut();
+    let mut directory: Vec<u32> = bounds.iter().copied().step_by(STRIDE).collect();
+    bounds.push(made.symbols.len() as u32);
+    let k = made.under.k;
+    let mut change = change(rng, &made.under, &text, &bounds, &faults);
+    let run = (bounds[change.end] - bounds[change.start]) as usize;
+
+    // Room for the edited text and perhaps more, or with Short for the old one and perhaps more.
+    let used = bytes_for(k, made.symbols.len());
+    let edited = made.symbols.len() - run + symbols_in(&made.under, &change.text);
+    let needed = bytes_for(k, edited.min(LIMIT + 1));
+    let bytes = if has(Short) && needed > used {
+        let any = rng.between(used, needed - 1);
+        rng.pick(&[needed - 1, needed - 1, used, any])
+    } else {
+        needed.max(used) + rng.pick(&[0, 0, 1, 7, 30])
+    };
+    if !has(Room) {
+        resize_buf(rng, &mut made.buf, bytes);
+    }
+
+    // The same for the entries.
+    let used = directory.len();
+    let needed = entries_for(text.len() - (change.end - change.start) + change.text.len());
+    let entries = if has(Directory) && needed > used {
+        let any = rng.between(used, needed - 1);
+        rng.pick(&[needed - 1, needed - 1, used, any])
+    } else {
+        needed.max(used) + rng.pick(&[0, 0, 1, 5])
+    };
+    directory.resize_with(entries, || any_entry(rng, made.h));
+    if has(Entry) && used > 0 {
+        let any = rng.below(used);
+        let number = rng.pick(&[0, used / 2, used - 1, any]);
+        let mut spoil = |rng: &mut Rng, number: usize| {
+            let entry = wrong_entry(rng, directory[number], made.h);
+            directory[number] = if entry == directory[number] { entry ^ 1 } else { entry };
+        };
+        match rng.below(6) {
+            0 | 1 => directory.truncate(number),
+            2 => {
+                let second = rng.between(number, used - 1);
+                spoil(rng, second);
+                if second != number {
+                    spoil(rng, number);
+                }
+            }
+            _ => spoil(rng, number),
+        }
+    }
+    if has(Range) {
+        (change.start, change.end) = bad_range(rng, made.n as usize, change.start, change.end);
+    }
+    Case::Edit {
+        head: head(&made.table),
+        places: made.table.places,
+        n: made.n,
+        h: made.h,
+        buf: made.buf,
+        directory,
+        changes: vec![change],
+    }
+}
+
+/// A sound roll with a right directory and 2 to 12 edits one after another.
+fn chain_case(rng: &mut Rng) -> Case {
+    use Fault::*;
+    let table = table_to_search(rng);
+    let length = rng.border_length().min(3_000);
+    let made = packed_roll(rng, table, length, false, &[]);
+    let (table, head) = (made.table.clone(), head(&made.table));
+    let (mut text, starts) = made.cut();
+    let mut directory: Vec<u32> = starts.iter().copied().step_by(STRIDE).collect();
+    let entries = directory.len() + rng.pick(&[0, 1, 2, 5, 20, 20]);
+    directory.resize_with(entries, || any_entry(rng, made.h));
+    let mut buf = made.buf;
+    let bytes = bytes_for(table.k, made.symbols.len()) + rng.pick(&[0, 1, 7, 100, 1_000, 1_000]);
+    resize_buf(rng, &mut buf, bytes);
+
+    // What the edits before leave, so that the next is made for it.
+    let (mut n, mut h) = (made.n, made.h);
+    let (mut buf_now, mut directory_now) = (buf.clone(), directory.clone());
+    let mut changes = Vec::new();
+    for _ in 0..rng.between(2, 12) {
+        let faults: &[Fault] = match rng.below(16) {
+            0 => &[Range],
+            1 => &[Foreign],
+            2 => &[Short],
+            3 => &[Directory],
+            _ => &[],
+        };
+        let lengths = lengths(table.k, table.s, characters(&table));
+        let mut bounds = vec![0];
+        for &character in &text {
+            bounds.push(bounds[bounds.len() - 1] + lengths[usize::from(character)] as u32);
+        }
+        let mut change = change(rng, &table, &text, &bounds, faults);
+        if faults.contains(&Range) {
+            (change.start, change.end) = bad_range(rng, text.len(), change.start, change.end);
+        }
+        let (start, end) = (change.start, change.end);
+        let (buf, directory) = (&mut buf_now, &mut directory_now);
+        let answer = Reference.edit(&head, &table.places, n, h, buf, directory, start, end, &change.text);
+        (n, h) = (answer.2, answer.3);
+        if answer.0 == 0 {
+            text.splice(start..end, change.text.iter().copied());
+        }
+        changes.push(change);
+    }
+    Case::Edit { head, places: table.places, n: made.n, h: made.h, buf, directory, changes }
+}
+
 fn make(seed: u64, call: u64, stock: &[u8]) -> Case {
     let mut rng = Rng::of_call(seed, call);
-    match rng.below(100) {
+    match rng.below(120) {
         0..=6 => count_case(&mut rng, stock),
         7..=14 => choose_case(&mut rng),
         15..=22 => codeword_case(&mut rng),
@@ -1159,7 +1545,9 @@ fn make(seed: u64, call: u64, stock: &[u8]) -> Case {
         55..=63 => pack_case(&mut rng),
         64..=72 => directory_case(&mut rng),
         73..=85 => read_one_case(&mut rng),
-        _ => search_case(&mut rng),
+        86..=99 => search_case(&mut rng),
+        100..=114 => edit_case(&mut rng),
+        _ => chain_case(&mut rng),
     }
 }
 
@@ -1265,6 +1653,92 @@ fn corners(case: &Case, number: u32) -> Vec<&'static str> {
     met
 }
 
+/// The same for an edit that stands alone, with what came of it.
+fn edit_corners(case: &Case, outcome: &Outcome) -> Vec<&'static str> {
+    let (head, places, n, h, buf, directory, change) = match case {
+        Case::Edit { head, places, n, h, buf, directory, changes } => {
+            (head, places, *n as usize, *h as usize, buf, directory, &changes[0])
+        }
+        _ => return Vec::new(),
+    };
+    let (number, value) = (outcome.number, outcome.value as usize);
+    // The other refusals come before these numbers mean anything.
+    if !matches!(number, 0 | 3 | 4 | 8 | 9 | 10 | 12) {
+        return Vec::new();
+    }
+    let mut met = Vec::new();
+    let mut meet = |is_met: bool, name| {
+        if is_met {
+            met.push(name);
+        }
+    };
+    let (k, per) = (head.k, per_byte(head.k));
+    let Change { start, end, text } = change;
+    let bounds = starts(head, h as u32, buf);
+    let right: Vec<u32> = bounds[..n].iter().copied().step_by(STRIDE).collect();
+    let wrong_entry = right.iter().enumerate().any(|(number, entry)| directory.get(number) != Some(entry));
+    let lengths = lengths(k, head.s, &places[..usize::from(head.sigma)]);
+    let foreign = text.iter().any(|&character| lengths[usize::from(character)] == 0);
+    let bad_range = start > end || *end > n;
+    match number {
+        8 => meet(wrong_entry, "edits refused 8 with a wrong entry too"),
+        9 => {
+            meet(value == 0, "edits refused 9 at the first entry");
+            meet(value > 0 && value + 1 < right.len(), "edits refused 9 at an entry in the middle");
+            meet(value > 0 && value + 1 == right.len(), "edits refused 9 at the last entry of several");
+            meet(value == directory.len(), "edits refused 9 for an entry missing");
+            meet(bad_range, "edits refused 9 with a bad range too");
+        }
+        10 => {
+            meet(*end > u32::MAX as usize, "edits refused 10 with a range over 32 bits");
+            meet(foreign, "edits refused 10 with a foreign character too");
+        }
+        _ => {}
+    }
+    if bad_range || !matches!(number, 0 | 3 | 4 | 12) {
+        return met;
+    }
+    let (from, to) = (bounds[*start] as usize, bounds[*end] as usize);
+    let put_in: usize = text.iter().map(|&character| lengths[usize::from(character)]).sum();
+    let (new_n, new_h) = (n - (end - start) + text.len(), h - (to - from) + put_in);
+    let (old_bytes, new_bytes) = (bytes_for(k, h), bytes_for(k, new_h));
+    let (old_entries, new_entries) = (entries_for(n), entries_for(new_n));
+    let room = room(k, buf.len());
+    match number {
+        0 => {
+            let tail = to < h;
+            meet(end > start && put_in == to - from, "edits of as many symbols as before");
+            meet(tail && new_h == h + 1, "edits that move what is behind by one symbol on");
+            meet(tail && new_h + 1 == h, "edits that move what is behind by one symbol back");
+            meet(tail && new_h != h && new_h % per == h % per, "edits that move what is behind by whole bytes");
+            meet(tail && new_h % per != h % per, "edits that move what is behind by parts of a byte");
+            meet(to > from && from / per == (to - 1) / per, "edits of a run inside one byte");
+            meet(to > from && (to - 1) / per > from / per + 8, "edits of a run over more than eight bytes");
+            meet(start == end && !text.is_empty(), "edits that only put in");
+            meet(start < end && text.is_empty(), "edits that only take out");
+            meet(n > 0 && end - start == n, "edits of a whole roll");
+            meet(n == 0, "edits of an empty roll");
+            meet(new_bytes < old_bytes, "edits with bytes no longer used");
+            meet(new_entries < old_entries, "edits with entries no longer used");
+            meet(new_entries > old_entries, "edits with further entries");
+            meet(new_h > h && new_h == room, "edits that grow up to the room");
+            meet(new_entries > old_entries && new_entries == directory.len(), "edits that take the last entry lent");
+            meet(directory.len() > old_entries, "edits with entries behind the used ones");
+            meet(new_h == LIMIT, "edits to a roll of 65,536 symbols");
+        }
+        3 => meet(new_h > room, "edits refused 3 with the room too small too"),
+        4 => {
+            meet(value < start + text.len(), "edits refused 4 in the text put in");
+            meet(value >= start + text.len(), "edits refused 4 behind the text put in");
+            meet(new_h == room + 1, "edits refused 4 for one symbol");
+            meet(buf.len() >= bytes_for(k, LIMIT), "edits refused 4 by the limit and not the buffer");
+            meet(new_entries > directory.len(), "edits refused 4 with the directory too short too");
+        }
+        _ => meet(value == directory.len() + 1, "edits refused 12 for one entry"),
+    }
+    met
+}
+
 /// Counts by operation and number, or the difference in full.
 fn compare_calls(library: &dyn Library, calls: u64, seed: u64, at: &AtomicU64) -> Result<(Counts, Reached), String> {
     let stock = stock();
@@ -1274,10 +1748,18 @@ fn compare_calls(library: &dyn Library, calls: u64, seed: u64, at: &AtomicU64) -
         at.store(call, Ordering::Relaxed);
         let case = make(seed, call, &stock);
         match compare(&case, library) {
-            Ok(number) => {
-                *counts.entry((case.operation(), number)).or_insert(0) += 1;
-                for corner in corner(&case, number).into_iter().chain(corners(&case, number)) {
-                    *reached.entry(corner).or_insert(0) += 1;
+            Ok(outcomes) => {
+                if outcomes.len() > 1 {
+                    *reached.entry("chains of edits").or_insert(0) += 1;
+                    *reached.entry("edits in chains").or_insert(0) += outcomes.len() as u64;
+                }
+                for (place, outcome) in outcomes.iter().enumerate() {
+                    let (case, number) = (step(&case, &outcomes, place), outcome.number);
+                    *counts.entry((case.operation(), number)).or_insert(0) += 1;
+                    let met = corner(&case, number).into_iter().chain(corners(&case, number));
+                    for corner in met.chain(edit_corners(&case, outcome)) {
+                        *reached.entry(corner).or_insert(0) += 1;
+                    }
                 }
             }
             Err(text) => {
@@ -1371,7 +1853,10 @@ fn main() {
         let case = make(seed, call, &stock());
         println!("{:?}", case);
         match compare(&case, library.as_ref()) {
-            Ok(number) => println!("both answer {}", number),
+            Ok(outcomes) => {
+                let numbers: Vec<String> = outcomes.iter().map(|outcome| outcome.number.to_string()).collect();
+                println!("both answer {}", numbers.join(", "));
+            }
             Err(text) => {
                 println!("{}", text);
                 exit(1);
@@ -1389,6 +1874,7 @@ fn main() {
             let (text, faults) = table_of(&counts);
             let held_to = if with_self { "a second copy of the reference" } else { "the archive" };
             print!("{} calls, seed {}: {} answers as the reference\n{}", calls, seed, held_to, text);
+            println!("A chain of edits is one call; the table counts each of its edits.");
             for (corner, times) in &reached {
                 println!("{:>9} {}", times, corner);
             }
@@ -1422,13 +1908,6 @@ mod tests {
             digits = wrap(digits * c + u128::from(symbol - table.s));
         }
         wrap(shorter + digits * s + u128::from(symbols[last])) < u128::from(table.sigma)
-    }
-
-    /// 0, and the symbol behind each stopper.
-    fn starts(table: &Head, h: u32, buf: &[u8]) -> Vec<u32> {
-        let symbols = symbols_of(table.k, buf, h as usize);
-        let behind = (1..=h).filter(|&number| symbols[number as usize - 1] < table.s);
-        std::iter::once(0).chain(behind).collect()
     }
 
     /// What a search with this error lists, all of it; the reference has accepted.
@@ -1473,6 +1952,107 @@ mod tests {
             _ => return None,
         }
         Some(all)
+    }
+
+    /// Those bits of a byte's unused symbols that stood there before; h symbols end in the byte.
+    fn with_old_unused(k: u8, h: u32, byte: u8, before: u8) -> u8 {
+        let unused = bytes_for(k, h as usize) * per_byte(k) - h as usize;
+        byte | (before & ((1u32 << (unused * usize::from(k))) - 1) as u8)
+    }
+
+    /// An edit with this error, of a record, slices and range as they came in; `answer` and the slices
+    /// are what the reference made of them, and it has accepted.
+    #[rustfmt::skip]
+    #[allow(clippy::too_many_arguments)]
+    fn wrong_edit(name: &str, table: &Head, n: u32, h: u32, before: (&[u8], &[u32]), range: (usize, usize), answer: (u32, u64, u32, u32), buf: &mut [u8], directory: &mut [u32]) -> (u32, u64, u32, u32) {
+        let (_, _, new_n, new_h) = answer;
+        let (k, per) = (table.k, per_byte(table.k));
+        let (old_bytes, new_bytes) = (bytes_for(k, h as usize), bytes_for(k, new_h as usize));
+        let (old_entries, new_entries) = (entries_for(n as usize), entries_for(new_n as usize));
+        let (most_bytes, most_entries) = (old_bytes.max(new_bytes), old_entries.max(new_entries));
+        let bounds = starts(table, h, before.0);
+        let (from, to) = (bounds[range.0] as usize, bounds[range.1] as usize);
+        // Where the text put in ends.
+        let put_to = to + new_h as usize - h as usize;
+        let room = room(k, buf.len());
+        let restore = |buf: &mut [u8], directory: &mut [u32]| {
+            buf.copy_from_slice(before.0);
+            directory.copy_from_slice(before.1);
+        };
+        match name {
+            "edit returns the roll untouched" => {
+                restore(buf, directory);
+                return (0, 0, n, h);
+            }
+            "edit leaves the symbols" => buf.copy_from_slice(before.0),
+            // All behind the run stays where it was if it should move by less than a byte.
+            "edit shifts by whole bytes" if new_h != h && new_h.max(h) - new_h.min(h) < per as u32 => {
+                let mut symbols = symbols_of(k, before.0, h as usize);
+                symbols.resize(symbols.len().max(new_h as usize), 0);
+                symbols[from..put_to].copy_from_slice(&symbols_of(k, buf, put_to)[from..]);
+                symbols.truncate(new_h as usize);
+                buf[..new_bytes].copy_from_slice(&bytes_of(k, &symbols));
+            }
+            // The same for any shift that is not of whole bytes: it is rounded down to them.
+            "edit rounds a shift to whole bytes" if new_h > h => {
+                let shift = (new_h - h) as usize / per * per;
+                let mut symbols = symbols_of(k, buf, new_h as usize);
+                let tail = symbols_of(k, before.0, h as usize);
+                symbols[to + shift..h as usize + shift].copy_from_slice(&tail[to..]);
+                symbols[from..put_to].copy_from_slice(&symbols_of(k, buf, put_to)[from..]);
+                buf[..new_bytes].copy_from_slice(&bytes_of(k, &symbols));
+            }
+            "edit leaves removed digits" => buf[new_bytes..most_bytes].copy_from_slice(&before.0[new_bytes..most_bytes]),
+            "edit leaves removed digits in the last byte" if 0 < new_bytes && new_bytes <= old_bytes => {
+                buf[new_bytes - 1] = with_old_unused(k, new_h, buf[new_bytes - 1], before.0[new_bytes - 1]);
+            }
+            "edit leaves unused symbols on growth" if new_bytes > old_bytes => {
+                buf[new_bytes - 1] = with_old_unused(k, new_h, buf[new_bytes - 1], before.0[new_bytes - 1]);
+            }
+            "edit leaves the directory" => directory.copy_from_slice(before.1),
+            "edit leaves entries no longer used" => {
+                directory[new_entries..most_entries].copy_from_slice(&before.1[new_entries..most_entries]);
+            }
+            // Entries of characters behind the run are moved with them, but stay those of the same characters.
+            "edit moves entries and counts none" => {
+                for (entry, &old) in directory.iter_mut().zip(before.1).take(old_entries.min(new_entries)) {
+                    *entry = if (old as usize) < to { old } else { old + new_h - h };
+                }
+            }
+            "edit moves the entry at the run" if range.0 % STRIDE == 0 && range.0 / STRIDE < new_entries => {
+                directory[range.0 / STRIDE] = put_to as u32;
+            }
+            "edit clears the byte before the run" if from >= per => buf[from / per - 1] = 0,
+            "edit clears symbols before the run" if from % per != 0 && from / per < buf.len() => {
+                let kept = per - from % per;
+                buf[from / per] &= ((1u32 << (kept * usize::from(k))) - 1) as u8;
+            }
+            "edit clears the byte behind the run" if bytes_for(k, put_to) < new_bytes => buf[bytes_for(k, put_to)] = 0,
+            "edit clears bytes beyond use" => buf[most_bytes..].fill(0),
+            "edit clears the byte beyond use" if most_bytes < buf.len() => buf[most_bytes] = 0,
+            "edit clears entries beyond use" => directory[most_entries..].fill(0),
+            "edit leaves n" => return (0, 0, n, new_h),
+            "edit leaves h" => return (0, 0, new_n, h),
+            "edit answers n" => return (0, u64::from(new_n), new_n, new_h),
+            "edit refuses to fill the room" if new_h > h && new_h as usize == room => {
+                restore(buf, directory);
+                return (4, u64::from(new_n) - 1, n, h);
+            }
+            "edit refuses to fill the directory" if new_entries > old_entries && new_entries == directory.len() => {
+                restore(buf, directory);
+                return (12, new_entries as u64, n, h);
+            }
+            "edit asks 9 of unused entries" if before.1[old_entries..].iter().any(|&entry| entry != 0) => {
+                restore(buf, directory);
+                return (9, old_entries as u64, n, h);
+            }
+            "edit refuses the empty range at n" if range == (n as usize, n as usize) => {
+                restore(buf, directory);
+                return (10, 0, n, h);
+            }
+            _ => {}
+        }
+        answer
     }
 
     /// The reference with one error, by name.
@@ -1567,7 +2147,7 @@ mod tests {
 
         fn make_directory(&self, table: &Head, places: &[u8; 256], n: u32, h: u32, buf: &[u8], directory: &mut [u32]) -> (u32, u64) {
             let answer = Reference.make_directory(table, places, n, h, buf, directory);
-            let needed = (n as usize + STRIDE - 1) / STRIDE;
+            let needed = entries_for(n as usize);
             match (self.0, answer.0) {
                 ("directory counts in characters", 0) => {
                     for (number, entry) in directory[..needed].iter_mut().enumerate() {
@@ -1602,7 +2182,7 @@ mod tests {
                 ("read_one answers the place", 9) => (9, place as u64),
                 ("read_one takes an entry at h", 9) if directory.get(number) == Some(&h) => (6, u64::from(h)),
                 ("read_one checks the whole directory", 0) if directory.iter().any(|&entry| entry >= h) => (9, 0),
-                ("read_one wants no entry behind", 0) if directory.len() > (n as usize + STRIDE - 1) / STRIDE => (9, 0),
+                ("read_one wants no entry behind", 0) if directory.len() > entries_for(n as usize) => (9, 0),
                 ("read_one cuts the place to 32 bits", 10) => read(n, directory, place & 0xFFFF_FFFF),
                 ("read_one takes place n", 10) if n < u32::MAX && place == n as usize => read(n + 1, directory, place),
                 // All entries as a whole reading would find them, whatever is lent.
@@ -1661,13 +2241,116 @@ mod tests {
             }
             answer
         }
+
+        fn edit(&self, table: &Head, places: &[u8; 256], n: u32, h: u32, buf: &mut [u8], directory: &mut [u32], start: usize, end: usize, text: &[u8]) -> (u32, u64, u32, u32) {
+            match self.0 {
+                "edit refuses everything" => return (10, 0, n, h),
+                "edit answers an empty roll always" => return (0, 0, 0, 0),
+                _ => {}
+            }
+            let (old_buf, old_directory) = (buf.to_vec(), directory.to_vec());
+            let answer = Reference.edit(table, places, n, h, buf, directory, start, end, text);
+            if answer.0 == 0 {
+                let before = (&old_buf[..], &old_directory[..]);
+                return wrong_edit(self.0, table, n, h, before, (start, end), answer, buf, directory);
+            }
+            let refused = |number: u32, value: usize| (number, value as u64, n, h);
+            let value = answer.1 as usize;
+            let bad_range = start > end || end > n as usize;
+            let foreign = text.iter().position(|byte| !places.iter().take(usize::from(table.sigma)).any(|place| place == byte));
+            // These two for a roll that is sound but for refusal 8.
+            let right = || -> Vec<u32> { starts(table, h, buf)[..n as usize].iter().copied().step_by(STRIDE).collect() };
+            let edited_n = || n as usize - (end - start) + text.len();
+            match (self.0, answer.0) {
+                ("edit asks 12 before 4", 4) if entries_for(edited_n()) > directory.len() => refused(12, entries_for(edited_n())),
+                ("edit asks 4 before 3", 3) => {
+                    let known: Vec<u8> = text.iter().copied().filter(|byte| places[..usize::from(table.sigma)].contains(byte)).collect();
+                    let (mut buf, mut directory) = (old_buf, old_directory);
+                    match Reference.edit(table, places, n, h, &mut buf, &mut directory, start, end, &known) {
+                        other if other.0 == 4 => other,
+                        _ => answer,
+                    }
+                }
+                ("edit asks 3 before 10", 10) => foreign.map_or(answer, |place| refused(3, place)),
+                ("edit asks 3 before 9", 9) => foreign.map_or(answer, |place| refused(3, place)),
+                ("edit asks 10 before 9", 9) if bad_range => refused(10, 0),
+                ("edit asks 9 before 8", 8) => {
+                    let right = right();
+                    let first = (0..right.len()).find(|&number| directory.get(number) != Some(&right[number]));
+                    first.map_or(answer, |number| refused(9, number))
+                }
+                // A directory of its own stands in for the one lent.
+                ("edit asks no 9", 9) | ("edit asks 9 of the first entry alone", 9) | ("edit asks 9 of missing entries alone", 9) | ("edit asks 9 of the run's entry alone", 9)
+                    if match self.0 {
+                        "edit asks 9 of the first entry alone" => value > 0,
+                        "edit asks 9 of missing entries alone" => directory.len() >= entries_for(n as usize),
+                        "edit asks 9 of the run's entry alone" => value != start / STRIDE,
+                        _ => true,
+                    } =>
+                {
+                    let mut own = right();
+                    own.resize(own.len().max(directory.len()), 0);
+                    let answer = Reference.edit(table, places, n, h, buf, &mut own, start, end, text);
+                    if answer.0 == 0 {
+                        directory.copy_from_slice(&own[..directory.len()]);
+                    }
+                    answer
+                }
+                ("edit answers the entry", 9) => refused(9, directory.get(value).map_or(value, |&entry| entry as usize)),
+                ("edit answers the last wrong entry", 9) => {
+                    let right = right();
+                    let last = (0..right.len()).rev().find(|&number| directory.get(number) != Some(&right[number]));
+                    refused(9, last.unwrap_or(value))
+                }
+                ("edit answers 3 in the edited text", 3) => refused(3, start + value),
+                ("edit answers 4 in the text put in", 4) => refused(4, value - start),
+                ("edit answers 4 in the old text", 4) if value >= start + text.len() => refused(4, value - text.len() + (end - start)),
+                ("edit answers 4 behind the text at its end", 4) if value > start + text.len() => refused(4, start + text.len()),
+                ("edit answers the entries lent", 12) => refused(12, directory.len()),
+                ("edit answers the entries missing", 12) => refused(12, value - directory.len()),
+                ("edit knows no limit", 4) if buf.len() >= bytes_for(table.k, LIMIT) => (0, 0, n, h),
+                ("edit swaps start and end", 10) if start > end && start <= n as usize => {
+                    Reference.edit(table, places, n, h, buf, directory, end, start, text)
+                }
+                ("edit cuts the end to n", 10) if start <= n as usize && start <= end => {
+                    Reference.edit(table, places, n, h, buf, directory, start, n as usize, text)
+                }
+                ("edit cuts numbers to 32 bits", 10) => {
+                    let (start, end) = (start & 0xFFFF_FFFF, end & 0xFFFF_FFFF);
+                    Reference.edit(table, places, n, h, buf, directory, start, end, text)
+                }
+                ("edit passes unused symbols", 8) => (0, 0, n, h),
+                ("edit wraps at 32 bits", 6) if good_if_wrapped(table, h, buf, value, 32) => (0, 0, n, h),
+                ("edit writes symbols before it refuses", 4 | 12) if !buf.is_empty() => {
+                    buf[0] = !buf[0];
+                    answer
+                }
+                ("edit writes entries before it refuses", 12) if !directory.is_empty() => {
+                    directory[0] = !directory[0];
+                    answer
+                }
+                ("edit writes n though refused", 4) => (4, answer.1, edited_n() as u32, h),
+                ("edit writes h though refused", _) => (answer.0, answer.1, n, 0),
+                ("edit panics", 9) => panic!("on purpose"),
+                _ => answer,
+            }
+        }
     }
 
     #[test]
     fn the_reference_answers_as_itself_and_every_number_comes() {
-        let (counts, _) = compare_calls(&Reference, 4_000, 3, &AT).unwrap();
+        let (counts, reached) = compare_calls(&Reference, 4_000, 3, &AT).unwrap();
         let (text, faults) = table_of(&counts);
         assert!(faults.is_empty(), "{}{:?}", text, faults);
+        for corner in [
+            "edits refused 8 with a wrong entry too",
+            "edits refused 9 with a bad range too",
+            "edits refused 10 with a foreign character too",
+            "edits refused 3 with the room too small too",
+            "edits refused 4 with the directory too short too",
+        ] {
+            assert!(reached.contains_key(corner), "{}", corner);
+        }
     }
 
     #[test]
@@ -1743,6 +2426,61 @@ mod tests {
             "search finds the empty pattern",
             "search wraps at 32 bits",
             "search writes though refused",
+            "edit refuses everything",
+            "edit returns the roll untouched",
+            "edit answers an empty roll always",
+            "edit leaves the symbols",
+            "edit shifts by whole bytes",
+            "edit rounds a shift to whole bytes",
+            "edit leaves removed digits",
+            "edit leaves removed digits in the last byte",
+            "edit leaves unused symbols on growth",
+            "edit leaves the directory",
+            "edit leaves entries no longer used",
+            "edit moves entries and counts none",
+            "edit moves the entry at the run",
+            "edit clears the byte before the run",
+            "edit clears symbols before the run",
+            "edit clears the byte behind the run",
+            "edit clears bytes beyond use",
+            "edit clears the byte beyond use",
+            "edit clears entries beyond use",
+            "edit leaves n",
+            "edit leaves h",
+            "edit answers n",
+            "edit refuses to fill the room",
+            "edit refuses to fill the directory",
+            "edit asks 9 of unused entries",
+            "edit refuses the empty range at n",
+            "edit asks 12 before 4",
+            "edit asks 4 before 3",
+            "edit asks 3 before 10",
+            "edit asks 3 before 9",
+            "edit asks 10 before 9",
+            "edit asks 9 before 8",
+            "edit asks no 9",
+            "edit asks 9 of the first entry alone",
+            "edit asks 9 of missing entries alone",
+            "edit asks 9 of the run's entry alone",
+            "edit answers the entry",
+            "edit answers the last wrong entry",
+            "edit answers 3 in the edited text",
+            "edit answers 4 in the text put in",
+            "edit answers 4 in the old text",
+            "edit answers 4 behind the text at its end",
+            "edit answers the entries lent",
+            "edit answers the entries missing",
+            "edit knows no limit",
+            "edit swaps start and end",
+            "edit cuts the end to n",
+            "edit cuts numbers to 32 bits",
+            "edit passes unused symbols",
+            "edit wraps at 32 bits",
+            "edit writes symbols before it refuses",
+            "edit writes entries before it refuses",
+            "edit writes n though refused",
+            "edit writes h though refused",
+            "edit panics",
         ] {
             let found = compare_calls(&Faulty(name), 20_000, 3, &AT);
             assert!(found.is_err(), "not found: {}", name);
@@ -1751,6 +2489,42 @@ mod tests {
             let text = found.unwrap_err();
             assert!(text.starts_with(&format!("{} differs", operation)), "{}: {}", name, text);
             assert_eq!(text.contains("the library panicked"), name.contains("panics"), "{}", name);
+        }
+    }
+
+    #[test]
+    fn a_chain_goes_on_from_what_the_edit_before_left() {
+        // abracadabra of the paper: P10, a refusal, then P11 with both d away.
+        let mut places = [0; 256];
+        places[..5].copy_from_slice(b"abrcd");
+        let change = |start, end, text: &[u8]| Change { start, end, text: text.to_vec() };
+        let case = Case::Edit {
+            head: Head { k: 2, s: 3, sigma: 5 },
+            places,
+            n: 11,
+            h: 13,
+            buf: vec![0x18, 0xC3, 0x46, 0x00, 0xAA],
+            directory: vec![0, 77],
+            changes: vec![change(4, 5, b"dd"), change(4, 13, b""), change(4, 8, b"")],
+        };
+        let outcomes = compare(&case, &Reference).unwrap();
+        let answers: Vec<(u32, &[u64])> =
+            outcomes.iter().map(|outcome| (outcome.number, &outcome.outputs[..])).collect();
+        assert_eq!(answers, [(0, &[12, 15][..]), (10, &[12, 15][..]), (0, &[8, 8][..])]);
+        for (outcome, buf) in outcomes.iter().zip([
+            [0x18, 0xDD, 0x34, 0x60, 0xAA],
+            [0x18, 0xDD, 0x34, 0x60, 0xAA],
+            [0x18, 0x18, 0, 0, 0xAA],
+        ]) {
+            assert_eq!(outcome.bytes[2].1.slice(), buf);
+            assert_eq!(outcome.numbers[0].slice(), [0, 77]);
+        }
+        // Each edit is compared, and a difference names its own.
+        for (name, number) in
+            [("edit shifts by whole bytes", 1), ("edit writes h though refused", 2), ("edit leaves removed digits", 3)]
+        {
+            let text = compare(&case, &Faulty(name)).unwrap_err();
+            assert!(text.starts_with(&format!("edit {} of 3\n", number)), "{}: {}", name, text);
         }
     }
 

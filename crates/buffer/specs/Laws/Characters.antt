@@ -3,7 +3,7 @@
 use mathlib.Core.Path.{_≡_, refl, sym, ap, ap₂, subst, _∙_}
 use mathlib.Core.Logic.{_↔_}
 use mathlib.Core.Bool.{Bool, true, false, not, cond, _||_}
-use mathlib.Core.List.{List, [], _∷_, map, List·Memᴰ·head, List·Memᴰ·tail}
+use mathlib.Core.List.{List, [], _∷_, _++_, map, List·Memᴰ·head, List·Memᴰ·tail}
 use Prim.Native.Nat.{ℕ, zero, suc, _≤_, _<_}
 use native.Mathlib.Nat.{le-of-suc-le-suc}
 use native.Mathlib.Decide.{decLt}
@@ -11,7 +11,7 @@ use native.Mathlib.Omega.{arith}
 use borrow.Author.Tests.{le-leb, lt-leb, le-ltb, eq-eqb, ne-eqb}
 use mir.Facts.{and-yes, yes-ltb, eqb-yes}
 use lib.Dec.{T, leb, eqb, ltb→lt}
-use lib.ListN.{length, take, getD, length-take}
+use lib.ListN.{length, take, drop, getD, length-take}
 use lib.Seq.{getD-take, length-take-le}
 use Rattle.ground.specs.Rows.{Below, none, also}
 use Rattle.stopper.specs.Table.{has, repeats, rankIn, characters, goodTable, goodCharacters, goodCode}
@@ -70,6 +70,22 @@ ranks-below l (char {b = b} t h) = also (rank-within l b t) (ranks-below l h)
 pub all-known : (l text : List ℕ) → ((x : ℕ) → x ∈ text → T (has x l)) → InTable l text
 all-known l [] h = empty
 all-known l (b ∷ text) h = char (h b (List·Memᴰ·head refl)) (all-known l text (λ x m. h x (List·Memᴰ·tail m)))
+
+-- parts of texts that are
+module _ {l : List ℕ} where
+  pub known-append : {a b : List ℕ} → InTable l a → InTable l b → InTable l (a ++ b)
+  known-append empty k = k
+  known-append (char t h) k = char t (known-append h k)
+
+  pub known-take : {text : List ℕ} → InTable l text → (i : ℕ) → InTable l (take i text)
+  known-take h zero = empty
+  known-take empty (suc i) = empty
+  known-take (char t h) (suc i) = char t (known-take h i)
+
+  pub known-drop : {text : List ℕ} → InTable l text → (i : ℕ) → InTable l (drop i text)
+  known-drop h zero = h
+  known-drop empty (suc i) = empty
+  known-drop (char t h) (suc i) = known-drop h i
 
 -- ---- the first character that is not in the row
 

@@ -5,7 +5,7 @@ use mathlib.Core.List.{List, [], _∷_, map}
 use Prim.Native.Nat.{ℕ, zero, suc, _+_, _*_, _/_, _%_, _≤_, _<_}
 use native.Mathlib.Omega.{arith}
 use lib.ListN.{length, take, getD, length-append, length-map, length-take}
-use lib.Seq.{getD-take}
+use lib.Seq.{take-all, getD-take}
 use Rattle.ground.specs.Laws.Rows.{length-tab, tab-at}
 use Rattle.stopper.specs.Code.{codeword}
 use Rattle.stopper.specs.Table.{base, stoppers, lengthOf}
@@ -16,7 +16,7 @@ use Rattle.buffer.specs.Roll.{rowUpto, reading, ranksRead, Sound}
 use Rattle.buffer.specs.Codewords.{passedFrom}
 use Rattle.buffer.specs.Directory.{entries, sum, startAt, directoryOf, lengthsOf, Right}
 use Rattle.buffer.specs.Laws.Codewords.{startOf, found-word, passed-ranks}
-use Rattle.buffer.specs.Laws.Sound.{row-length, sound-below, sound-row, sound-found, sound-start}
+use Rattle.buffer.specs.Laws.Sound.{row-length, sound-length, sound-below, sound-row, sound-found, sound-start}
 use Rattle.buffer.specs.declared.roll.Roll.{Roll}
 use Rattle.buffer.specs.declared.reading.Passed.{Passed}
 use Rattle.buffer.specs.declared.reading.Passed.the-variants.{At}
@@ -31,6 +31,15 @@ module _ (j : ℕ) where
   pub entries-inside : {n : ℕ} → j < n → j / 32 < entries n
   unfolding entries
   entries-inside h = omega arith
+
+  -- an entry of the characters before j is that of one of them, and a later one is not
+  pub entries-before : {i : ℕ} → i < entries j → i * 32 < j
+  unfolding entries
+  entries-before h = omega arith
+
+  pub entries-behind : (i : ℕ) → j ≤ (entries j + i) * 32
+  unfolding entries
+  entries-behind i = omega arith
 
   -- character j has an entry of its own, or none
   module _ (e : j % 32 ≡ 0) where
@@ -79,6 +88,19 @@ module _ (r : Roll) (buf : List ℕ) (s : Sound r buf) where
   unfolding lengthsOf
   sound-entries = directory-length (lengthsOf r buf) ∙ ap entries (rw length-map (s .count))
 
+  -- a right directory has them all
+  pub right-long : (dir : List ℕ) → Right r buf dir → entries (r .n) ≤ length dir
+  right-long dir right = omega (arith, sym (length-take (entries (r .n)) dir) ∙ ap length right ∙ sound-entries)
+
+  -- the last codeword ends at symbol h
+  pub sound-end : startOf (r .table .code) (ranks r buf) (r .n) ≡ r .h
+  unfolding startOf
+  sound-end =
+      let c = r .table .code in
+      ap (λ (rs : List ℕ). length (write (base c) (stoppers c) rs)) (take-all (r .n) (ranks r buf) (omega (arith, s .count)))
+      ∙ ap length (sym (sound-row r buf s))
+      ∙ sound-length r buf s
+
 -- ---- a right directory: by its entry a character's codeword is reached
 
 module _ (r : Roll) (buf : List ℕ) (s : Sound r buf) (dir : List ℕ) (right : Right r buf dir) (place : ℕ) (inside : place < r .n) where
@@ -91,32 +113,28 @@ module _ (r : Roll) (buf : List ℕ) (s : Sound r buf) (dir : List ℕ) (right :
   abbrev starts : ℕ → ℕ
   starts j = startOf c (ranks r buf) j
 
-  pub entry-held : place / 32 < length dir
-  entry-held =
-      omega (
-        arith,
-        entries-inside place inside,
-        sym (length-take (entries (r .n)) dir) ∙ ap length right ∙ sound-entries r buf s,
-      )
+  pub right-held : place / 32 < length dir
+  right-held =
+      omega (arith, entries-inside place inside, right-long r buf s dir right)
 
-  pub entry-is : getD dir (place / 32) 0 ≡ starts (place / 32 * 32)
+  pub right-entry : getD dir (place / 32) 0 ≡ starts (place / 32 * 32)
   unfolding lengthsOf
-  entry-is =
+  right-entry =
       sym (getD-take (entries (r .n)) dir (place / 32) 0 (entries-inside place inside))
       ∙ ap (λ (l : List ℕ). getD l (place / 32) 0) right
       ∙ entry-at c (ranks r buf) (place / 32) (rw (s .count) (entries-inside place inside))
 
   -- the codewords from the entry on, up to the place
-  pub entry-passes : At (starts place) ≡ passedFrom c (r .table .sigma) row (getD dir (place / 32) 0) (place % 32)
-  entry-passes =
+  pub right-passed : At (starts place) ≡ passedFrom c (r .table .sigma) row (getD dir (place / 32) 0) (place % 32)
+  right-passed =
       let e : place / 32 * 32 + place % 32 ≡ place = omega arith in
-      sym (rw (entry-is, sound-row r buf s)
+      sym (rw (right-entry, sound-row r buf s)
       (passed-ranks c (table-code (r .table) (s .table)) (r .table .sigma) (sound-below r buf s) (place % 32) (place / 32 * 32) (omega (arith, s .count))
       ∙ ap {B = Passed} (λ (j : ℕ). At (starts j)) e))
 
   -- a codeword starts before symbol h
-  pub entry-before : getD dir (place / 32) 0 < r .h
-  entry-before =
+  pub right-before : getD dir (place / 32) 0 < r .h
+  right-before =
       let j = place / 32 * 32 in
       let w = found-word c (table-code (r .table) (s .table)) (r .table .sigma) row (sym (sound-found r buf s j (omega arith))) (omega (arith, row-length r buf (s .fits), sound-start r buf s j)) in
-      omega (arith, entry-is, w .some, sound-start r buf s (suc j))
+      omega (arith, right-entry, w .some, sound-start r buf s (suc j))

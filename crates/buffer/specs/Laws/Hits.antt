@@ -249,7 +249,7 @@ module _ (l : List ℕ) where
 
 -- ---- the packed pattern stands at the start of codeword i exactly if the pattern stands at character i
 
-map-drop : (f : ℕ → ℕ) (i : ℕ) (t : List ℕ) → drop i (map f t) ≡ map f (drop i t)
+pub map-drop : (f : ℕ → ℕ) (i : ℕ) (t : List ℕ) → drop i (map f t) ≡ map f (drop i t)
 map-drop f zero t = refl
 map-drop f (suc i) [] = refl
 map-drop f (suc i) (x ∷ t) = map-drop f i t

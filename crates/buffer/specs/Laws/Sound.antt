@@ -10,7 +10,7 @@ use native.Mathlib.Numerals.{add-one}
 use native.Mathlib.Omega.{arith}
 use borrow.Author.Tests.{eq-eqb, ne-eqb}
 use lib.Dec.{T}
-use lib.ListN.{length, getD}
+use lib.ListN.{length, getD, length-map}
 use lib.Seq.{drop-cons, length-take-le}
 use Rattle.ground.specs.Rows.{Below}
 use Rattle.ground.specs.Laws.Limit.{limit-fits}
@@ -23,7 +23,7 @@ use Rattle.symbols.specs.Runs.{run}
 use Rattle.symbols.specs.Symbols.{room, symbolsOf}
 use Rattle.symbols.specs.Laws.Sizes.{room-limit}
 use Rattle.symbols.specs.Laws.Rows.{symbols-below, room-row}
-use Rattle.buffer.specs.Roll.{rowUpto, reading, ranksRead, allZero, Sound}
+use Rattle.buffer.specs.Roll.{rowUpto, reading, ranksRead, textOf, allZero, Sound}
 use Rattle.buffer.specs.Codewords.{Reads, foundAt, passedFrom}
 use Rattle.buffer.specs.Laws.Reading.{whole-is}
 use Rattle.buffer.specs.Laws.Codewords.{startOf, found-rank, passed-ranks, start-first, start-upto}
@@ -75,6 +75,10 @@ table-reads r buf g f p h =
       small = omega (arith, f, room-limit (r .table .code .k) (length buf), limit-fits);
       upto = h;
     }
+
+pub text-length : {r : Roll} {buf : List ℕ} → Sound r buf → length (textOf r buf) ≡ r .n
+unfolding textOf
+text-length {r} {buf} s = length-map (ranks r buf) (λ rank. getD (r .table .places) rank 0) ∙ s .count
 
 module _ (r : Roll) (buf : List ℕ) (s : Sound r buf) where
   pub sound-reads : (p : ℕ) → p ≤ r .h → Reads (r .table .code) (r .table .sigma) buf (r .h) p

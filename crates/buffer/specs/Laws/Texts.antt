@@ -4,13 +4,13 @@ use mathlib.Core.Path.{_≡_, refl, sym, ap, _∙_}
 use mathlib.Core.Logic.{_↔_}
 use mathlib.Core.List.{List, [], _∷_, _++_, map, append-assoc}
 use Prim.Native.Nat.{ℕ, zero, suc, _+_, _-_, _≤_, _<_}
-use native.Mathlib.Nat.{le-of-suc-le-suc, le-antisymm, lt-of-not-le}
+use native.Mathlib.Nat.{le-of-suc-le-suc, le-antisymm, lt-of-not-le, sub-zero, zero-add, suc-add}
 use native.Mathlib.Decide.{decLe}
 use native.Mathlib.Omega.{arith}
 use borrow.Author.Tests.{le-leb, lt-leb}
 use lib.Dec.{T}
-use lib.ListN.{length, take, length-append}
-use lib.Seq.{take-length}
+use lib.ListN.{length, take, drop, length-append, take-append-drop}
+use lib.Seq.{take-length, take-append-seam, drop-append-seam}
 use Rattle.ground.specs.Rows.{Below}
 use Rattle.stopper.specs.Table.{base, stoppers, goodCode, wordOf, lengthOf, rankIn}
 use Rattle.stopper.specs.Reading.{write}
@@ -43,6 +43,17 @@ module _ (c : Code) (l : List ℕ) where
       text-cons x (a ++ b)
       ∙ ap (λ (w : List ℕ). wordOf c (rankIn l x) ++ w) (text-append a b)
       ∙ rw (text-cons x a, append-assoc)
+
+  -- the first characters have the first symbols, and the others the rest
+  module _ (text : List ℕ) (i : ℕ) where
+    text-parts : textRow c l text ≡ textRow c l (take i text) ++ textRow c l (drop i text)
+    text-parts = ap (textRow c l) (sym (take-append-drop i text)) ∙ text-append (take i text) (drop i text)
+
+    pub text-take : take (length (textRow c l (take i text))) (textRow c l text) ≡ textRow c l (take i text)
+    text-take = ap (take (length (textRow c l (take i text)))) text-parts ∙ take-append-seam (textRow c l (take i text)) (textRow c l (drop i text))
+
+    pub text-drop : drop (length (textRow c l (take i text))) (textRow c l text) ≡ textRow c l (drop i text)
+    text-drop = ap (drop (length (textRow c l (take i text)))) text-parts ∙ drop-append-seam (textRow c l (take i text)) (textRow c l (drop i text))
 
   pub text-one : (b : ℕ) → length (textRow c l (b ∷ [])) ≡ lengthOf c (rankIn l b)
   unfolding lengthOf
@@ -117,6 +128,29 @@ module _ (c : Code) (l : List ℕ) where
             rw e (omega (arith, over-exceeds room′ text (le-of-suc-le-suc (rw e at h)), length-cons b (take (suc (firstOver c l room′ text)) text)))
         | no k ↦ rw (over-here room b text (lt-of-not-le k)) (omega (arith, lt-of-not-le k, length-cons b []))
       ]
+
+  -- of two texts: the first decides if it does not fit, else the second does
+  pub over-front : (room : ℕ) (a b : List ℕ) → firstOver c l room a < length a → firstOver c l room (a ++ b) ≡ firstOver c l room a
+  over-front room [] b h = absurd (omega arith)
+  over-front room (x ∷ a) b h =
+      elim (decLe (lengthOf c (rankIn l x)) room) [
+        | yes k ↦
+            let e = over-later room x a k in
+            over-later room x (a ++ b) k ∙ ap suc (over-front (room - lengthOf c (rankIn l x)) a b (le-of-suc-le-suc (rw e at h))) ∙ sym e
+        | no k ↦ over-here room x (a ++ b) (lt-of-not-le k) ∙ sym (over-here room x a (lt-of-not-le k))
+      ]
+
+  pub over-behind : (room : ℕ) (a b : List ℕ) → length (textRow c l a) ≤ room
+      → firstOver c l room (a ++ b) ≡ length a + firstOver c l (room - length (textRow c l a)) b
+  over-behind room [] b h = rw (length-none, sub-zero, zero-add)
+  over-behind room (x ∷ a) b h =
+      let n : ℕ = lengthOf c (rankIn l x) in
+      let e = length-cons x a in
+      let left : (room - n) - length (textRow c l a) ≡ room - length (textRow c l (x ∷ a)) = omega arith in
+      over-later room x (a ++ b) (omega arith)
+      ∙ ap suc (over-behind (room - n) a b (omega arith))
+      ∙ ap (λ (m : ℕ). suc (length a + firstOver c l m b)) left
+      ∙ sym (suc-add (length a) (firstOver c l (room - length (textRow c l (x ∷ a))) b))
 
   module _ (room : ℕ) (text : List ℕ) where
     -- as many characters as it numbers fit, and no more

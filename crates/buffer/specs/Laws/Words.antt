@@ -21,7 +21,9 @@ use Rattle.stopper.specs.Laws.Reading.{write-below}
 use Rattle.stopper.specs.Laws.Table.{code-good, code-width, length-place, length-small}
 use Rattle.stopper.specs.declared.code.Code.{Code}
 use Rattle.symbols.specs.Symbols.{symbolsOf}
+use Rattle.symbols.specs.Laws.Rows.{symbols-even}
 use Rattle.buffer.specs.Roll.{firstForeign, firstOver, textRow}
+use Rattle.buffer.specs.Laws.Texts.{length-cons}
 use Rattle.buffer.specs.Words.{lengthFor, Spelt, goesOn, uptoOf, takenOf, foreignOf, wordAt, rowOf, Laid}
 
 -- ---- a character that goes on
@@ -78,7 +80,7 @@ module _ (lengths : List ℕ) where
       (λ e. omega (arith, upto-more room b text e, upto-le (room - getD lengths b 0) text))
       (λ e. omega (arith, upto-stop room b text e))
 
-  taken-le : (room : ℕ) (text : List ℕ) → takenOf lengths room text ≤ room
+  pub taken-le : (room : ℕ) (text : List ℕ) → takenOf lengths room text ≤ room
   unfolding takenOf
   taken-le room [] = omega arith
   taken-le room (b ∷ text) =
@@ -87,7 +89,7 @@ module _ (lengths : List ℕ) where
       (λ e. omega (arith, taken-stop room b text e))
 
   -- each character takes a symbol at least
-  upto-taken : (room : ℕ) (text : List ℕ) → uptoOf lengths room text ≤ takenOf lengths room text
+  pub upto-taken : (room : ℕ) (text : List ℕ) → uptoOf lengths room text ≤ takenOf lengths room text
   unfolding uptoOf takenOf
   upto-taken room [] = omega arith
   upto-taken room (b ∷ text) =
@@ -151,6 +153,11 @@ module _ (c : Code) (g : T (goodCode c)) (l : List ℕ) where
   length-pos : (r : ℕ) → 0 < lengthOf c r
   length-pos r = omega (arith, length-place c g r)
 
+  -- a text has as many symbols as characters, or more
+  pub row-count : (text : List ℕ) → length text ≤ length (textRow c l text)
+  row-count [] = omega arith
+  row-count (b ∷ text) = omega (arith, length-cons c l b text, length-pos (rankIn l b), row-count text)
+
   for-there : (b : ℕ) → has b l ≡ true → lengthFor c l b ≡ lengthOf c (rankIn l b)
   unfolding lengthFor
   for-there b e = rw e
@@ -210,6 +217,9 @@ module _ (c : Code) (g : T (goodCode c)) (l : List ℕ) where
         let i = there b h (k .0) in
         rw (at-length b h, s .word b h i, row-is hs (k .1))
 
+    pub row-known : {text : List ℕ} → Below 256 text → firstForeign l text ≡ length text → rowOf lengths words text ≡ textRow c l text
+    row-known h e = row-is h (foreign-is h ∙ e)
+
     all-fits : (room b : ℕ) (text : List ℕ) → uptoOf lengths room (b ∷ text) ≡ suc (length text)
         → (goesOn (getD lengths b 0) room ≡ true) × (uptoOf lengths (room - getD lengths b 0) text ≡ length text)
     all-fits room b text f =
@@ -256,16 +266,16 @@ module _ (c : Code) (g : T (goodCode c)) (l : List ℕ) where
           }
 
     -- what storing the text asks
-    pub laid : length l ≤ 256 → {room : ℕ} {text buf : List ℕ} → Fitted c l lengths words room text
-        → length (textRow c l text) ≤ length (symbolsOf (c .k) buf) → length (textRow c l text) < 2 ^ 64 → Laid (c .k) lengths words text buf
+    pub laid : length l ≤ 256 → {text buf : List ℕ} {first : ℕ} → rowOf lengths words text ≡ textRow c l text
+        → first + length (textRow c l text) ≤ length (symbolsOf (c .k) buf) → first + length (textRow c l text) < 2 ^ 64 → Laid (c .k) lengths words text buf first
     laid few f fits counts = record {
       width = code-width c g;
       characters = ap length (s .sizes) ∙ length-tab (lengthFor c l) 0 256;
       few = rw (s .sizes) (tab-below (lengthFor c l) 87 0 256 short);
       places = s .long;
-      symbols = rw (f .row) (row-below _);
-      fits = rw (f .row) fits;
-      counts = rw (f .row) counts;
+      symbols = rw f (row-below _);
+      fits = rw f fits;
+      counts = rw f counts;
     }
       where
         short : (b : ℕ) → lengthFor c l b < 87
@@ -275,3 +285,16 @@ module _ (c : Code) (g : T (goodCode c)) (l : List ℕ) where
             let r : rankIn l b < length l = ltb-true _ _ (sym (has-rank l b) ∙ e) in
             omega (arith, for-there b e, length-small c g (rankIn l b) (omega arith)))
             (λ e. omega (arith, for-none b e))
+
+-- a buffer of the same length will do for storing the text
+pub laid-again : {k : ℕ} {lengths words text buf after : List ℕ} {first : ℕ} → Laid k lengths words text buf first → length after ≡ length buf
+    → Laid k lengths words text after first
+laid-again {k} {buf = buf} {after = after} a e = record {
+  width = a .width;
+  characters = a .characters;
+  few = a .few;
+  places = a .places;
+  symbols = a .symbols;
+  fits = rw (symbols-even k after buf e) (a .fits);
+  counts = a .counts;
+}

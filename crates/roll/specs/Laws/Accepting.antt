@@ -13,14 +13,23 @@ use lib.ListN.{length}
 use Rattle.stopper.specs.Table.{goodTable, characters}
 use Rattle.stopper.specs.declared.table.Table.{Table}
 use Rattle.symbols.specs.Symbols.{room}
-use Rattle.buffer.specs.Roll.{firstForeign, firstOver, symbolsFor, reading, ranksRead, allZero, unusedOf, Sound}
-use Rattle.roll.specs.Operations.{packRows, checkRows, unpackRows}
+use Rattle.buffer.specs.Roll.{firstForeign, firstOver, symbolsFor, reading, ranksRead, textOf, allZero, unusedOf, Sound}
+use Rattle.buffer.specs.Directory.{entries, directoryOf, lengthsOf, firstWrong, Right}
+use Rattle.buffer.specs.Editing.{edited}
+use Rattle.roll.specs.Operations.{packRows, checkRows, unpackRows, directoryRows, changeRows, editRows}
+use Rattle.buffer.specs.Laws.Edited.{Edits}
+use Rattle.buffer.specs.Laws.Directory.{sound-entries}
+use Rattle.buffer.specs.Laws.Mending.{wrong-within, right-none, none-right}
 use Rattle.buffer.specs.Laws.Characters.{InTable, known-foreign, foreign-known, foreign-within}
 use Rattle.ground.specs.Laws.Refusals.{Accepted, accepted-none, accepted-both, accepted-parts}
 use Rattle.ground.specs.Laws.Tests.{yes-true, true-yes}
 use Rattle.buffer.specs.Laws.Texts.{over-all, over-within}
 use Rattle.buffer.specs.declared.roll.Roll.{Roll}
 use Rattle.ground.specs.Refusals.{Row, refuse}
+
+neither : (a b : Bool) → (a || b) ≡ false → (a ≡ false) × (b ≡ false)
+neither true b e = let z : _≡_ {A = ℕ} 0 1 = cc in absurd (omega arith)
+neither false b e = (refl, e)
 
 -- ---- check: the roll is sound
 
@@ -110,10 +119,69 @@ module _ (r : Roll) (buf : List ℕ) (start end : ℕ) (out : List ℕ) where
         inside = ltb-false _ _ (f .1);
         fits = ltb-false _ _ d;
       }
-    where
-      neither : (a b : Bool) → (a || b) ≡ false → (a ≡ false) × (b ≡ false)
-      neither true b e = let z : _≡_ {A = ℕ} 0 1 = cc in absurd (omega arith)
-      neither false b e = (refl, e)
 
   pub unpacks-is : Unpacks r buf start end out ↔ Accepted (unpackRows r buf start end out)
   unpacks-is = (unpacks-accepted, accepted-unpacks)
+
+-- ---- edit: the roll is sound and its directory right, the range lies in it, the text put in is in the table, and the edited text fits
+
+module _ (r : Roll) (buf dir : List ℕ) where
+  abbrev wrong : ℕ
+  wrong = firstWrong (directoryOf (lengthsOf r buf)) dir
+
+  abbrev wrongRows : List Row
+  wrongRows = refuse 9 wrong (ltb wrong (entries (r .n))) ∷ []
+
+  -- the rows up to 9: a sound roll with a right directory
+  pub right-accepted : Sound r buf → Right r buf dir → Accepted (directoryRows r buf dir)
+  right-accepted s h =
+      accepted-both (checkRows r buf) wrongRows (sound-accepted r buf s) (rw (le-ltb _ _ (le-of-eq (sym (right-none r buf dir s h)))))
+
+  pub accepted-right : Accepted (directoryRows r buf dir) → Sound r buf × Right r buf dir
+  accepted-right e =
+      let (a, b) = accepted-parts (checkRows r buf) wrongRows e in
+      let (c, z) = accepted-none wrongRows b in
+      let s = accepted-sound r buf a in
+      let h : entries (r .n) ≤ wrong = ltb-false _ _ c in
+      (s, none-right r buf dir s (omega (arith, wrong-within (directoryOf (lengthsOf r buf)) dir, sound-entries r buf s)))
+
+  module _ (start end : ℕ) (text : List ℕ) where
+    abbrev new : List ℕ
+    new = edited (textOf r buf) start end text
+
+    abbrev all : ℕ
+    all = room (r .table .code .k) (length buf)
+
+    pub edits-accepted : Edits r buf dir start end text → Accepted (editRows r buf dir start end text)
+    edits-accepted u =
+        accepted-both (directoryRows r buf dir) (changeRows r buf dir start end text) (right-accepted (u .sound) (u .right))
+        (simp (
+          le-ltb _ _ (u .ordered),
+          le-ltb _ _ (u .inside),
+          le-ltb _ _ (le-of-eq (sym (known-foreign (characters (r .table)) (u .known)))),
+          le-ltb _ _ (le-of-eq (sym (over-all (r .table .code) (characters (r .table)) all new .1 (u .fits)))),
+          le-ltb _ _ (u .listed),
+        ))
+
+    pub accepted-edits : Accepted (editRows r buf dir start end text) → Edits r buf dir start end text
+    accepted-edits e =
+        let (a, b) = accepted-parts (directoryRows r buf dir) (changeRows r buf dir start end text) e in
+        let (s, right) = accepted-right a in
+        let (c, (d, (f, (g, z)))) = accepted-none (changeRows r buf dir start end text) b in
+        let range = neither (ltb end start) (ltb (r .n) end) c in
+        let foreign : length text ≤ firstForeign (characters (r .table)) text = ltb-false _ _ d in
+        let over : length new ≤ firstOver (r .table .code) (characters (r .table)) all new = ltb-false _ _ f in
+        record {
+          sound = s;
+          right = right;
+          ordered = ltb-false _ _ (range .0);
+          inside = ltb-false _ _ (range .1);
+          known = foreign-known (characters (r .table)) text (omega (arith, foreign-within (characters (r .table)) text));
+          fits =
+              over-all (r .table .code) (characters (r .table)) all new .0
+              (omega (arith, over-within (r .table .code) (characters (r .table)) all new));
+          listed = ltb-false _ _ g;
+        }
+
+    pub edits-is : Edits r buf dir start end text ↔ Accepted (editRows r buf dir start end text)
+    edits-is = (edits-accepted, accepted-edits)

@@ -20,7 +20,7 @@ use Rattle.buffer.specs.Directory.{entries, directoryOf, lengthsOf, Right}
 use Rattle.roll.specs.Operations.{Making, oneRead, readRows, ReadingOne}
 use Rattle.buffer.specs.Laws.Codewords.{one-word}
 use Rattle.buffer.specs.Laws.Sound.{sound-found}
-use Rattle.buffer.specs.Laws.Directory.{sound-entries, entry-held, entry-passes, entry-before}
+use Rattle.buffer.specs.Laws.Directory.{sound-entries, right-held, right-passed, right-before}
 use Rattle.roll.specs.Laws.Operations.{made-sound, made-leaves, read-yes}
 use Rattle.buffer.specs.declared.roll.Roll.{Roll}
 
@@ -37,8 +37,8 @@ module _ (r : Roll) (buf : List ℕ) (s : Sound r buf) (dir : List ℕ) (right :
   pub right-reads : judged (readRows r buf dir place) (getD (r .table .places) (oneRank (oneRead r buf dir place)) 0) ≡ accepted (getD (textOf r buf) place 0)
   unfolding textOf
   right-reads =
-      sym (read-yes r buf dir place (yes-true (goodTable (r .table)) (s .table)) (s .fits) inside (entry-held r buf s dir right place inside) (entry-before r buf s dir right place inside)
-      (one-word (r .table .code) (r .table .sigma) (rowUpto (r .table .code) (r .h) buf) (getD dir (place / 32) 0) (place % 32) (entry-passes r buf s dir right place inside) (sym (sound-found r buf s place inside))) .says)
+      sym (read-yes r buf dir place (yes-true (goodTable (r .table)) (s .table)) (s .fits) inside (right-held r buf s dir right place inside) (right-before r buf s dir right place inside)
+      (one-word (r .table .code) (r .table .sigma) (rowUpto (r .table .code) (r .h) buf) (getD dir (place / 32) 0) (place % 32) (right-passed r buf s dir right place inside) (sym (sound-found r buf s place inside))) .says)
       ∙ ap (λ (x : ℕ). accepted x) (sym (map-at (λ rank. getD (r .table .places) rank 0) (ranksRead (reading r buf)) place (omega (arith, s .count))))
 
   pub reads-right : {answer : Answer} → ReadingOne r buf dir place answer → answer ≡ Read (getD (textOf r buf) place 0)

@@ -6,7 +6,7 @@ use mathlib.Core.List.{List, _++_}
 use Prim.Native.Nat.{ℕ, _-_, _≤_}
 use native.Mathlib.Nat.{le-refl, le-of-eq, sub-zero}
 use native.Mathlib.Omega.{arith}
-use lib.ListN.{length, take, drop, getD, length-append, length-drop, length-map, take-append-drop}
+use lib.ListN.{length, take, drop, length-append, length-drop, take-append-drop}
 use lib.Seq.{take-all, take-at}
 use Rattle.ground.specs.Answers.{doneSays}
 use Rattle.ground.specs.Rows.{Below}
@@ -21,11 +21,12 @@ use Rattle.symbols.specs.Symbols.{Width, bytesFor, room, symbolsOf, bytesOf}
 use Rattle.symbols.specs.Laws.Sizes.{room-bytes}
 use Rattle.symbols.specs.Laws.Packing.{bytes-length}
 use Rattle.symbols.specs.Runs.{run}
-use Rattle.buffer.specs.Roll.{symbolsFor, recordOf, packedInto, reading, ranksRead, textOf, Sound}
+use Rattle.buffer.specs.Roll.{symbolsFor, recordOf, packedInto, textOf, Sound}
 use Rattle.roll.specs.Operations.{packRows, unpackRows, Packing, Unpacking}
 use Rattle.ground.specs.Laws.Refusals.{Accepted}
 use Rattle.buffer.specs.Laws.Characters.{InTable}
 use Rattle.roll.specs.Laws.Accepting.{Packs, packs-accepted, accepted-packs, Unpacks, unpacks-accepted}
+use Rattle.buffer.specs.Laws.Sound.{text-length}
 use Rattle.buffer.specs.Laws.Holding.{widthOf, Holds, holds-sound, holds-text, sound-known, sound-record, sound-symbols, sound-bytes, sound-holds}
 use Rattle.buffer.specs.declared.roll.Roll.{Roll}
 use Rattle.roll.specs.declared.pack.Packed.{Packed}
@@ -98,10 +99,6 @@ module _ (r : Roll) (buf : List ℕ) (long : length (r .table .places) ≡ 256) 
   sound-packed = (λ s. (textOf r buf, sound-holds r buf long s bytes), λ p. holds-sound r buf (p .0) (p .1))
 
 -- ---- the operations: unpacking gives the text, and unpacking what was packed gives back what was packed
-
-pub text-length : {r : Roll} {buf : List ℕ} → Sound r buf → length (textOf r buf) ≡ r .n
-unfolding textOf
-text-length {r} {buf} s = length-map (ranksRead (reading r buf)) (λ rank. getD (r .table .places) rank 0) ∙ s .count
 
 module _ (r : Roll) (buf : List ℕ) (start end : ℕ) (out : List ℕ) where
   -- unpack, where it accepts, gives the characters of the range

@@ -5,11 +5,12 @@ use mathlib.Core.Logic.{_≢_, _⊎_, inl, inr}
 use mathlib.Core.Bool.{true, false, _||_, not}
 use mathlib.Core.List.{List, [], _∷_, _++_}
 use Prim.Native.Nat.{ℕ, _-_, _≤_, _<_, _*_, _^_, _/_}
+use native.Mathlib.Nat.{zero-add}
 use native.Mathlib.Omega.{arith}
 use borrow.Author.Tests.{lt-ltb, le-ltb, lt-leb, le-leb, eq-eqb, ne-eqb}
 use lib.Dec.{ltb}
 use lib.ListN.{length, drop, getD}
-use Rattle.ground.specs.Refusals.{Row, refuse, refused, judged, kept}
+use Rattle.ground.specs.Refusals.{Row, refuse, accepted, refused, judged, kept}
 use Rattle.ground.specs.Answers.{doneSays, totalSays}
 use Rattle.ground.specs.Laws.Refusals.{refused-keeps, accepted-leaves, accepted-parts, refused-front, accepted-front, kept-front}
 use Rattle.ground.specs.declared.answers.Done.{Done}
@@ -18,19 +19,21 @@ use Rattle.ground.specs.declared.answers.Answer.the-variants.{Read, Refused as 
 use Rattle.stopper.specs.Table.{goodTable, characters}
 use Rattle.stopper.specs.Reading.{Reading, done, bad}
 use Rattle.symbols.specs.Symbols.{room, Width, per, bytesFor, symbolsOf}
-use Rattle.symbols.specs.Runs.{run, cleared}
-use Rattle.buffer.specs.Roll.{reading, isBad, firstBad, ranksRead, textOf, allZero, unusedOf, firstForeign, firstOver, symbolsFor, packedInto, Sound}
+use Rattle.symbols.specs.Runs.{over as laid-over, run, cleared}
+use Rattle.buffer.specs.Roll.{reading, isBad, firstBad, ranksRead, textOf, allZero, unusedOf, firstForeign, firstOver, symbolsFor, recordOf, packedInto, Sound}
 use Rattle.buffer.specs.Codewords.{scanned, one, lost, oneIsLost, oneLost, oneRank}
-use Rattle.buffer.specs.Directory.{entries, directoryOf, lengthsOf}
-use Rattle.roll.specs.Operations.{checkRows, Checking, unpackRows, Unpacking, Packing, refusedPack, makeRows, Making, oneRead, ReadingOne, searchRows, Searching}
+use Rattle.buffer.specs.Directory.{entries, directoryOf, lengthsOf, firstWrong, Right}
+use Rattle.buffer.specs.Editing.{edited, bytesAfter, directoryAfter}
+use Rattle.roll.specs.Operations.{checkRows, Checking, unpackRows, Unpacking, Packing, refusedPack, makeRows, Making, oneRead, ReadingOne, searchRows, Searching, directoryRows, DirectoryChecked, changeRows, editRows, refusedEdit, Editing}
 use Rattle.buffer.specs.declared.roll.Roll.{Roll}
 use Rattle.buffer.specs.declared.reading.Scan.the-variants.{Whole, Bad}
 use Rattle.ground.specs.Rows.{Below}
 use Rattle.stopper.specs.declared.table.Table.{Table}
 use Rattle.symbols.specs.Laws.Packing.{packed-cleared}
-use Rattle.buffer.specs.Words.{atFront}
+use Rattle.buffer.specs.Words.{laidFrom}
 use Rattle.roll.specs.declared.pack.Packed.{Packed}
-use Rattle.roll.specs.Laws.Accepting.{sound-accepted, accepted-sound}
+use Rattle.roll.specs.declared.edit.Edited.{Edited}
+use Rattle.roll.specs.Laws.Accepting.{sound-accepted, accepted-sound, right-accepted, accepted-right}
 use Rattle.ground.specs.declared.answers.Total.{Total}
 use Rattle.ground.specs.declared.answers.Total.the-variants.{Of, Refused as total-refused}
 use Rattle.buffer.specs.Hits.{hits, goodPattern, listed}
@@ -73,12 +76,12 @@ module _ (t : Table) (text buf : List ℕ) where
 
 -- a row laid over the front of a buffer, and the rest of its last byte cleared
 pub packed-front : {k : ℕ} → Width k → {xs ys buf row after : List ℕ} {h end : ℕ} → Below (2 ^ k) xs → Below 256 buf → Below 256 after
-    → row ≡ atFront (symbolsOf k buf) ys → ys ≡ xs → h ≡ length xs → end ≡ bytesFor k h * per k → symbolsOf k after ≡ cleared row h end → after ≡ packedInto k xs buf
-packed-front {k} w {buf = buf} {row = row} {h = h} b x y m q e f c =
+    → row ≡ laidFrom (symbolsOf k buf) 0 ys → ys ≡ xs → h ≡ length xs → end ≡ bytesFor k h * per k → symbolsOf k after ≡ cleared row h end → after ≡ packedInto k xs buf
+packed-front {k} w {xs = xs} {buf = buf} {row = row} {h = h} b x y m q e f c =
     packed-cleared w b x y
     (c
     ∙ ap (cleared row h) f
-    ∙ ap₂ (λ (r : List ℕ) (n : ℕ). cleared r n (bytesFor k n * per k)) (m ∙ ap (atFront (symbolsOf k buf)) q) e)
+    ∙ ap₂ (λ (r : List ℕ) (n : ℕ). cleared r n (bytesFor k n * per k)) (m ∙ ap (laidFrom (symbolsOf k buf) 0) q ∙ ap (laid-over (symbolsOf k buf) 0 xs) (zero-add (length xs))) e)
 
 -- ---- check
 
@@ -268,3 +271,117 @@ module _ (r : Roll) (buf pattern slice : List ℕ) where
     pub search-yes : {n : ℕ} {after : List ℕ} → goodPattern pattern ≡ true → n ≡ length (hits pattern (textOf r buf))
         → after ≡ listed (hits pattern (textOf r buf)) slice → Searching r buf pattern slice (Of n) after
     search-yes g e f = search-last (rw (g, e)) (rw g f)
+
+-- ---- a sound roll with a right directory: check's, 9
+
+module _ (r : Roll) (buf dir : List ℕ) where
+  -- the row after check's
+  abbrev wrong : ℕ
+  wrong = firstWrong (directoryOf (lengthsOf r buf)) dir
+
+  abbrev nine : List Row
+  nine = refuse 9 wrong (ltb wrong (entries (r .n))) ∷ []
+
+  pub directory-check : {a : Done} {n v : ℕ} → Checking r buf a → a ≡ Refused n v → DirectoryChecked r buf dir a
+  directory-check c e = record { says = ap doneSays e ∙ sym (refused-front (checkRows r buf) nine tt tt (sym (c .says) ∙ ap doneSays e)) }
+
+  module _ (s : Sound r buf) {v : ℕ} (e : v ≡ firstWrong (directoryOf (lengthsOf r buf)) dir) where
+    pub directory-9 : v < entries (r .n) → DirectoryChecked r buf dir (Refused 9 v)
+    directory-9 h =
+        let k = lt-ltb wrong (entries (r .n)) (omega arith) in
+        record { says = sym (accepted-front (checkRows r buf) nine tt tt (sound-accepted r buf s) ∙ rw (k, e)) }
+
+    pub directory-yes : entries (r .n) ≤ v → DirectoryChecked r buf dir Yes
+    directory-yes h =
+        let k = le-ltb wrong (entries (r .n)) (omega arith) in
+        record { says = sym (accepted-front (checkRows r buf) nine tt tt (sound-accepted r buf s) ∙ rw k) }
+
+  pub directory-sound : {a : Done} → DirectoryChecked r buf dir a → a ≡ Yes → Sound r buf × Right r buf dir
+  directory-sound d e = accepted-right r buf dir (sym (d .says) ∙ ap doneSays e)
+
+  pub directory-checked : DirectoryChecked r buf dir Yes → Sound r buf × Right r buf dir
+  directory-checked d = directory-sound d refl
+
+-- ---- edit
+
+module _ (r : Roll) (buf dir : List ℕ) (start end : ℕ) (text : List ℕ) where
+  abbrev rows : List Row
+  rows = editRows r buf dir start end text
+
+  -- the edited text, and where it does not fit
+  abbrev new : List ℕ
+  new = edited (textOf r buf) start end text
+
+  abbrev strange : ℕ
+  strange = firstForeign (characters (r .table)) text
+
+  abbrev full : ℕ
+  full = firstOver (r .table .code) (characters (r .table)) (room (r .table .code .k) (length buf)) new
+
+  -- a refused edit answers the record that came in, and leaves all as it was
+  edit-refused : {n v : ℕ} {e : Edited} → judged rows (tt {0}) ≡ refused n v → e ≡ refusedEdit r n v → Editing r buf dir start end text e buf dir
+  unfolding refusedEdit
+  edit-refused j q =
+      rw q
+      (record {
+        says = sym j;
+        roll = sym (refused-keeps rows tt r (recordOf (r .table) new) j);
+        leaves = sym (refused-keeps rows tt buf (bytesAfter r new buf) j);
+        mends = sym (refused-keeps rows tt dir (directoryAfter r new dir) j);
+      })
+
+  pub edit-check : {a : Done} {n v : ℕ} {e : Edited} → DirectoryChecked r buf dir a → a ≡ Refused n v → e ≡ refusedEdit r n v
+      → Editing r buf dir start end text e buf dir
+  edit-check d q = edit-refused (refused-front (directoryRows r buf dir) (changeRows r buf dir start end text) tt tt (sym (d .says) ∙ ap doneSays q))
+
+  module _ (s : Sound r buf) (right : Right r buf dir) where
+    -- the later rows decide
+    edit-later : judged rows (tt {0}) ≡ judged (changeRows r buf dir start end text) (tt {0})
+    edit-later = accepted-front (directoryRows r buf dir) (changeRows r buf dir start end text) tt tt (right-accepted r buf dir s right)
+
+    pub edit-10-start : {e : Edited} → end < start → e ≡ refusedEdit r 10 0 → Editing r buf dir start end text e buf dir
+    edit-10-start h = edit-refused (edit-later ∙ rw (lt-ltb _ _ h))
+
+    module _ (a : start ≤ end) where
+      pub edit-10-end : {e : Edited} → r .n < end → e ≡ refusedEdit r 10 0 → Editing r buf dir start end text e buf dir
+      edit-10-end h = edit-refused (edit-later ∙ rw (le-ltb _ _ a, lt-ltb _ _ h))
+
+      module _ (b : end ≤ r .n) where
+        pub edit-3 : {e : Edited} {v : ℕ} → v ≡ firstForeign (characters (r .table)) text → v < length text → e ≡ refusedEdit r 3 v
+            → Editing r buf dir start end text e buf dir
+        edit-3 p h =
+            let k = lt-ltb strange (length text) (omega arith) in
+            edit-refused (edit-later ∙ simp (le-ltb _ _ a, le-ltb _ _ b, k, p))
+
+        module _ (f : firstForeign (characters (r .table)) text ≡ length text) where
+          in-table : ltb strange (length text) ≡ false
+          in-table = le-ltb strange (length text) (omega arith)
+
+          pub edit-4 : {e : Edited} {v : ℕ} → v ≡ firstOver (r .table .code) (characters (r .table)) (room (r .table .code .k) (length buf)) new
+              → v < length new → e ≡ refusedEdit r 4 v → Editing r buf dir start end text e buf dir
+          edit-4 p h =
+              let k = lt-ltb full (length new) (omega arith) in
+              edit-refused (edit-later ∙ simp (le-ltb _ _ a, le-ltb _ _ b, in-table, k, p))
+
+          module _ (o : firstOver (r .table .code) (characters (r .table)) (room (r .table .code .k) (length buf)) new ≡ length new) where
+            in-room : ltb full (length new) ≡ false
+            in-room = le-ltb full (length new) (omega arith)
+
+            pub edit-12 : {e : Edited} {v : ℕ} → v ≡ entries (length new) → length dir < v → e ≡ refusedEdit r 12 v
+                → Editing r buf dir start end text e buf dir
+            edit-12 p h =
+                let k = lt-ltb (length dir) (entries (length new)) (omega arith) in
+                edit-refused (edit-later ∙ simp (le-ltb _ _ a, le-ltb _ _ b, in-table, in-room, k, p))
+
+            pub edit-yes : {e : Edited} {q : Roll} {after behind : List ℕ} → entries (length new) ≤ length dir
+                → e ≡ record { answer = Yes; roll = q } → q ≡ recordOf (r .table) new
+                → after ≡ bytesAfter r new buf → behind ≡ directoryAfter r new dir → Editing r buf dir start end text e after behind
+            edit-yes h p q x y =
+                let j : judged rows (tt {0}) ≡ accepted tt = edit-later ∙ simp (le-ltb _ _ a, le-ltb _ _ b, in-table, in-room, le-ltb _ _ h) in
+                rw p
+                (record {
+                  says = sym j;
+                  roll = q ∙ sym (accepted-leaves rows tt r (recordOf (r .table) new) j);
+                  leaves = x ∙ sym (accepted-leaves rows tt buf (bytesAfter r new buf) j);
+                  mends = y ∙ sym (accepted-leaves rows tt dir (directoryAfter r new dir) j);
+                })

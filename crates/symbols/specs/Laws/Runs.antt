@@ -83,7 +83,7 @@ run-append row from mid to h l =
     ∙ take-add (mid - from) (to - mid) (drop from row)
     ∙ ap (λ (l : List ℕ). run row from mid ++ take (to - mid) l) (drop-drop (mid - from) from row ∙ ap (λ (n : ℕ). drop n row) f))
 
-run-slice : (row : List ℕ) (from to : ℕ) → run row from to ≡ drop from (take to row)
+pub run-slice : (row : List ℕ) (from to : ℕ) → run row from to ≡ drop from (take to row)
 run-slice row zero to = rw sub-zero
 run-slice row (suc from) zero = rw zero-sub
 run-slice [] (suc from) (suc to) = take-nil (suc to - suc from)

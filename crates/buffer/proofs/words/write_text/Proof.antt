@@ -13,24 +13,25 @@ use Rattle.ground.specs.Laws.Rows.{getD-below, below-take, below-drop}
 use Rattle.symbols.specs.Symbols.{Width, symbolsOf}
 use Rattle.symbols.specs.Runs.{over}
 use Rattle.symbols.specs.Laws.Rows.{symbols-even}
-use Rattle.symbols.specs.Laws.Runs.{over-after}
-use Rattle.buffer.specs.Words.{wordAt, rowOf, atFront, Laid}
+use Rattle.symbols.specs.Laws.Runs.{over-none, over-after}
+use Rattle.buffer.specs.Words.{wordAt, rowOf, laidFrom, Laid}
 use Rattle.buffer.specs.Laws.Words.{row-more, row-split}
 use Rattle.buffer.proofs.words.write_text.Statement.{statement}
 use Rattle.buffer.proofs.words.write_text.Tie as tie
 
-pub record Written (k : ℕ) (lengths words text old buf : List ℕ) (p i : ℕ) : Type 0 where
+pub record Written (k : ℕ) (lengths words text old : List ℕ) (first : ℕ) (buf : List ℕ) (p i : ℕ) : Type 0 where
   pub inside : i ≤ length text
   pub even : length buf ≡ length old
-  pub after : p ≡ length (rowOf lengths words (take i text))
-  pub row : symbolsOf k buf ≡ over (symbolsOf k old) 0 (rowOf lengths words (take i text)) p
+  pub after : p ≡ first + length (rowOf lengths words (take i text))
+  pub row : symbolsOf k buf ≡ over (symbolsOf k old) first (rowOf lengths words (take i text)) p
 
-start : (k : ℕ) (lengths words text old : List ℕ) → Written k lengths words text old old 0 0
+start : (k : ℕ) (lengths words text old : List ℕ) (first : ℕ) → Written k lengths words text old first old first 0
 unfolding rowOf
-start k lengths words text old = record { inside = omega arith; even = refl; after = refl; row = refl }
+start k lengths words text old first =
+    record { inside = omega arith; even = refl; after = omega arith; row = sym (over-none (symbolsOf k old) first) }
 
-all : {k : ℕ} {lengths words text old buf : List ℕ} {p i : ℕ} → Written k lengths words text old buf p i → length text ≤ i
-    → symbolsOf k buf ≡ atFront (symbolsOf k old) (rowOf lengths words text)
+all : {k : ℕ} {lengths words text old : List ℕ} {first : ℕ} {buf : List ℕ} {p i : ℕ} → Written k lengths words text old first buf p i → length text ≤ i
+    → symbolsOf k buf ≡ laidFrom (symbolsOf k old) first (rowOf lengths words text)
 all {text = text} {i = i} s h =
     let e : take i text ≡ text = take-all i text h in
     s .row ∙ rw (s .after, e)
@@ -40,26 +41,27 @@ lent : (lengths words : List ℕ) {x b n : ℕ} → b ≡ x → n ≡ getD lengt
 unfolding wordAt
 lent lengths words {x} {b} {n} e f = let q : b * 86 + n - b * 86 ≡ n = omega arith in rw (q, f, e)
 
-module _ {k : ℕ} {lengths words text old buf : List ℕ} {p i : ℕ} (a : Laid k lengths words text old) (s : Written k lengths words text old buf p i) (h : i < length text)
-    {w : List ℕ} (e : w ≡ wordAt lengths words (getD text i 0)) where
+module _ {k : ℕ} {lengths words text old : List ℕ} {first : ℕ} {buf : List ℕ} {p i : ℕ} (a : Laid k lengths words text old first)
+    (s : Written k lengths words text old first buf p i) (h : i < length text) {w : List ℕ} (e : w ≡ wordAt lengths words (getD text i 0)) where
   split : rowOf lengths words text ≡ rowOf lengths words (take i text) ++ (w ++ rowOf lengths words (drop (suc i) text))
   split = rw e (row-split lengths words text i h)
 
-  ends : p + length w ≤ length (rowOf lengths words text)
+  ends : p + length w ≤ first + length (rowOf lengths words text)
   ends = omega (arith, s .after, simp length-append at (ap length split))
 
   word-symbols : Below (2 ^ k) w
   word-symbols =
       let rest = rowOf lengths words (drop (suc i) text) in
-      let d : drop p (rowOf lengths words text) ≡ w ++ rest = ap (drop p) split ∙ drop-at (rowOf lengths words (take i text)) (w ++ rest) p (sym (s .after)) in
-      let t : take (length w) (drop p (rowOf lengths words text)) ≡ w = ap (take (length w)) d ∙ take-at w rest (length w) refl in
-      rw t at (below-take (below-drop (a .symbols) p) (length w))
+      let n = length (rowOf lengths words (take i text)) in
+      let d : drop n (rowOf lengths words text) ≡ w ++ rest = ap (drop n) split ∙ drop-at (rowOf lengths words (take i text)) (w ++ rest) n refl in
+      let t : take (length w) (drop n (rowOf lengths words text)) ≡ w = ap (take (length w)) d ∙ take-at w rest (length w) refl in
+      rw t at (below-take (below-drop (a .symbols) n) (length w))
 
   asked : Width k × Below (2 ^ k) w × (p + length w ≤ length (symbolsOf k buf)) × (p + length w < 2 ^ 64)
   asked = (a .width, word-symbols, omega (arith, ends, a .fits, symbols-even k buf old (s .even)), omega (arith, ends, a .counts))
 
   more : {buf′ : List ℕ} {q : ℕ} → q ≡ p + length w → length buf′ ≡ length buf → symbolsOf k buf′ ≡ over (symbolsOf k buf) p w (p + length w)
-      → Written k lengths words text old buf′ q (i + 1)
+      → Written k lengths words text old first buf′ q (i + 1)
   more {buf′} {q} f g r =
       let m : rowOf lengths words (take (i + 1) text) ≡ rowOf lengths words (take i text) ++ w = rw (add-one i, e) (row-more lengths words text i h) in
       record {
@@ -68,18 +70,18 @@ module _ {k : ℕ} {lengths words text old buf : List ℕ} {p i : ℕ} (a : Laid
         after = omega (arith, f, s .after, simp length-append at (ap length m));
         row = r
             ∙ ap (λ (l : List ℕ). over l p w (p + length w)) (s .row)
-            ∙ over-after (symbolsOf k old) 0 p (p + length w) (rowOf lengths words (take i text)) w (omega (arith, s .after)) refl (omega (arith, ends, a .fits))
+            ∙ over-after (symbolsOf k old) first p (p + length w) (rowOf lengths words (take i text)) w (omega (arith, s .after)) refl (omega (arith, ends, a .fits))
             ∙ rw (m, f);
       }
 
 abbrev Inv-loop : tie.InvT-loop
-Inv-loop k lengths words text buf₀ p₀ i₀ buf p i = Written k lengths words text buf₀ buf p i
+Inv-loop k lengths words text buf₀ first p₀ i₀ buf p i = Written k lengths words text buf₀ first buf p i
 
 abbrev μ-loop : tie.MeasureT-loop
-μ-loop k lengths words text buf₀ p₀ i₀ buf p i = length text - i
+μ-loop k lengths words text buf₀ first p₀ i₀ buf p i = length text - i
 
 loop-holds : tie.Need-loop-holds Inv-loop μ-loop
-loop-holds c = start _ _ _ _ _
+loop-holds c = start _ _ _ _ _ _
 
 shared-slice-read-wide : tie.Need-shared-slice-read-wide Inv-loop μ-loop
 shared-slice-read-wide c = omega arith

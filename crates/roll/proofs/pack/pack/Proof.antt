@@ -188,8 +188,8 @@ write-text-requires : tie.Need-write-text-requires
 write-text-requires c κs =
     let d = c .before .before .before in
     let f = d .before in
-    laid (table f .code) (code (checked f)) (characters (table f)) (lengths f) (words f) (spelt f) (few (checked f)) (fitted d)
-    (room-row (table f .code .k) (buf f) _ (fitted d .inside))
+    laid (table f .code) (code (checked f)) (characters (table f)) (lengths f) (words f) (spelt f) (few (checked f)) (fitted d .row)
+    (omega (arith, room-row (table f .code .k) (buf f) _ (fitted d .inside)))
     (omega (arith, h-is d, h-few d, limit-fits))
 
 unused-requires : tie.Need-unused-requires

@@ -1,0 +1,107 @@
+-- `buffer::directory::start_of` meets its contract.
+-- Assumes nothing.
+use mathlib.Core.Path.{_≡_, sym, ap, _∙_}
+use mathlib.Core.List.{List}
+use Prim.Native.Nat.{ℕ, _/_}
+use native.Mathlib.Omega.{arith}
+use borrow.Author.Needs.{needs}
+use Rattle.buffer.specs.Roll.{reading, ranksRead}
+use Rattle.buffer.specs.Directory.{lengthsOf}
+use Rattle.buffer.specs.Laws.Codewords.{startOf}
+use Rattle.buffer.specs.Laws.Sound.{sound-reads}
+use Rattle.buffer.specs.Laws.Directory.{start-at, sound-end, right-held, right-passed, right-before}
+use Rattle.buffer.specs.declared.reading.Passed.the-variants.{At, Bad}
+use Rattle.buffer.proofs.directory.start_of.Statement.{statement}
+use Rattle.buffer.proofs.directory.start_of.Tie as tie
+
+-- the way back from a place
+abbrev begun : tie.After-struct-known2 → tie.Start
+begun c = c .before .before .before .before
+
+abbrev tabled : tie.After-shared-slice-known3 → tie.Else1
+tabled c = c .before .before .before .before
+
+abbrev start : tie.After-shared-slice-known3 → tie.Start
+start c = begun (tabled c .before)
+
+abbrev ranks : tie.Start → List ℕ
+ranks s = ranksRead (reading (s .args .roll) (s .args .buf .now))
+
+-- character j starts behind those before it
+passed-is : (c : tie.After-pass-over) → let s = start (c .before) in c .pass-over .result ≡ At (startOf (s .args .roll .table .code) (ranks s) (s .args .j))
+passed-is c =
+    let s = start (c .before) in
+    c .pass-over .ensures ∙ sym (right-passed (s .args .roll) (s .args .buf .now) (s .pre .0) (s .args .dir .now) (s .pre .1) (s .args .j) (tabled (c .before) .if1 .left))
+
+cast-h : tie.Need-cast-h
+cast-h c = search needs
+
+cast-if1 : tie.Need-cast-if1
+cast-if1 c = search needs
+
+returns : tie.Need-returns
+unfolding lengthsOf
+returns c =
+    let s = begun (c .before) in
+    let e : s .args .roll .n ≡ s .args .j = omega arith in
+    sym (sound-end (s .args .roll) (s .args .buf .now) (s .pre .0))
+    ∙ ap (startOf (s .args .roll .table .code) (ranks s)) e
+    ∙ start-at (s .args .roll .table .code) (ranks s) (s .args .j)
+
+cast-sigma : tie.Need-cast-sigma
+cast-sigma c = search needs
+
+mul-pass-over : tie.Need-mul-pass-over
+mul-pass-over c = search needs
+
+shared-slice-read-pass-over : tie.Need-shared-slice-read-pass-over
+shared-slice-read-pass-over c =
+    let s = start c in
+    right-held (s .args .roll) (s .args .buf .now) (s .pre .0) (s .args .dir .now) (s .pre .1) (s .args .j) (tabled c .if1 .left)
+
+cast-pass-over : tie.Need-cast-pass-over
+cast-pass-over c = omega (arith, c .shared-slice-known3 .given (start c .args .j / 32))
+
+pass-over-requires : tie.Need-pass-over-requires
+pass-over-requires c κs =
+    let s = start c in
+    let b = right-before (s .args .roll) (s .args .buf .now) (s .pre .0) (s .args .dir .now) (s .pre .1) (s .args .j) (tabled c .if1 .left) in
+    sound-reads (s .args .roll) (s .args .buf .now) (s .pre .0) _ (omega arith)
+
+enum-known-passed : tie.Need-enum-known-passed
+enum-known-passed c = search needs
+
+enum-told : tie.Need-enum-told
+enum-told c = search needs
+
+returns-2 : tie.Need-returns-2
+returns-2 c =
+    let e : Bad _ ≡ At _ = sym (c .enum-told .given .1) ∙ passed-is (c .before .before) in
+    let z : _≡_ {A = ℕ} 0 1 = cc in
+    absurd (omega arith)
+
+returns-3 : tie.Need-returns-3
+unfolding lengthsOf
+returns-3 c =
+    let p = c .before .before .before in
+    let s = start (p .before) in
+    let e = sym (c .before .passed .given .1) ∙ passed-is p in
+    let n : c .before .passed .given .0 .0 ≡ startOf (s .args .roll .table .code) (ranks s) (s .args .j) = cc in
+    n ∙ start-at (s .args .roll .table .code) (ranks s) (s .args .j)
+
+pub start-of-spec : {M : Type 1} → statement M
+start-of-spec =
+    tie.close
+    (tie.spec
+    cast-h
+    cast-if1
+    returns
+    cast-sigma
+    mul-pass-over
+    shared-slice-read-pass-over
+    cast-pass-over
+    pass-over-requires
+    enum-known-passed
+    enum-told
+    returns-2
+    returns-3)

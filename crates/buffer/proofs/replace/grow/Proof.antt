@@ -1,0 +1,128 @@
+-- `buffer::replace::grow` meets its contract.
+-- Assumes nothing.
+use mathlib.Core.Path.{_≡_}
+use Prim.Native.Nat.{ℕ, _+_, _-_, _*_, _≤_}
+use native.Mathlib.Omega.{arith}
+use borrow.Author.Needs.{needs}
+use lib.ListN.{length}
+use Rattle.ground.specs.Laws.Rows.{below-all}
+use Rattle.symbols.specs.Symbols.{per, bytesFor, symbolsOf}
+use Rattle.symbols.specs.Laws.Rows.{symbols-even, ends-inside}
+use Rattle.symbols.specs.Laws.Sizes.{bytesFor-enough, bytesFor-least}
+use Rattle.symbols.specs.Laws.Width.{per-few}
+use Rattle.buffer.specs.Laws.Words.{laid-again}
+use Rattle.buffer.specs.Laws.Replacing.{grown}
+use Rattle.buffer.proofs.replace.grow.Statement.{statement}
+use Rattle.buffer.proofs.replace.grow.Tie as tie
+
+abbrev begun : tie.After-up → tie.Start
+begun u = u .before .before .before .before .before .before
+
+abbrev stored : tie.After-unused → tie.After-write-text
+stored c = c .before .before .before .before
+
+abbrev moved : tie.After-unused → tie.After-up
+moved c = stored c .before .before .before .before
+
+-- the symbols that there are afterwards
+abbrev later : tie.Start → ℕ
+later s = s .args .h + (s .args .taken - (s .args .q - s .args .p))
+
+later-inside : (s : tie.Start) → later s ≤ length (symbolsOf (s .args .k) (s .args .buf .now))
+later-inside s = omega (arith, s .pre .0 .fits, s .pre .0 .ordered, s .pre .0 .inside, s .pre .1)
+
+later-few : (s : tie.Start) → later s ≤ 16777216
+later-few s = omega (arith, s .pre .0 .few, s .pre .0 .ordered, s .pre .0 .inside, s .pre .1)
+
+end : (c : tie.After-unused) → let s = begun (moved c) in later s + c .unused .result ≡ bytesFor (s .args .k) (later s) * per (s .args .k)
+end c = let s = begun (moved c) in omega (arith, c .unused .ensures, bytesFor-enough (s .pre .0 .laid .width) (later s))
+
+sub-by : tie.Need-sub-by
+sub-by c = search needs
+
+sub-by-2 : tie.Need-sub-by-2
+sub-by-2 c = search needs
+
+up-requires : tie.Need-up-requires
+up-requires c κs = search needs
+
+write-text-requires : tie.Need-write-text-requires
+write-text-requires c κs = let u = c .before .before .before in laid-again (begun u .pre .0 .laid) (u .up .kept .1 .0)
+
+add-clear : tie.Need-add-clear
+add-clear c = search needs
+
+add-clear-2 : tie.Need-add-clear-2
+add-clear-2 c = search needs
+
+add-unused : tie.Need-add-unused
+add-unused c = search needs
+
+unused-requires : tie.Need-unused-requires
+unused-requires c κs = search needs
+
+add-clear-3 : tie.Need-add-clear-3
+add-clear-3 c =
+    let s = begun (moved c) in
+    let w = s .pre .0 .laid .width in
+    omega (arith, end c, bytesFor-least w (later s), per-few w, later-few s)
+
+clear-requires : tie.Need-clear-requires
+clear-requires c κs =
+    let u = moved c in
+    let s = begun u in
+    let k = s .args .k in
+    let w = s .pre .0 .laid .width in
+    let one = u .up .last .1 .0 in
+    let two = stored c .write-text .last .1 .1 .1 .1 .0 in (
+      w,
+      omega arith,
+      omega (
+        arith,
+        end c,
+        ends-inside w (s .args .buf .now) (later s) (later-inside s),
+        symbols-even k one (s .args .buf .now) (u .up .kept .1 .0),
+        symbols-even k two one (stored c .write-text .kept .1 .1 .1 .1 .0),
+      ),
+    )
+
+same-length : tie.Need-same-length
+same-length c = search needs
+
+returns : tie.Need-returns
+returns c =
+    let d = c .before .before .before in
+    let u = moved d in
+    let s = begun u in
+    let r = s .pre .0 in
+    grown (r .laid .width)
+    (below-all 256 _ (λ i. u .before .before .slice-known .given i .fits))
+    (r .laid .symbols)
+    (r .ordered)
+    (r .inside)
+    (r .held)
+    (below-all 256 _ (λ i. c .slice-known4 .given i .fits))
+    (s .args .taken - (s .args .q - s .args .p))
+    (u .up .ensures)
+    (stored d .write-text .ensures)
+    (c .before .before .clear .ensures)
+    (omega (arith, r .count, r .ordered, s .pre .1))
+    (later-inside s)
+    (end d)
+
+pub grow-spec : {M : Type 1} → statement M
+grow-spec =
+    tie.close
+    (tie.spec
+    sub-by
+    sub-by-2
+    up-requires
+    write-text-requires
+    add-clear
+    add-clear-2
+    add-unused
+    unused-requires
+    add-clear-3
+    clear-requires
+    same-length
+    returns)

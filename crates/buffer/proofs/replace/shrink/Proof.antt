@@ -1,0 +1,88 @@
+-- `buffer::replace::shrink` meets its contract.
+-- Assumes nothing.
+use Prim.Native.Nat.{_-_}
+use native.Mathlib.Omega.{arith}
+use borrow.Author.Needs.{needs}
+use Rattle.ground.specs.Laws.Rows.{below-all}
+use Rattle.symbols.specs.Laws.Rows.{symbols-even}
+use Rattle.buffer.specs.Laws.Words.{laid-again}
+use Rattle.buffer.specs.Laws.Replacing.{shrunk}
+use Rattle.buffer.proofs.replace.shrink.Statement.{statement}
+use Rattle.buffer.proofs.replace.shrink.Tie as tie
+
+abbrev begun : tie.After-down → tie.Start
+begun u = u .before .before .before .before .before .before
+
+abbrev stored : tie.After-clear-arg → tie.After-write-text
+stored c = c .before .before .before
+
+abbrev moved : tie.After-clear-arg → tie.After-down
+moved c = stored c .before .before .before .before
+
+sub-by : tie.Need-sub-by
+sub-by c = search needs
+
+sub-by-2 : tie.Need-sub-by-2
+sub-by-2 c = search needs
+
+down-requires : tie.Need-down-requires
+down-requires c κs = search needs
+
+write-text-requires : tie.Need-write-text-requires
+write-text-requires c κs = let u = c .before .before .before in laid-again (begun u .pre .0 .laid) (u .down .kept .1 .0)
+
+sub-clear : tie.Need-sub-clear
+sub-clear c = search needs
+
+clear-requires : tie.Need-clear-requires
+clear-requires c κs =
+    let u = moved c in
+    let s = begun u in
+    let k = s .args .k in
+    let one = u .down .last .1 .0 in
+    let two = stored c .write-text .last .1 .1 .1 .1 .0 in (
+      s .pre .0 .laid .width,
+      omega arith,
+      omega (
+        arith,
+        s .pre .0 .held,
+        symbols-even k one (s .args .buf .now) (u .down .kept .1 .0),
+        symbols-even k two one (stored c .write-text .kept .1 .1 .1 .1 .0),
+      ),
+    )
+
+same-length : tie.Need-same-length
+same-length c = search needs
+
+returns : tie.Need-returns
+returns c =
+    let d = c .before .before .before in
+    let u = moved d in
+    let s = begun u in
+    let r = s .pre .0 in
+    shrunk (r .laid .width)
+    (below-all 256 _ (λ i. u .before .before .slice-known .given i .fits))
+    (r .laid .symbols)
+    (r .ordered)
+    (r .inside)
+    (r .held)
+    (below-all 256 _ (λ i. c .slice-known4 .given i .fits))
+    (s .args .q - s .args .p - s .args .taken)
+    (u .down .ensures)
+    (stored d .write-text .ensures)
+    (c .before .before .clear .ensures)
+    (omega (arith, r .count, r .ordered, s .pre .1))
+    (r .clean)
+
+pub shrink-spec : {M : Type 1} → statement M
+shrink-spec =
+    tie.close
+    (tie.spec
+    sub-by
+    sub-by-2
+    down-requires
+    write-text-requires
+    sub-clear
+    clear-requires
+    same-length
+    returns)

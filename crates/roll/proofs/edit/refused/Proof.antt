@@ -1,0 +1,13 @@
+-- `roll::edit::refused` meets its contract.
+-- Assumes nothing.
+use mathlib.Core.Path.{refl}
+use Rattle.roll.specs.Operations.{refusedEdit}
+use Rattle.roll.proofs.edit.refused.Statement.{statement}
+use Rattle.roll.proofs.edit.refused.Tie as tie
+
+returns : tie.Need-returns
+unfolding refusedEdit
+returns c = refl
+
+pub refused-spec : {M : Type 1} → statement M
+refused-spec = tie.close (tie.spec returns)
