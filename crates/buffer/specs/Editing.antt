@@ -36,7 +36,8 @@ directoryAfter r text dir = inPlace (entries (r .n)) (directoryOf (lengthsFor (r
 unfoldable pub replacedRow : ℕ → List ℕ → ℕ → ℕ → ℕ → List ℕ → List ℕ
 replacedRow k buf h p q new = over (take h (symbolsOf k buf)) p new q
 
--- what is asked for it: the text's symbols are `taken`, all is within the buffer, and the unused symbols of the last byte are 0
+-- what is asked for it: the text's symbols are `taken`, all is within the buffer (and the limit, which is at most 2 ^ 24), and the unused
+-- symbols of the last byte are 0
 pub record Replaces (k : ℕ) (lengths words text : List ℕ) (taken : ℕ) (buf : List ℕ) (h p q : ℕ) : Type 0 where
   pub laid : Laid k lengths words text buf p
   pub count : taken ≡ length (rowOf lengths words text)
@@ -52,7 +53,7 @@ pub record Replaces (k : ℕ) (lengths words text : List ℕ) (taken : ℕ) (buf
 unfoldable pub changedUpto : Run → ℕ → ℕ → ℕ → ℕ
 changedUpto x long taken count = cond (eqb long (x .end - x .start) && eqb taken (x .last - x .first)) (x .end) count
 
--- a run of a sound roll with a right directory, and a text that may stand in its place: its codewords are spelt, all of it fits
+-- a run of a sound roll with a right directory, and a text that may stand in its place: the table's codewords are spelt, all fits
 pub record Replaceable (r : Roll) (lengths words buf dir : List ℕ) (run : Run) (text : List ℕ) (taken : ℕ) : Type 0 where
   pub sound : Sound r buf
   pub right : Right r buf dir

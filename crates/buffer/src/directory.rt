@@ -20,7 +20,7 @@ pub fn entries_for(n: u32) -> usize
     (n as usize + 31) / 32
 }
 
-// The entries of the characters from `from`, which starts at symbol first, up to `upto`.
+// Writes the entries of the characters from `from`, which starts at symbol first, up to `upto`.
 pub fn mend(roll: Roll, buf: &[u8], dir: &mut [u32], from: usize, upto: usize, first: usize)
     requires { ⌜ Sound roll (now buf) × (from ≤ upto) × (upto ≤ roll .n) × (entries upto ≤ length (now dir)) × (first ≡ startAt (lengthsOf roll (now buf)) from) ⌝ }
     ensures { λ _. ⌜ now (dir .exit) ≡ over (now (dir .entry)) (entries from) (run (directoryOf (lengthsOf roll (now (buf .entry)))) (entries from) (entries upto)) (entries upto) ⌝ }
@@ -52,7 +52,7 @@ pub fn make_sound(roll: Roll, buf: &[u8], dir: &mut [u32])
     mend(roll, buf, dir, 0, roll.n as usize, 0);
 }
 
-// The number of the first entry that is missing or wrong, or how many there are.
+// The number of the first entry that is missing or wrong, or how many the roll has.
 pub fn first_wrong(roll: Roll, buf: &[u8], dir: &[u32]) -> usize
     requires { ⌜ Sound roll (now buf) ⌝ }
     ensures { λ r. ⌜ r ≡ firstWrong (directoryOf (lengthsOf roll (now (buf .entry)))) (now (dir .entry)) ⌝ }

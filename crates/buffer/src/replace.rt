@@ -48,7 +48,7 @@ pub fn first_over(roll: Roll, buf: &[u8], from: usize, first: usize, room: usize
     j
 }
 
-// The new symbols are more than the old: the tail goes up, and what is left of its last byte is cleared.
+// The new symbols are more than the old: the tail goes up, and the rest of the last byte is cleared.
 fn grow(
     k: u8,
     lengths: &[u8],
@@ -69,7 +69,7 @@ fn grow(
     clear(k, buf, h + by, h + by + unused(k, h + by));
 }
 
-// They are fewer: the tail goes down, and what it leaves behind is cleared.
+// The new symbols are fewer than the old: the tail goes down, and what it leaves behind is cleared.
 fn shrink(
     k: u8,
     lengths: &[u8],
@@ -91,7 +91,7 @@ fn shrink(
 }
 
 // The symbols from p up to q give way to those of a text; the tail, up to symbol h, moves by as much as they differ.
-pub fn replace_symbols(
+fn replace_symbols(
     k: u8,
     lengths: &[u8],
     words: &[u8],

@@ -126,13 +126,13 @@ pub record DirectoryChecked (r : Roll) (buf dir : List ℕ) (answer : Done) : Ty
 abbrev pub changeRows : Roll → List ℕ → List ℕ → ℕ → ℕ → List ℕ → List Row
 changeRows r buf dir start end text =
     let t : Table = r .table in
-    let new : List ℕ = edited (textOf r buf) start end text in
+    let result : List ℕ = edited (textOf r buf) start end text in
     let foreign : ℕ = firstForeign (characters t) text in
-    let over : ℕ = firstOver (t .code) (characters t) (room (t .code .k) (length buf)) new in
+    let over : ℕ = firstOver (t .code) (characters t) (room (t .code .k) (length buf)) result in
     refuse 10 0 (ltb end start || ltb (r .n) end)
     ∷ refuse 3 foreign (ltb foreign (length text))
-    ∷ refuse 4 over (ltb over (length new))
-    ∷ refuse 12 (entries (length new)) (ltb (length dir) (entries (length new)))
+    ∷ refuse 4 over (ltb over (length result))
+    ∷ refuse 12 (entries (length result)) (ltb (length dir) (entries (length result)))
     ∷ []
 
 abbrev pub editRows : Roll → List ℕ → List ℕ → ℕ → ℕ → List ℕ → List Row

@@ -32,7 +32,7 @@ fn refused(roll: Roll, number: u8, value: u64) -> Edited
     }
 }
 
-// That a roll is sound and its directory right.
+// That a roll is sound and its directory right; refused as check does, or with 9.
 pub fn check_directory(roll: Roll, buf: &[u8], dir: &[u32]) -> Done
     ensures { λ r. ⌜ DirectoryChecked roll (now (buf .entry)) (now (dir .entry)) r ⌝ }
 {
@@ -47,7 +47,8 @@ pub fn check_directory(roll: Roll, buf: &[u8], dir: &[u32]) -> Done
     Done::Yes
 }
 
-// A run of a sound roll with a right directory.
+// A run of a sound roll with a right directory is replaced, or refused 3, 4 or 12. One pass over the text asks both whether its characters
+// are in the table and whether they fit; if it stops, the rest is looked through for a character that is not, as 3 comes before 4.
 fn change(
     roll: Roll,
     buf: &mut [u8],
@@ -68,8 +69,8 @@ fn change(
     spell_all(code, sigma, places, &mut lengths, &mut words);
     let first = start_of(roll, buf, dir, start);
     let last = start_of(roll, buf, dir, end);
-    let room = room_of(code.k, buf.len()) - first;
-    let fit = fitting(&lengths, room, text);
+    let space = room_of(code.k, buf.len()) - first;
+    let fit = fitting(&lengths, space, text);
     let upto = fit.upto;
     if upto < text.len() {
         let foreign = first_foreign(&lengths, text, upto);
@@ -79,7 +80,7 @@ fn change(
         return refused(roll, 4, (start + upto) as u64);
     }
     let taken = fit.taken;
-    let left = room - taken;
+    let left = space - taken;
     if left < roll.h as usize - last {
         let over = first_over(roll, buf, end, last, left);
         return refused(roll, 4, (start + text.len() + (over - end)) as u64);
@@ -102,6 +103,7 @@ fn change(
     }
 }
 
+// A refused edit answers the record that came in.
 pub fn edit(
     roll: Roll,
     buf: &mut [u8],

@@ -130,27 +130,27 @@ module _ (r : Roll) (buf dir : List ℕ) (start end : ℕ) (text : List ℕ) (lo
   -- ---- which bytes can differ
 
   -- the symbol at which character j of the roll starts
-  abbrev symbolOf : ℕ → ℕ
-  symbolOf j = length (symbolsFor (r .table) (take j (textOf r buf)))
+  abbrev startSymbol : ℕ → ℕ
+  startSymbol j = length (symbolsFor (r .table) (take j (textOf r buf)))
 
   module _ (bytes : Below 256 buf) where
     held : r .h ≤ length (symbolsOf k buf)
     held = room-row k buf (r .h) (u .sound .fits)
 
     -- the symbols of the roll, with those of the text in place of the run's
-    row-is : row ≡ replacedRow k buf (r .h) (symbolOf start) (symbolOf end) (symbolsFor (r .table) text)
+    row-is : row ≡ replacedRow k buf (r .h) (startSymbol start) (startSymbol end) (symbolsFor (r .table) text)
     unfolding replacedRow
     row-is =
         edited-row (textOf r buf) start end text (r .table .code) (characters (r .table))
-        ∙ ap (λ (x : List ℕ). over x (symbolOf start) (symbolsFor (r .table) text) (symbolOf end)) (sound-symbols r buf long (u .sound))
+        ∙ ap (λ (x : List ℕ). over x (startSymbol start) (symbolsFor (r .table) text) (startSymbol end)) (sound-symbols r buf long (u .sound))
 
     below : Below (2 ^ k) (symbolsFor (r .table) text)
     below = text-below (r .table .code) (table-code (r .table) (u .sound .table)) (characters (r .table)) text
 
-    ordered : symbolOf start ≤ symbolOf end
+    ordered : startSymbol start ≤ startSymbol end
     ordered = length-up (r .table .code) (characters (r .table)) (textOf r buf) start end (u .ordered)
 
-    inside : symbolOf end ≤ r .h
+    inside : startSymbol end ≤ r .h
     inside =
         omega (
           arith,
@@ -160,18 +160,18 @@ module _ (r : Roll) (buf dir : List ℕ) (start end : ℕ) (text : List ℕ) (lo
         )
 
     -- each byte before the one where the run begins is as it was
-    pub edit-before : take (symbolOf start / per k) after ≡ take (symbolOf start / per k) buf
+    pub edit-before : take (startSymbol start / per k) after ≡ take (startSymbol start / per k) buf
     edit-before =
-        ap (λ (x : List ℕ). take (symbolOf start / per k) (inPlace (bytesFor k (r .h)) (bytesOf k x) buf)) row-is
+        ap (λ (x : List ℕ). take (startSymbol start / per k) (inPlace (bytesFor k (r .h)) (bytesOf k x) buf)) row-is
         ∙ replaced-before width bytes below ordered inside held
 
     -- with as many symbols as before, so is each byte behind the last that holds the run
-    pub edit-even : symbolOf start + length (symbolsFor (r .table) text) ≡ symbolOf end → drop (bytesFor k (symbolOf end)) after ≡ drop (bytesFor k (symbolOf end)) buf
+    pub edit-even : startSymbol start + length (symbolsFor (r .table) text) ≡ startSymbol end → drop (bytesFor k (startSymbol end)) after ≡ drop (bytesFor k (startSymbol end)) buf
     edit-even e =
-        ap (λ (x : List ℕ). drop (bytesFor k (symbolOf end)) (inPlace (bytesFor k (r .h)) (bytesOf k x) buf)) row-is
+        ap (λ (x : List ℕ). drop (bytesFor k (startSymbol end)) (inPlace (bytesFor k (r .h)) (bytesOf k x) buf)) row-is
         ∙ replaced-even width bytes below ordered inside held e (u .sound .unused) .0
 
--- an empty run by an empty text: nothing differs
+-- an empty run by an empty text: no byte differs
 pub edit-nothing : (r : Roll) (buf : List ℕ) (start : ℕ) → length (r .table .places) ≡ 256 → Below 256 buf → Sound r buf
     → bytesAfter r (textAfter r buf start start []) buf ≡ buf
 unfolding zeros

@@ -26,7 +26,7 @@ use Rattle.stopper.specs.declared.code.Code.{Code}
 use Rattle.buffer.specs.Roll.{firstForeign, textRow, symbolsFor, rowUpto, reading, ranksRead, textOf, Sound}
 use Rattle.buffer.specs.Hits.{stands, hitsFrom, hits}
 use Rattle.buffer.specs.Finding.{standsAt}
-use Rattle.buffer.specs.Laws.Characters.{InTable, empty, char, rank-character, ranks-below, known-foreign}
+use Rattle.buffer.specs.Laws.Characters.{InTable, empty, char, rank-character, ranks-below, known-foreign, known-drop}
 use Rattle.buffer.specs.Laws.Codewords.{startOf}
 use Rattle.buffer.specs.Laws.Sound.{sound-row, sound-length}
 use Rattle.buffer.specs.Laws.Holding.{sound-known, sound-ranked}
@@ -218,11 +218,6 @@ module _ (l : List ℕ) where
   stands-ranks (char ha hp) empty = refl
   stands-ranks (char {b = a} ha hp) (char {b = b} hb ht) = ap₂ (λ (x y : Bool). x && y) (eqb-ranks a b ha hb) (stands-ranks hp ht)
 
-  pub known-drop : {t : List ℕ} → InTable l t → (i : ℕ) → InTable l (drop i t)
-  known-drop h zero = h
-  known-drop empty (suc i) = empty
-  known-drop (char a h) (suc i) = known-drop h i
-
   known-front : (p r : List ℕ) → InTable l (p ++ r) → InTable l p
   known-front [] r h = empty
   known-front (x ∷ p) r (char a h) = char a (known-front p r h)
@@ -259,7 +254,7 @@ module _ (c : Code) (g : T (goodCode c)) (l : List ℕ) {p t : List ℕ} (hp : I
   unfolding textRow
   hit-word =
       rw map-drop
-      (stands-write (base c) (stoppers c) (code-good c g) (length l) (ranks-below l hp) (ranks-below l (known-drop l ht i)) ∙ stands-ranks l hp (known-drop l ht i))
+      (stands-write (base c) (stoppers c) (code-good c g) (length l) (ranks-below l hp) (ranks-below l (known-drop ht i)) ∙ stands-ranks l hp (known-drop ht i))
 
   pub hit-start : stands (textRow c l p) (drop (startOf c (map (rankIn l) t) i) (textRow c l t)) ≡ stands p (drop i t)
   unfolding textRow startOf

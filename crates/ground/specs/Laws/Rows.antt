@@ -2,7 +2,7 @@
 -- Assumes nothing.
 use mathlib.Core.Path.{_≡_, refl, sym, ap, _∙_}
 use mathlib.Core.Logic.{⊎-elim}
-use mathlib.Core.List.{List, [], _∷_, _++_, map, List·Memᴰ, List·Memᴰ·cases-cons, List·Memᴰ·not-nil}
+use mathlib.Core.List.{List, [], _∷_, _++_, map, List·Memᴰ, List·Memᴰ·head, List·Memᴰ·tail, List·Memᴰ·cases-cons, List·Memᴰ·not-nil}
 use Prim.Native.Nat.{ℕ, zero, suc, _+_, _-_, _≤_, _<_}
 use native.Mathlib.Nat.{le-trans, add-zero, zero-add, add-suc, suc-add, not-suc-le-zero, le-of-suc-le-suc, sub-zero, zero-sub, suc-sub-suc}
 use native.Mathlib.Decide.{ℕ-discrete}
@@ -26,6 +26,11 @@ below-at (also a b) (suc i) h = below-at b i (le-of-suc-le-suc h)
 pub below-mem : {n : ℕ} {xs : List ℕ} → Below n xs → (x : ℕ) → List·Memᴰ x xs → x < n
 below-mem none x m = absurd (List·Memᴰ·not-nil m)
 below-mem (also a b) x m = ⊎-elim (λ e. rw e a) (below-mem b x) (List·Memᴰ·cases-cons m)
+
+-- from its members
+pub below-from : (n : ℕ) (xs : List ℕ) → ((x : ℕ) → List·Memᴰ x xs → x < n) → Below n xs
+below-from n [] h = none
+below-from n (x ∷ xs) h = also (h x (List·Memᴰ·head refl)) (below-from n xs (λ y m. h y (List·Memᴰ·tail m)))
 
 pub below-more : {m n : ℕ} {xs : List ℕ} → m ≤ n → Below m xs → Below n xs
 below-more h none = none

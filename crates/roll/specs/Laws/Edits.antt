@@ -1,27 +1,37 @@
 -- What an accepted edit leaves, by the operations.
 -- Assumes nothing.
-use mathlib.Core.Path.{_≡_, sym, ap, _∙_}
+use mathlib.Core.Path.{_≡_, refl, sym, ap, ap₂, subst, _∙_}
 use mathlib.Core.Bool.{true}
 use mathlib.Core.List.{List, _++_}
 use Prim.Native.Nat.{ℕ, _+_, _-_, _≤_}
 use lib.ListN.{length, take, drop}
 use Rattle.ground.specs.Refusals.{accepted}
 use Rattle.ground.specs.Answers.{doneSays, totalSays}
+use Rattle.ground.specs.Laws.Answers.{done-one}
 use Rattle.ground.specs.Laws.Refusals.{Accepted, accepted-leaves}
 use Rattle.ground.specs.declared.answers.Done.{Done}
 use Rattle.ground.specs.declared.answers.Done.the-variants.{Yes}
 use Rattle.ground.specs.declared.answers.Total.{Total}
 use Rattle.symbols.specs.Symbols.{bytesFor, room}
 use Rattle.buffer.specs.Roll.{symbolsFor, packedInto, textOf}
+use Rattle.buffer.specs.Directory.{entries, directoryOf, lengthsOf, lengthsFor, Right}
 use Rattle.buffer.specs.Hits.{hits, goodPattern, listed}
 use Rattle.buffer.specs.Editing.{bytesAfter, directoryAfter}
-use Rattle.roll.specs.Operations.{packRows, Unpacking, Searching, editRows, Editing}
-use Rattle.roll.specs.Laws.Accepting.{Packs, packs-accepted, accepted-edits}
-use Rattle.buffer.specs.Laws.Edited.{Edits, textAfter, rollAfter, edit-known, edit-holds, edit-sound, edit-text}
-use Rattle.roll.specs.Laws.Meaning.{packed-holds, unpacks-text}
-use Rattle.roll.specs.Laws.Operations.{search-yes}
+use Rattle.roll.specs.Operations.{packRows, Packing, Making, Unpacking, Searching, editRows, Editing}
+use Rattle.roll.specs.Laws.Accepting.{Packs, packs-accepted, edits-accepted, accepted-edits}
+use Rattle.buffer.specs.Laws.Edited.{Edits, textAfter, rollAfter, edit-known, edit-holds, edit-sound, edit-text, edit-right}
+use Rattle.buffer.specs.Laws.Editing.{sound-lengths}
+use Rattle.roll.specs.Laws.Meaning.{packed-holds, packing-sound, unpacks-text}
+use Rattle.roll.specs.Laws.Operations.{make-yes, search-yes}
+use Rattle.roll.specs.Laws.Made.{made-right}
 use Rattle.buffer.specs.declared.roll.Roll.{Roll}
+use Rattle.roll.specs.declared.pack.Packed.{Packed}
 use Rattle.roll.specs.declared.edit.Edited.{Edited}
+
+-- an edit that can be made is accepted
+pub edits-yes : {r : Roll} {buf dir : List ℕ} {start end : ℕ} {text : List ℕ} {e : Edited} {after behind : List ℕ}
+    → Editing r buf dir start end text e after behind → Edits r buf dir start end text → e .answer ≡ Yes
+edits-yes {r} {buf} {dir} {start} {end} {text} {e} p u = done-one (e .answer) Yes (p .says ∙ edits-accepted r buf dir start end text u)
 
 -- an edit that is accepted leaves the edited text's record, bytes and directory
 pub editing-yes : {r : Roll} {buf dir : List ℕ} {start end : ℕ} {text : List ℕ} {e : Edited} {after behind : List ℕ}
@@ -58,6 +68,35 @@ module _ (r : Roll) (buf dir : List ℕ) (start end : ℕ) (text : List ℕ) (lo
   edit-afresh other h =
       let p : Packs (r .table) E other = record { good = u .sound .table; known = edit-known r buf dir start end text long u; fits = h } in
       (packs-accepted (r .table) E other p, sym (edit-holds r buf dir start end text long u .bytes) ∙ packed-holds (r .table) E other p .bytes)
+
+  -- by the operations: pack it afresh into any buffer with room and make its directory; record, bytes and entries are the edit's
+  module _ (other space : List ℕ) (room-there : length (symbolsFor (r .table) E) ≤ room k (length other)) (entries-there : entries (q .n) ≤ length space) where
+    pub edit-as-packed : {p : Packed} {bytes : List ℕ} → Packing (r .table) E other p bytes → {made : Done} {list : List ℕ} → Making (p .roll) bytes space made list
+        → (p .answer ≡ Yes)
+        × (p .roll ≡ q)
+        × (take (bytesFor k (q .h)) bytes ≡ take (bytesFor k (q .h)) after)
+        × (made ≡ Yes)
+        × (take (entries (q .n)) list ≡ take (entries (q .n)) (directoryAfter r E dir))
+    edit-as-packed {p} {bytes} a {made} {list} b =
+        let (accept, first) = edit-afresh other room-there in
+        let y : p .answer ≡ Yes = done-one (p .answer) Yes (a .says ∙ accept) in
+        let (same, sound, text-is) = packing-sound a y in
+        let bytes-are : bytes ≡ packedInto k (symbolsFor (r .table) E) other
+        = a .leaves ∙ accepted-leaves (packRows (r .table) E other) (tt {0}) _ _ accept in
+        let making : Making (p .roll) bytes space Yes (directoryOf (lengthsOf (p .roll) bytes) ++ drop (entries (p .roll .n)) space)
+        = make-yes (p .roll) bytes space sound (rw same entries-there) refl in
+        let m : made ≡ Yes = done-one made Yes (b .says ∙ sym (making .says)) in
+        let right : Right (p .roll) bytes list = made-right (subst (λ (x : Done). Making (p .roll) bytes space x list) m b) in
+        let there : lengthsOf (p .roll) bytes ≡ lengthsFor (r .table) E
+        = sound-lengths (p .roll) bytes (rw same long) sound ∙ ap₂ (λ (x : Roll) (t : List ℕ). lengthsFor (x .table) t) same text-is in
+        let here : lengthsOf q after ≡ lengthsFor (r .table) E
+        = sound-lengths q after long (edit-sound r buf dir start end text long u) ∙ ap (lengthsFor (r .table)) (edit-text r buf dir start end text long u) in (
+          y,
+          same,
+          ap (take (bytesFor k (q .h))) bytes-are ∙ sym first,
+          m,
+          ap (λ (x : Roll). take (entries (x .n)) list) (sym same) ∙ right ∙ ap directoryOf (there ∙ sym here) ∙ sym (edit-right r buf dir start end text long u),
+        )
 
   -- unpacking gives the edited text, and searching its hits
   pub edit-unpacks : (out : List ℕ) → q .n ≤ length out → {answer : Done} {now : List ℕ} → Unpacking q after 0 (q .n) out answer now

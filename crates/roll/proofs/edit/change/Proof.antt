@@ -94,8 +94,8 @@ room-of-requires c κs =
     let s = c .before .before .before .before .before .before .before .before .before .before .before .before .before .before .before .before .before in
     code-width (s .args .roll .table .code) (table-code (s .args .roll .table) (s .pre .0 .table))
 
-sub-room : tie.Need-sub-room
-sub-room c =
+sub-space : tie.Need-sub-space
+sub-space c =
     let o = c .before .before .before .before in
     let s = o .before .before .before .before .before .before .before .before .before .before .before .before .before .before in
     omega (arith, o .start-of .ensures, c .room-of .ensures, changing.start-room (s .args .roll) (s .args .buf .now) (long s) (s .pre .0) (s .args .start))
@@ -314,7 +314,7 @@ change-spec =
     start-of-requires
     start-of-requires-2
     room-of-requires
-    sub-room
+    sub-space
     slice-aggregate-fitting
     fitting-requires
     slice-aggregate-first-foreign

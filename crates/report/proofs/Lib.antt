@@ -1,0 +1,2 @@
+pub mod Not
+pub mod Tight

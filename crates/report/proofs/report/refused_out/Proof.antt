@@ -1,0 +1,113 @@
+-- `report::report::refused_out` meets its contract: the line is put part by part.
+-- Assumes nothing.
+use mathlib.Core.List.{List, [], _∷_, _++_}
+use Prim.Native.Nat.{ℕ, _+_, _≤_}
+use native.Mathlib.Omega.{arith}
+use borrow.Author.Needs.{needs}
+use lib.ListN.{length, length-append}
+use Rattle.report.specs.Report.{decimal, refusedWord, refusedLine}
+use Rattle.report.specs.Laws.Written.{Going, going-none, going-as, going-fits, going-more, going-whole, refused-few, refused-parts}
+use Rattle.report.proofs.report.refused_out.Statement.{statement}
+use Rattle.report.proofs.report.refused_out.Tie as tie
+
+abbrev line : tie.Start → List ℕ
+line s = refusedLine (s .args .number) (s .args .value)
+
+room : (s : tie.Start) → 0 + length (line s) ≤ length (s .args .out .now)
+room s = omega (arith, s .pre, refused-few (s .args .number) (s .args .value) (omega (arith, s .fits .number)) (omega (arith, s .fits .value)))
+
+-- what is put at a place
+abbrev Put : tie.Start → List ℕ → ℕ → List ℕ → Type 0
+Put s out p rest = Going (line s) (s .args .out .now) 0 out p rest
+
+-- ---- behind each call: the function's start, and what is put
+
+abbrev start1 : tie.After-text-out → tie.Start
+start1 c = c .before .before .before .before
+
+put1 : (c : tie.After-text-out)
+    → let a = start1 c .args in Put (start1 c) (c .text-out .last .0) (c .text-out .result) (decimal (a .number) ++ (32 ∷ (decimal (a .value) ++ (10 ∷ []))))
+unfolding refusedWord
+put1 c =
+    let s = start1 c in
+    let g = going-as (refused-parts (s .args .number) (s .args .value)) (going-none (line s) (s .args .out .now) 0) in
+    going-more (room s) refusedWord g (c .text-out .ensures .1) (c .text-out .ensures .0)
+
+abbrev start2 : tie.After-decimal-out → tie.Start
+start2 c = start1 (c .before .before .before .before)
+
+put2 : (c : tie.After-decimal-out) → Put (start2 c) (c .decimal-out .last .0) (c .decimal-out .result) (32 ∷ (decimal (start2 c .args .value) ++ (10 ∷ [])))
+put2 c = going-more (room (start2 c)) (decimal (start2 c .args .number)) (put1 (c .before .before .before .before)) (c .decimal-out .ensures .1) (c .decimal-out .ensures .0)
+
+abbrev start3 : tie.After-text-out2 → tie.Start
+start3 c = start2 (c .before .before .before .before .before)
+
+put3 : (c : tie.After-text-out2) → Put (start3 c) (c .text-out2 .last .0) (c .text-out2 .result) (decimal (start3 c .args .value) ++ (10 ∷ []))
+put3 c = going-more (room (start3 c)) (32 ∷ []) (put2 (c .before .before .before .before .before)) (c .text-out2 .ensures .1) (c .text-out2 .ensures .0)
+
+abbrev start4 : tie.After-decimal-out2 → tie.Start
+start4 c = start3 (c .before .before .before .before)
+
+put4 : (c : tie.After-decimal-out2) → Put (start4 c) (c .decimal-out2 .last .0) (c .decimal-out2 .result) (10 ∷ [])
+put4 c = going-more (room (start4 c)) (decimal (start4 c .args .value)) (put3 (c .before .before .before .before)) (c .decimal-out2 .ensures .1) (c .decimal-out2 .ensures .0)
+
+abbrev start5 : tie.After-text-out3 → tie.Start
+start5 c = start4 (c .before .before .before .before .before)
+
+put5 : (c : tie.After-text-out3) → Put (start5 c) (c .text-out3 .last .0) (c .text-out3 .result) []
+put5 c = going-more (room (start5 c)) (10 ∷ []) (put4 (c .before .before .before .before .before)) (c .text-out3 .ensures .1) (c .text-out3 .ensures .0)
+
+-- ---- what is left
+
+slice-aggregate-text-out : tie.Need-slice-aggregate-text-out
+slice-aggregate-text-out c = search needs
+
+text-out-requires : tie.Need-text-out-requires
+text-out-requires c κs = search needs
+
+decimal-out-requires : tie.Need-decimal-out-requires
+decimal-out-requires c κs =
+    let b = c .before .before .before in
+    omega (arith, simp length-append at (going-fits (room (start1 b)) (put1 b)))
+
+slice-aggregate-text-out-2 : tie.Need-slice-aggregate-text-out-2
+slice-aggregate-text-out-2 c = search needs
+
+text-out-requires-2 : tie.Need-text-out-requires-2
+text-out-requires-2 c κs =
+    let b = c .before .before .before .before in
+    omega (arith, simp length-append at (going-fits (room (start2 b)) (put2 b)))
+
+decimal-out-requires-2 : tie.Need-decimal-out-requires-2
+decimal-out-requires-2 c κs =
+    let b = c .before .before .before in
+    omega (arith, simp length-append at (going-fits (room (start3 b)) (put3 b)))
+
+slice-aggregate-text-out-3 : tie.Need-slice-aggregate-text-out-3
+slice-aggregate-text-out-3 c = search needs
+
+text-out-requires-3 : tie.Need-text-out-requires-3
+text-out-requires-3 c κs =
+    let b = c .before .before .before .before in
+    going-fits (room (start4 b)) (put4 b)
+
+same-length : tie.Need-same-length
+same-length c = search needs
+
+returns : tie.Need-returns
+returns c = going-whole (room (start5 (c .before .before))) (put5 (c .before .before))
+
+pub refused-out-spec : {M : Type 1} → statement M
+refused-out-spec =
+    tie.close
+    (tie.spec
+    slice-aggregate-text-out
+    text-out-requires
+    decimal-out-requires
+    slice-aggregate-text-out-2
+    text-out-requires-2
+    decimal-out-requires-2
+    slice-aggregate-text-out-3
+    text-out-requires-3
+    same-length
+    returns)

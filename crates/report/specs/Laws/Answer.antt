@@ -1,0 +1,49 @@
+-- The answer, row by row: 11 first, then 4 for a text over 16,384 bytes, then packing's; else the lines.
+-- Assumes nothing.
+use mathlib.Core.Path.{_≡_, ap, _∙_}
+use mathlib.Core.Bool.{true, false}
+use mathlib.Core.List.{List, [], _++_}
+use Prim.Native.Nat.{ℕ, _≤_, _<_}
+use native.Mathlib.Omega.{arith}
+use borrow.Author.Tests.{lt-ltb, le-ltb}
+use lib.ListN.{length, drop, length-append}
+use Rattle.ground.specs.Refusals.{Row, accepted, refused, judged}
+use Rattle.ground.specs.Rows.{zeros}
+use Rattle.ground.specs.Laws.Refusals.{refused-front, accepted-front}
+use Rattle.buffer.specs.Hits.{goodPattern}
+use Rattle.roll.specs.Operations.{packRows}
+use Rattle.report.specs.Report.{givenPattern, givenText, refusedLine, ownTable, reportLines, answered, reportOf, answerFor}
+
+module _ (input : List ℕ) where
+  -- the refusals of packing the text
+  abbrev pub ownRows : List Row
+  ownRows = packRows (ownTable (givenText input)) (givenText input) (zeros 16384)
+
+  pub report-11 : goodPattern (givenPattern input) ≡ false → reportOf input ≡ refusedLine 11 0
+  unfolding reportOf
+  report-11 g = rw g
+
+  module _ (g : goodPattern (givenPattern input) ≡ true) where
+    pub report-4 : 16384 < length (givenText input) → reportOf input ≡ refusedLine 4 16384
+    unfolding reportOf
+    report-4 h = rw (g, lt-ltb 16384 (length (givenText input)) h)
+
+    module _ (h : length (givenText input) ≤ 16384) where
+      -- packing decides
+      packing : reportOf input ≡ answered (judged ownRows (reportLines input))
+      unfolding reportOf
+      packing = rw (g, le-ltb 16384 (length (givenText input)) h)
+
+      pub report-answer : reportOf input ≡ answerFor (givenPattern input) (givenText input)
+      unfolding answerFor
+      report-answer = packing
+
+      pub report-pack : {n v : ℕ} → judged ownRows (tt {0}) ≡ refused n v → reportOf input ≡ refusedLine n v
+      report-pack e = packing ∙ ap answered (refused-front ownRows [] (tt {0}) (reportLines input) e)
+
+      pub report-yes : judged ownRows (tt {0}) ≡ accepted tt → reportOf input ≡ reportLines input
+      report-yes e = packing ∙ ap answered (accepted-front ownRows [] (tt {0}) (reportLines input) e)
+
+-- an answer that was written lies in the array
+pub written-within : (answer old : List ℕ) {out : List ℕ} {r : ℕ} → r ≡ length answer → out ≡ answer ++ drop (length answer) old → r ≤ length out
+written-within answer old e w = omega (arith, ap length w, length-append answer (drop (length answer) old))

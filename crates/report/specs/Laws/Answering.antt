@@ -1,0 +1,177 @@
+-- The answer's steps: the counts of the text, its table, its packing, its hits; and how long the answer is.
+-- Assumes nothing.
+use mathlib.Core.Path.{_≡_, refl, sym, ap, _∙_}
+use mathlib.Core.Logic.{inl}
+use mathlib.Core.List.{List, [], _++_}
+use Prim.Native.Nat.{ℕ, zero, suc, _/_, _≤_}
+use native.Mathlib.Decide.{decLt}
+use native.Mathlib.Omega.{arith}
+use borrow.Author.Tests.{lt-ltb, le-ltb, eq-eqb}
+use lib.Dec.{T}
+use lib.ListN.{length, take, drop, length-append}
+use lib.Seq.{take-at, take-all}
+use Rattle.ground.specs.Limit.{limit}
+use Rattle.ground.specs.Refusals.{Row, refused, judged, kept}
+use Rattle.ground.specs.Rows.{Below, zeros}
+use Rattle.ground.specs.Answers.{doneSays}
+use Rattle.ground.specs.Laws.Answers.{total-one}
+use Rattle.ground.specs.Laws.Limit.{limit-least}
+use Rattle.ground.specs.Laws.Refusals.{Accepted, accepted-leaves, refused-front, accepted-front}
+use Rattle.ground.specs.Laws.Rows.{length-tab, length-zeros, below-from}
+use Rattle.ground.specs.Laws.Tests.{yes-true}
+use Rattle.ground.specs.declared.answers.Done.{Done}
+use Rattle.ground.specs.declared.answers.Done.the-variants.{Yes}
+use Rattle.ground.specs.declared.answers.Total.{Total}
+use Rattle.ground.specs.declared.answers.Total.the-variants.{Of}
+use Rattle.stopper.specs.Table.{goodWidth}
+use Rattle.stopper.specs.Choosing.{countsOf, counted, chosenTable, chosen}
+use Rattle.stopper.specs.Operations.{countRows, Counting, chooseRows, noTable, Choosing}
+use Rattle.stopper.specs.declared.table.Table.{Table}
+use Rattle.stopper.specs.declared.choose.Choice.{Choice}
+use Rattle.symbols.specs.Symbols.{Width, bytesFor, bytesOf}
+use Rattle.symbols.specs.Laws.Sizes.{room-bytes}
+use Rattle.symbols.specs.Laws.Packing.{bytes-length}
+use Rattle.buffer.specs.Roll.{symbolsFor, recordOf, textOf, Sound}
+use Rattle.buffer.specs.Hits.{hits, goodPattern, listed}
+use Rattle.buffer.specs.Laws.Hits.{hit-is, hits-length}
+use Rattle.buffer.specs.declared.roll.Roll.{Roll}
+use Rattle.roll.specs.Operations.{packRows, Packing, Searching}
+use Rattle.roll.specs.Laws.Accepting.{accepted-packs}
+use Rattle.roll.specs.Laws.Meaning.{packing-sound}
+use Rattle.roll.specs.Laws.Operations.{search-yes}
+use Rattle.roll.specs.declared.pack.Packed.{Packed}
+use Rattle.report.specs.Report.{decimalIn, decimal, bestWord, symbolsWord, hitsWord, bestLine, hitsLine, refusedLine, linesOf, ownTable, linesFor, answered, answerFor}
+use Rattle.report.specs.Laws.Written.{hex-length, numbers-few}
+
+module _ (text : List ℕ) (short : length text ≤ 16384) where
+  -- the counts are the text's
+  pub counts-are : {a : Done} {counts after : List ℕ} → length counts ≡ 256 → Counting text counts a after → after ≡ countsOf text
+  counts-are {a} {counts} {after} e c =
+      c .leaves
+      ∙ accepted-leaves (countRows text counts) (tt {0}) counts (countsOf text)
+      (simp (eq-eqb (length counts) 256 e, le-ltb limit (length text) (omega (arith, limit-least))))
+
+  counts-length : length (countsOf text) ≡ 256
+  unfolding countsOf
+  counts-length = length-tab _ 0 256
+
+  -- and the table is chosen for them
+  pub table-is : {counts : List ℕ} {r : Choice} → counts ≡ countsOf text → Choosing 2 counts r → r .table ≡ ownTable text
+  unfolding goodWidth
+  table-is {counts} {r} e c =
+      c .table
+      ∙ ap (λ (l : List ℕ). kept (chooseRows 2 l) (noTable 2) (chosenTable 2 (counted l))) e
+      ∙ accepted-leaves (chooseRows 2 (countsOf text)) (tt {0}) (noTable 2) (ownTable text) (simp (eq-eqb (length (countsOf text)) 256 counts-length))
+
+module _ (pattern text : List ℕ) where
+  abbrev rows : List Row
+  rows = packRows (ownTable text) text (zeros 16384)
+
+  pub answer-refused : {n v : ℕ} → judged rows (tt {0}) ≡ refused n v → answerFor pattern text ≡ refusedLine n v
+  unfolding answerFor
+  answer-refused e = ap answered (refused-front rows [] (tt {0}) (linesFor pattern text) e)
+
+  pub answer-yes : Accepted rows → answerFor pattern text ≡ linesFor pattern text
+  unfolding answerFor
+  answer-yes e = ap answered (accepted-front rows [] (tt {0}) (linesFor pattern text) e)
+
+-- ---- packed: the bytes, and what a search of them finds
+
+module _ (pattern text : List ℕ) (short : length text ≤ 16384) (good : T (goodPattern pattern)) {p : Packed} {after : List ℕ}
+    (k : Packing (ownTable text) text (zeros 16384) p after) (y : p .answer ≡ Yes) where
+  abbrev t : Table
+  t = ownTable text
+
+  abbrev found : List ℕ
+  found = hits pattern text
+
+  accept : Accepted (packRows t text (zeros 16384))
+  accept = sym (k .says) ∙ ap doneSays y
+
+  pub lines-are : answerFor pattern text ≡ linesFor pattern text
+  lines-are = answer-yes pattern text accept
+
+  pub record-is : p .roll ≡ recordOf t text
+  record-is = packing-sound k y .0
+
+  sound : Sound (p .roll) after
+  sound = packing-sound k y .1
+
+  text-is : textOf (p .roll) after ≡ text
+  text-is = packing-sound k y .2
+
+  width : Width 2
+  width = inl refl
+
+  size : length (bytesOf 2 (symbolsFor t text)) ≡ bytesFor 2 (p .roll .h)
+  size = bytes-length width (symbolsFor t text) ∙ ap (λ (x : Roll). bytesFor 2 (x .h)) (sym record-is)
+
+  pub bytes-are : take (bytesFor 2 (p .roll .h)) after ≡ bytesOf 2 (symbolsFor t text)
+  unfolding chosenTable chosen
+  bytes-are =
+      ap (take (bytesFor 2 (p .roll .h))) (k .leaves ∙ accepted-leaves (packRows t text (zeros 16384)) (tt {0}) _ _ accept)
+      ∙ take-at (bytesOf 2 (symbolsFor t text)) (drop (bytesFor 2 (length (symbolsFor t text))) (zeros 16384)) (bytesFor 2 (p .roll .h)) size
+
+  pub bytes-few : bytesFor 2 (p .roll .h) ≤ 16384
+  unfolding chosenTable chosen
+  bytes-few =
+      rw record-is
+      (omega (arith, room-bytes width (recordOf t text .h) (length (zeros 16384)) (accepted-packs t text (zeros 16384) accept .fits), length-zeros 16384))
+
+  bytes-short : length (bytesOf 2 (symbolsFor t text)) ≤ 16384
+  bytes-short = omega (arith, size, bytes-few)
+
+  pub hits-few : length found ≤ 16384
+  hits-few = omega (arith, hits-length pattern text)
+
+  -- the search is accepted, and its list is all the hits
+  module _ {slice list : List ℕ} {a : Total} (room-enough : length slice ≡ 16384) (s : Searching (p .roll) after pattern slice a list) where
+    searched : Searching (p .roll) after pattern slice (Of (length found)) (listed found slice)
+    searched =
+        let e : found ≡ hits pattern (textOf (p .roll) after) = ap (hits pattern) (sym text-is) in
+        search-yes (p .roll) after pattern slice sound (yes-true (goodPattern pattern) good) (ap length e) (ap (λ (l : List ℕ). listed l slice) e)
+
+    pub total-is : a ≡ Of (length found)
+    total-is = total-one a (Of (length found)) (s .says ∙ sym (searched .says))
+
+    pub hits-are : take (length found) list ≡ found
+    hits-are =
+        ap (take (length found)) (s .leaves ∙ sym (searched .leaves))
+        ∙ ap (λ (l : List ℕ). take (length found) (l ++ drop (length found) slice)) (take-all (length slice) found (omega (arith, hits-few)))
+        ∙ take-at found (drop (length found) slice) (length found) refl
+
+-- ---- how long the answer is
+
+-- no number has more digits than there are places for
+digits : (places n : ℕ) → length (decimalIn places n) ≤ places
+unfolding decimalIn
+digits zero n = omega arith
+digits (suc places) n =
+    elim (decLt n 10) [
+      | yes h ↦ rw (lt-ltb n 10 h) (omega arith)
+      | no h ↦ rw (le-ltb n 10 (omega arith)) (simp length-append (omega (arith, digits places (n / 10))))
+    ]
+
+digits-few : (n : ℕ) → length (decimal n) ≤ 20
+unfolding decimal
+digits-few n = digits 20 n
+
+lines-few : (s h : ℕ) (bytes found : List ℕ) → length bytes ≤ 16384 → length found ≤ 16384 → Below 100000 found
+    → length (linesOf s h bytes found) ≤ 147456
+unfolding linesOf bestLine hitsLine bestWord symbolsWord hitsWord
+lines-few s h bytes found c d e =
+    simp length-append (omega (arith, digits-few s, digits-few h, digits-few (length found), hex-length bytes, numbers-few e))
+
+hits-below : (pattern text : List ℕ) → length text ≤ 16384 → Below 100000 (hits pattern text)
+hits-below pattern text short = below-from 100000 (hits pattern text) (λ x m. omega (arith, hit-is pattern text x .0 m .0))
+
+-- of a packed text
+pub answer-few : (pattern text : List ℕ) → length text ≤ 16384 → T (goodPattern pattern) → {p : Packed} {after : List ℕ}
+    → Packing (ownTable text) text (zeros 16384) p after → p .answer ≡ Yes → length (answerFor pattern text) ≤ 147456
+answer-few pattern text short good k y =
+    let t = ownTable text in
+    rw (lines-are pattern text short good k y)
+    (lines-few (t .code .s) (recordOf t text .h) (bytesOf 2 (symbolsFor t text)) (hits pattern text)
+    (bytes-short pattern text short good k y)
+    (hits-few pattern text short good k y)
+    (hits-below pattern text short))
