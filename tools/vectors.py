@@ -197,6 +197,31 @@ def edit(t, n, h, buf, entries, start, end, text):
     return None, n2, h2, after, behind + [0] * (len(wanted) - len(behind)) + entries[max(len(wanted), len(behind)):]
 
 
+def choose(k, counts):
+    """The table: s with the fewest symbols, of equals the smallest; ranks by greater count, of equal counts the smaller byte."""
+    ranked = sorted((b for b in range(256) if counts[b]), key=lambda b: (-counts[b], b))
+    totals = [sum(counts[b] * len(w) for b, w in zip(ranked, codewords(k, s))) for s in range(1, 2 ** k)]
+    return (k, 1 + totals.index(min(totals)), len(ranked), ranked + [0] * (256 - len(ranked)))
+
+
+def report(data):
+    """What the program writes."""
+    pattern, text = (data.split(b"\n", 1) + [b""])[:2]
+    if not 1 <= len(pattern) <= 64:
+        return b"refused 11 0\n"
+    if len(text) > 16384:
+        return b"refused 4 16384\n"
+    t = choose(2, [text.count(b) for b in range(256)])
+    r, n, h, buf = pack(t, list(text), [0] * 16384)
+    if r:
+        return b"refused %d %d\n" % r
+    packed_bytes = bytes(buf[:-(-h // 4)])
+    lines = [b"best %d symbols %d" % (t[1], h)]
+    lines += [packed_bytes[i:i + 32].hex().encode() for i in range(0, len(packed_bytes), 32)]
+    hits = [i for i in range(len(text)) if text[i:i + len(pattern)] == pattern]
+    return b"\n".join(lines + [b"%d" % i for i in hits] + [b"hits %d" % len(hits)]) + b"\n"
+
+
 # ---- the cases
 
 given, said = [], []
@@ -306,6 +331,14 @@ def edit_case(words, t, n, h, buf, entries, start, end, text, expect=...):
     given.append(f"7 {table_in(t)} {n} {h} {row_in(buf)} {numbers_in(entries)} {start} {end} {row_in(list(text))}")
     said.append("edit" + answer(r) + f" n {n2} h {h2} k {t[0]} s {t[1]} sigma {t[2]}" + row_out(t[3]) + row_out(after) + numbers_out(behind))
     return n2, h2, after, behind
+
+
+def report_case(words, data, expect=None):
+    answer = report(data)
+    assert expect is None or answer == expect, (words, answer[:80], expect)
+    note(words)
+    given.append(f"8 {row_in(list(data))}")
+    said.append("report\n" + answer.decode()[:-1])
 
 
 def table(k, s, characters, sigma=None, rest=0):
@@ -602,6 +635,37 @@ for k, s in ((2, 3), (2, 1), (4, 14), (4, 3)):
     m, g, b32, e32 = rolled(full, 30, 1)
     edit_case(w + "12", t, m, g, b32, e32, 32, 32, b"0", (12, 2))
     edit_case(w + "12, many", t, m, g, b32, e32, 0, 0, b"0" * 40 if k == 2 else b"0" * 28, (12, 3) if k == 2 else (12, 2))
+
+# the program's report
+EXAMPLE = b"best 3 symbols 13\n18c34600\n0\n7\nhits 2\n"
+report_case("the paper's example", b"abra\nabracadabra", EXAMPLE)
+report_case("an empty input", b"", b"refused 11 0\n")
+report_case("no byte 10: the text is empty", b"abc", b"best 1 symbols 0\nhits 0\n")
+report_case("a byte 10 alone", b"\n", b"refused 11 0\n")
+report_case("an empty pattern before a text", b"\nabc", b"refused 11 0\n")
+report_case("an empty text", b"abc\n", b"best 1 symbols 0\nhits 0\n")
+report_case("further bytes 10 are the text's", b"b\nab\nab\n")
+report_case("a pattern of 64", b"a" * 64 + b"\n" + b"a" * 70)
+report_case("a pattern of 64 and no byte 10", b"a" * 64, b"best 1 symbols 0\nhits 0\n")
+report_case("a pattern of 65", b"a" * 65 + b"\n" + b"a" * 70, b"refused 11 0\n")
+report_case("a pattern of 65 and no byte 10", b"a" * 65, b"refused 11 0\n")
+report_case("a pattern that is not in the text", b"cab\nabracadabra")
+report_case("a pattern with a character that the text has not", b"abx\nabracadabra")
+report_case("a pattern longer than the text", b"abra\nabr")
+report_case("overlapping hits", b"ana\nbanana")
+report_case("one character", b"z\nz")
+for n in (127, 128, 129):
+    report_case(f"{n} symbols: 31 bytes and 32 and 33", b"b\n" + b"a" * n)
+report_case("two full lines of bytes", b"ab\n" + b"ab" * 128)
+report_case("all byte values", b"\xff\n" + bytes(range(256)))
+report_case("all byte values twice, and a pair", b"\x00\x01\n" + bytes(range(256)) * 2)
+report_case("a text of 16,384 bytes, and as many hits", b"a\n" + b"a" * 16384)
+report_case("a text of 16,385 bytes", b"a\n" + b"a" * 16385, b"refused 4 16384\n")
+report_case("the longest input that is read: a pattern of 64 and a text of 16,385", b"a" * 64 + b"\n" + b"a" * 16385, b"refused 4 16384\n")
+report_case("11 before 4", b"a" * 65 + b"\n" + b"a" * 16385, b"refused 11 0\n")
+report_case("many rare characters: packing refuses", b"a\n" + bytes(range(256)) * 64)
+assert report(b"a\n" + bytes(range(256)) * 64).startswith(b"refused 4 1")
+report_case("the room just passed by the last characters", b"a\n" + bytes(range(256)) * 48)
 
 given.append("0")
 (CRATE / "stdin").write_text("\n".join(given) + "\n")

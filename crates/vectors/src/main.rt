@@ -51,6 +51,7 @@ fn one_case(s: &[u8], at: usize) -> usize {
         5 => read_case(s, op.next),
         6 => search_case(s, op.next),
         7 => edit_case(s, op.next),
+        8 => report_case(s, op.next),
         _ => s.len(),
     }
 }
@@ -236,4 +237,20 @@ fn edited(roll: Roll, buf: &mut [u8], dir: &mut [u32], start: usize, stop: usize
     runs(buf);
     list(dir);
     end();
+}
+
+// The program's input.
+fn report_case(s: &[u8], at: usize) -> usize {
+    let mut letters = [0u8; 16600];
+    let input = bytes(s, at, &mut letters);
+    let n = input.value;
+    io::write_all(1, b"report\n");
+    reported(&letters[..n]);
+    input.next
+}
+
+fn reported(input: &[u8]) {
+    let mut out = [0u8; 147456];
+    let long = report::report::report(input, &mut out);
+    io::write_all(1, &out[..long]);
 }

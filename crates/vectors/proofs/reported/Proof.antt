@@ -1,0 +1,41 @@
+-- `vectors::reported`: the answer lies in the array.
+-- Assumes nothing.
+use mathlib.Core.Path.{sym}
+use Prim.Native.Nat.{_≤_}
+use borrow.Author.Needs.{needs}
+use lib.ListN.{length}
+use lib.Seq.{length-take-le}
+use Rattle.report.specs.Report.{reportOf}
+use Rattle.report.specs.Laws.Answer.{written-within}
+use Rattle.vectors.proofs.reported.Statement.{statement}
+use Rattle.vectors.proofs.reported.Tie as tie
+
+within : (c : tie.After-report) → c .report .result ≤ length (c .report .last .1 .0)
+within c =
+    let a = c .before .before .before .args in
+    written-within (reportOf (a .input .now)) _ (c .report .ensures .0) (c .report .ensures .1)
+
+report-requires : tie.Need-report-requires
+report-requires c κs = search needs
+
+array-share-prefix-out : tie.Need-array-share-prefix-out
+array-share-prefix-out c = within c
+
+slice-aggregate-write-all : tie.Need-slice-aggregate-write-all
+slice-aggregate-write-all c = sym (length-take-le _ _ (within (c .before)))
+
+write-all-requires : tie.Need-write-all-requires
+write-all-requires c κs = search needs
+
+returns : tie.Need-returns
+returns c = search needs
+
+pub reported-spec : {M : Type 1} → statement M
+reported-spec =
+    tie.close
+    (tie.spec
+    report-requires
+    array-share-prefix-out
+    slice-aggregate-write-all
+    write-all-requires
+    returns)
