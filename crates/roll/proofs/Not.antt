@@ -65,6 +65,11 @@ pub unpack-not-idle : {answer : Done} → Unpacking (record { table = abra; n = 
 unfolding abra packedAbra limit tab zeros padded shorter opens rankAt stoppers goodWidth goodCode goodCharacters goodTable has repeats read readFrom ahead per bytesFor room shift symbolAt symbolsOf reading isBad firstBad ranksRead textOf allZero
 unpack-not-idle p = let e = first-of (p .leaves) in omega arith
 
+-- one that writes past the range: the byte behind it stays
+pub unpack-not-beyond : {answer : Done} → Unpacking (record { table = abra; n = 11; h = 13 }) packedAbra 0 1 (9 ∷ 9 ∷ []) answer (97 ∷ 98 ∷ []) → ⊥
+unfolding abra packedAbra limit tab zeros padded shorter opens rankAt stoppers goodWidth goodCode goodCharacters goodTable has repeats read readFrom ahead per bytesFor room shift symbolAt symbolsOf reading isBad firstBad ranksRead textOf allZero
+unpack-not-beyond p = let e = ap (λ (l : List ℕ). getD l 1 0) (p .leaves) in omega arith
+
 -- c and 32 times a, packed: c has two symbols, so character 32 starts at symbol 33
 abbrev longer : Roll
 longer = record { table = abra; n = 33; h = 34 }

@@ -299,9 +299,6 @@ module _ (r : Roll) (buf dir : List ℕ) where
   pub directory-sound : {a : Done} → DirectoryChecked r buf dir a → a ≡ Yes → Sound r buf × Right r buf dir
   directory-sound d e = accepted-right r buf dir (sym (d .says) ∙ ap doneSays e)
 
-  pub directory-checked : DirectoryChecked r buf dir Yes → Sound r buf × Right r buf dir
-  directory-checked d = directory-sound d refl
-
 -- ---- edit
 
 module _ (r : Roll) (buf dir : List ℕ) (start end : ℕ) (text : List ℕ) where
