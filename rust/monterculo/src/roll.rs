@@ -1,0 +1,188 @@
+//! The roll.
+
+use std::ops::Range;
+
+use crate::{sys, Refusal, Table};
+
+/// The record of a roll: its table, the character count n and the symbol count h.
+///
+/// The symbols themselves lie in a buffer that is lent to each operation, and so does the directory, where used. The
+/// room of a buffer is the smaller of 65,536 and its bytes times 8/k, in symbols; it may be more than the roll takes.
+///
+/// A roll is sound if [`Roll::check`] accepts it. Every operation looks at what it is lent, so that any buffer may come
+/// with any record: what is not sound is refused.
+#[derive(Clone, Debug, PartialEq, Eq, Hash)]
+pub struct Roll {
+    table: Table,
+    n: u32,
+    h: u32,
+}
+
+impl Roll {
+    /// Packs a text into the buffer; bytes past the packed ones are unchanged.
+    ///
+    /// A buffer of [`bytes_for`](crate::bytes_for)(k, total) bytes has room for a text, where the total is that of
+    /// [`Table::choose`] for the text's counts and not over 65,536.
+    ///
+    /// Refusals, in their order: 1 (0), 3 (place of the first), 4 (number of the first character that does not fit).
+    ///
+    /// ```
+    /// use monterculo::{Roll, Table};
+    ///
+    /// let table = Table::new(4, 3, b"anb");
+    /// let mut buf = [0xff; 4];
+    /// let roll = Roll::pack(&table, b"banana", &mut buf)?;
+    /// assert_eq!((roll.n(), roll.h(), buf), (6, 6, [0x20, 0x10, 0x10, 0xff]));
+    /// # Ok::<(), monterculo::Refusal>(())
+    /// ```
+    pub fn pack(table: &Table, text: &[u8], buf: &mut [u8]) -> Result<Roll, Refusal> {
+        let (n, h) = sys::pack(table, text, buf)?;
+        Ok(Roll { table: table.clone(), n, h })
+    }
+
+    /// The record of these parts, such as were stored with the buffer. Nothing is checked here, since every operation
+    /// checks.
+    ///
+    /// ```
+    /// use monterculo::{Roll, Table};
+    ///
+    /// let roll = Roll::new(Table::new(4, 3, b"anb"), 6, 6);
+    /// roll.check(&[0x20, 0x10, 0x10])?;
+    /// assert_eq!(roll.check(&[0x20, 0x10]).unwrap_err().number, 5);
+    /// # Ok::<(), monterculo::Refusal>(())
+    /// ```
+    pub fn new(table: Table, n: u32, h: u32) -> Roll {
+        Roll { table, n, h }
+    }
+
+    /// The table.
+    pub fn table(&self) -> &Table {
+        &self.table
+    }
+
+    /// The character count.
+    pub fn n(&self) -> u32 {
+        self.n
+    }
+
+    /// The symbol count.
+    pub fn h(&self) -> u32 {
+        self.h
+    }
+
+    /// Checks that the roll is sound.
+    ///
+    /// Refusals, in their order: 1 (0), 5 (h), 6 (the bad codeword's first symbol), 7 (codewords read), 8 (0).
+    pub fn check(&self, buf: &[u8]) -> Result<(), Refusal> {
+        sys::check(&self.table, self.n, self.h, buf)
+    }
+
+    /// Unpacks the characters of a range into `out`, from its first byte on; later bytes are unchanged.
+    ///
+    /// Refusals, in their order: those of [`Roll::check`], then 10 (0), 13 (range length).
+    ///
+    /// ```
+    /// use monterculo::{Roll, Table};
+    ///
+    /// let roll = Roll::new(Table::new(4, 3, b"anb"), 6, 6);
+    /// let mut out = *b"....";
+    /// roll.unpack(&[0x20, 0x10, 0x10], 0..3, &mut out)?;
+    /// assert_eq!(&out, b"ban.");
+    /// # Ok::<(), monterculo::Refusal>(())
+    /// ```
+    pub fn unpack(&self, buf: &[u8], range: Range<usize>, out: &mut [u8]) -> Result<(), Refusal> {
+        sys::unpack(&self.table, self.n, self.h, buf, range, out)
+    }
+
+    /// Makes the directory: for each of characters 0, 32, 64, … below n the number of its first symbol. It has
+    /// [`entries_for`](crate::entries_for)(n) entries; later ones are unchanged.
+    ///
+    /// Refusals, in their order: those of [`Roll::check`], then 12 (entries needed).
+    ///
+    /// ```
+    /// use monterculo::{entries_for, Roll, Table};
+    ///
+    /// let mut buf = [0; 40];
+    /// let roll = Roll::pack(&Table::new(2, 1, b"ab"), &[b'b'; 40], &mut buf)?;
+    /// let mut directory = vec![0; entries_for(roll.n())];
+    /// roll.make_directory(&buf, &mut directory)?;
+    /// assert_eq!(directory, [0, 64]);
+    /// # Ok::<(), monterculo::Refusal>(())
+    /// ```
+    pub fn make_directory(&self, buf: &[u8], directory: &mut [u32]) -> Result<(), Refusal> {
+        sys::make_directory(&self.table, self.n, self.h, buf, directory)
+    }
+
+    /// Reads the character at a place, from the directory's entry for it on.
+    ///
+    /// It does not check the whole roll: with a sound roll and a right directory the answer is the character of the
+    /// unpacked text.
+    ///
+    /// Refusals, in their order: 1 (0), 5 (h), 10 (0), 9 (place/32; that entry is missing or not below h), 6 (the first
+    /// symbol of the bad codeword on the way; h where one would start at h).
+    ///
+    /// ```
+    /// use monterculo::{Roll, Table};
+    ///
+    /// let roll = Roll::new(Table::new(4, 3, b"anb"), 6, 6);
+    /// assert_eq!(roll.read_one(&[0x20, 0x10, 0x10], &[0], 4)?, b'n');
+    /// # Ok::<(), monterculo::Refusal>(())
+    /// ```
+    pub fn read_one(&self, buf: &[u8], directory: &[u32], place: usize) -> Result<u8, Refusal> {
+        sys::read_one(&self.table, self.n, self.h, buf, directory, place)
+    }
+
+    /// Searches for all places where a pattern of 1 to 64 characters stands, overlapping ones too, and gives their
+    /// total. The first hits are written, ascending, as many as `hits` holds; later entries are unchanged.
+    ///
+    /// The total may be more than `hits` holds. It is 0 if a character of the pattern is not in the table.
+    ///
+    /// Refusals, in their order: those of [`Roll::check`], then 11 (0).
+    ///
+    /// ```
+    /// use monterculo::{Roll, Table};
+    ///
+    /// let roll = Roll::new(Table::new(4, 3, b"anb"), 6, 6);
+    /// let mut hits = [0; 8];
+    /// assert_eq!(roll.search(&[0x20, 0x10, 0x10], b"ana", &mut hits)?, 2);
+    /// assert_eq!(hits[..2], [1, 3]);
+    /// # Ok::<(), monterculo::Refusal>(())
+    /// ```
+    pub fn search(&self, buf: &[u8], pattern: &[u8], hits: &mut [u32]) -> Result<u32, Refusal> {
+        sys::search(&self.table, self.n, self.h, buf, pattern, hits)
+    }
+
+    /// Replaces the characters of a range by a text of any length; the record, the buffer and the directory become
+    /// those of the edited text. Bytes and entries used before and no longer become 0, the rest is unchanged.
+    ///
+    /// Lend a buffer for the roll before the edit and after it, whichever is more, and so for the directory.
+    ///
+    /// Refusals, in their order: those of [`Roll::check`], then 9 (the first missing or wrong entry), 10 (0), 3 (place
+    /// in the text put in), 4 (number, in the edited text, of the first character that does not fit), 12 (entries
+    /// needed).
+    ///
+    /// ```
+    /// use monterculo::{Roll, Table};
+    ///
+    /// let (mut buf, mut directory) = ([0; 8], [0; 1]);
+    /// let mut roll = Roll::pack(&Table::new(4, 3, b"anb"), b"banana", &mut buf)?;
+    /// roll.make_directory(&buf, &mut directory)?;
+    /// roll.edit(&mut buf, &mut directory, 2..4, b"")?;
+    /// let mut out = [0; 4];
+    /// roll.unpack(&buf, 0..4, &mut out)?;
+    /// assert_eq!((roll.n(), &out), (4, b"bana"));
+    /// # Ok::<(), monterculo::Refusal>(())
+    /// ```
+    pub fn edit(
+        &mut self,
+        buf: &mut [u8],
+        directory: &mut [u32],
+        range: Range<usize>,
+        text: &[u8],
+    ) -> Result<(), Refusal> {
+        let (n, h) = sys::edit(&self.table, self.n, self.h, buf, directory, range, text)?;
+        self.n = n;
+        self.h = h;
+        Ok(())
+    }
+}

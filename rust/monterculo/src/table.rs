@@ -1,0 +1,163 @@
+//! The code alone: counting, tables and codewords.
+
+use crate::{sys, Refusal, LONGEST, PLACES};
+
+/// Counts the characters of a text: each of the 256 counts becomes that byte's count.
+///
+/// Refusals, in their order: 2 (the length of `counts`), 4 (65,536; the text is longer).
+///
+/// ```
+/// let mut counts = [0; 256];
+/// monterculo::count(b"banana", &mut counts)?;
+/// assert_eq!((counts[usize::from(b'a')], counts[usize::from(b'z')]), (3, 0));
+/// # Ok::<(), monterculo::Refusal>(())
+/// ```
+pub fn count(text: &[u8], counts: &mut [u32]) -> Result<(), Refusal> {
+    sys::count(text, counts)
+}
+
+/// A table: the width k of a base symbol, the number s of stoppers, and the characters in rank order.
+///
+/// The symbols below s are stoppers, the others continuers. A codeword is zero or more continuers and then one stopper;
+/// lower ranks take the shorter codewords.
+#[derive(Clone, Debug, PartialEq, Eq, Hash)]
+pub struct Table {
+    k: u8,
+    s: u8,
+    sigma: u16,
+    places: [u8; PLACES],
+}
+
+impl Table {
+    /// Chooses the table of width k with the fewest symbols for these counts, and gives the total of symbols with it.
+    /// Any counts may come; a character counted 0 has no rank.
+    ///
+    /// Refusals, in their order: 1 (0; the width only), 2 (the length of `counts`).
+    ///
+    /// ```
+    /// use monterculo::{count, Table};
+    ///
+    /// let mut counts = [0; 256];
+    /// count(b"banana", &mut counts)?;
+    /// let (table, total) = Table::choose(4, &counts)?;
+    /// assert_eq!((table.s(), table.characters(), total), (3, &b"anb"[..], 6));
+    /// # Ok::<(), monterculo::Refusal>(())
+    /// ```
+    pub fn choose(k: u8, counts: &[u32]) -> Result<(Table, u64), Refusal> {
+        let (s, sigma, places, total) = sys::choose(k, counts)?;
+        Ok((Table { k, s, sigma, places }, total))
+    }
+
+    /// The table of these parts, such as were stored with a roll; σ is the number of characters.
+    ///
+    /// Nothing is checked here, since every operation checks its table and refuses a bad one by 1. Of more than 256
+    /// characters the first 256 are kept, and the table is bad.
+    ///
+    /// ```
+    /// use monterculo::Table;
+    ///
+    /// let table = Table::new(2, 3, b"abrcd");
+    /// assert_eq!(table.codeword_of(b'c')?.symbols(), [3, 0]);
+    /// assert_eq!(Table::new(2, 4, b"abrcd").codeword_of(b'c').unwrap_err().number, 1);
+    /// # Ok::<(), monterculo::Refusal>(())
+    /// ```
+    pub fn new(k: u8, s: u8, characters: &[u8]) -> Table {
+        let mut places = [0; PLACES];
+        let kept = characters.len().min(PLACES);
+        places[..kept].copy_from_slice(&characters[..kept]);
+        // A number too great for 16 bits is as bad as the greatest of them.
+        let sigma = u16::try_from(characters.len()).unwrap_or(u16::MAX);
+        Table { k, s, sigma, places }
+    }
+
+    /// The width of a base symbol in bits.
+    pub fn k(&self) -> u8 {
+        self.k
+    }
+
+    /// The number of stoppers: the symbols below it.
+    pub fn s(&self) -> u8 {
+        self.s
+    }
+
+    /// σ, the number of characters.
+    pub fn sigma(&self) -> u16 {
+        self.sigma
+    }
+
+    /// The 256 places, of which the first σ hold the characters in rank order; those past them are 0.
+    pub fn places(&self) -> &[u8; PLACES] {
+        &self.places
+    }
+
+    /// The characters in rank order: the first σ places.
+    pub fn characters(&self) -> &[u8] {
+        &self.places[..usize::from(self.sigma).min(PLACES)]
+    }
+
+    /// The codeword of a character.
+    ///
+    /// Refusals, in their order: 1 (0), 3 (0).
+    ///
+    /// ```
+    /// use monterculo::Table;
+    ///
+    /// let table = Table::new(4, 3, b"anb");
+    /// assert_eq!(table.codeword_of(b'b')?.symbols(), [2]);
+    /// assert_eq!(table.codeword_of(b'x').unwrap_err().number, 3);
+    /// # Ok::<(), monterculo::Refusal>(())
+    /// ```
+    pub fn codeword_of(&self, character: u8) -> Result<Codeword, Refusal> {
+        let (length, symbols) = sys::codeword_of(self, character)?;
+        Ok(Codeword { length, symbols })
+    }
+
+    /// The character of a codeword.
+    ///
+    /// Refusals, in their order: 1 (0), 6 (0; the symbols are not exactly one codeword of rank below σ).
+    ///
+    /// ```
+    /// use monterculo::{Codeword, Table};
+    ///
+    /// let table = Table::new(2, 3, b"abrcd");
+    /// assert_eq!(table.character_of(&Codeword::new(&[3, 1]))?, b'd');
+    /// assert_eq!(table.character_of(&Codeword::new(&[3, 2])).unwrap_err().number, 6);
+    /// # Ok::<(), monterculo::Refusal>(())
+    /// ```
+    pub fn character_of(&self, codeword: &Codeword) -> Result<u8, Refusal> {
+        sys::character_of(self, codeword.length, &codeword.symbols)
+    }
+}
+
+/// A codeword: its symbols, one byte each.
+///
+/// ```
+/// use monterculo::{Codeword, Table};
+///
+/// let codeword = Table::new(2, 3, b"abrcd").codeword_of(b'd')?;
+/// assert_eq!(codeword, Codeword::new(&[3, 1]));
+/// # Ok::<(), monterculo::Refusal>(())
+/// ```
+#[derive(Clone, Debug, PartialEq, Eq, Hash)]
+pub struct Codeword {
+    length: usize,
+    symbols: [u8; LONGEST],
+}
+
+impl Codeword {
+    /// The codeword of these symbols.
+    ///
+    /// Nothing is checked here, since [`Table::character_of`] checks. Of more than 86 symbols the first 86 are kept,
+    /// beside the length; these are no codeword of any table.
+    pub fn new(symbols: &[u8]) -> Codeword {
+        let mut codeword = Codeword { length: symbols.len(), symbols: [0; LONGEST] };
+        let kept = symbols.len().min(LONGEST);
+        codeword.symbols[..kept].copy_from_slice(&symbols[..kept]);
+        codeword
+    }
+
+    /// The symbols, in their order: continuers, and a stopper as the last.
+    pub fn symbols(&self) -> &[u8] {
+        &self.symbols[..self.length.min(LONGEST)]
+    }
+}

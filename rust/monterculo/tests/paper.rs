@@ -1,0 +1,299 @@
+//! The paper's worked cases through this crate, and each refusal once.
+
+use std::collections::HashSet;
+use std::error::Error;
+
+use monterculo::{bytes_for, count, entries_for, Codeword, Refusal, Roll, Table};
+
+/// A text packed with its best table, in a buffer of just its size.
+fn packed(k: u8, text: &[u8]) -> (Roll, Vec<u8>) {
+    let mut counts = [0; 256];
+    count(text, &mut counts).unwrap();
+    let (table, total) = Table::choose(k, &counts).unwrap();
+    let mut buf = vec![0; bytes_for(k, total)];
+    let roll = Roll::pack(&table, text, &mut buf).unwrap();
+    assert_eq!(u64::from(roll.h()), total);
+    assert_eq!(roll.table(), &table);
+    (roll, buf)
+}
+
+/// P2's roll.
+fn abracadabra() -> (Roll, Vec<u8>) {
+    packed(2, b"abracadabra")
+}
+
+fn directory_of(roll: &Roll, buf: &[u8]) -> Vec<u32> {
+    let mut directory = vec![0; entries_for(roll.n())];
+    roll.make_directory(buf, &mut directory).unwrap();
+    directory
+}
+
+fn text_of(roll: &Roll, buf: &[u8]) -> Vec<u8> {
+    let n = roll.n() as usize;
+    let mut out = vec![0; n];
+    roll.unpack(buf, 0..n, &mut out).unwrap();
+    out
+}
+
+/// All hits, and that they are as many as the total says.
+fn hits_of(roll: &Roll, buf: &[u8], pattern: &[u8]) -> Vec<u32> {
+    let mut hits = vec![u32::MAX; roll.n() as usize];
+    let total = roll.search(buf, pattern, &mut hits).unwrap() as usize;
+    assert!(hits[total..].iter().all(|&later| later == u32::MAX));
+    hits.truncate(total);
+    hits
+}
+
+/// The number and the value of a refusal.
+fn refused<T: std::fmt::Debug>(answer: Result<T, Refusal>) -> (u8, u64) {
+    let refusal = answer.unwrap_err();
+    (refusal.number, refusal.value)
+}
+
+#[test]
+fn p2_bytes() {
+    let (roll, buf) = abracadabra();
+    let table = roll.table();
+    assert_eq!((table.k(), table.s(), table.sigma(), table.characters()), (2, 3, 5, &b"abrcd"[..]));
+    assert_eq!(table.places()[..6], *b"abrcd\0");
+    assert_eq!((roll.n(), roll.h()), (11, 13));
+    assert_eq!(buf, [0x18, 0xc3, 0x46, 0x00]);
+    let symbols: Vec<u8> =
+        b"abracadabra".iter().flat_map(|&c| table.codeword_of(c).unwrap().symbols().to_vec()).collect();
+    assert_eq!(symbols, [0, 1, 2, 0, 3, 0, 0, 3, 1, 0, 1, 2, 0]);
+    for &character in table.characters() {
+        assert_eq!(table.character_of(&table.codeword_of(character).unwrap()), Ok(character));
+    }
+    roll.check(&buf).unwrap();
+    assert_eq!(text_of(&roll, &buf), b"abracadabra");
+    // From stored parts it is the same roll.
+    assert_eq!(Roll::new(Table::new(2, 3, b"abrcd"), 11, 13), roll);
+}
+
+#[test]
+fn p2_read_one() {
+    let (roll, buf) = abracadabra();
+    let directory = directory_of(&roll, &buf);
+    assert_eq!(directory, [0]);
+    for (place, &character) in b"abracadabra".iter().enumerate() {
+        assert_eq!(roll.read_one(&buf, &directory, place), Ok(character));
+    }
+}
+
+#[test]
+fn p3_no_hit_inside_a_codeword() {
+    let (roll, buf) = abracadabra();
+    assert_eq!(roll.table().codeword_of(b'b').unwrap(), Codeword::new(&[1]));
+    assert_eq!(hits_of(&roll, &buf, b"b"), [1, 8]);
+}
+
+#[test]
+fn p4_hits() {
+    let (roll, buf) = abracadabra();
+    assert_eq!(hits_of(&roll, &buf, b"a"), [0, 3, 5, 7, 10]);
+    // The total is of all hits, though the slice holds fewer or none.
+    let mut few = [9; 2];
+    assert_eq!(roll.search(&buf, b"a", &mut few), Ok(5));
+    assert_eq!(few, [0, 3]);
+    assert_eq!(roll.search(&buf, b"a", &mut []), Ok(5));
+    // A character that is not in the table stands nowhere.
+    assert_eq!(roll.search(&buf, b"ax", &mut few), Ok(0));
+    assert_eq!(few, [0, 3]);
+}
+
+#[test]
+fn p5_overlapping_hits() {
+    let (roll, buf) = packed(4, b"banana");
+    assert_eq!(roll.table(), &Table::new(4, 3, b"anb"));
+    assert_eq!((roll.n(), roll.h()), (6, 6));
+    assert_eq!(buf, [0x20, 0x10, 0x10]);
+    assert_eq!(hits_of(&roll, &buf, b"ana"), [1, 3]);
+}
+
+#[test]
+fn p10_edit_by_more() {
+    let (mut roll, mut buf) = abracadabra();
+    let mut directory = directory_of(&roll, &buf);
+    roll.edit(&mut buf, &mut directory, 4..5, b"dd").unwrap();
+    assert_eq!((roll.n(), roll.h()), (12, 15));
+    assert_eq!(buf, [0x18, 0xdd, 0x34, 0x60]);
+    assert_eq!(directory, [0]);
+    assert_eq!(text_of(&roll, &buf), b"abraddadabra");
+}
+
+#[test]
+fn p11_edit_by_nothing() {
+    let (mut roll, mut buf) = abracadabra();
+    let mut directory = directory_of(&roll, &buf);
+    roll.edit(&mut buf, &mut directory, 4..7, b"").unwrap();
+    assert_eq!((roll.n(), roll.h()), (8, 8));
+    assert_eq!(buf, [0x18, 0x18, 0x00, 0x00]);
+    assert_eq!(text_of(&roll, &buf), b"abraabra");
+}
+
+#[test]
+fn p12_empty_text() {
+    let mut counts = [7; 256];
+    count(b"", &mut counts).unwrap();
+    assert_eq!(counts, [0; 256]);
+    let (table, total) = Table::choose(2, &counts).unwrap();
+    assert_eq!((table.s(), table.sigma(), total), (1, 0, 0));
+    assert_eq!(table.places(), &[0; 256]);
+
+    let mut buf = [0xff; 3];
+    let mut roll = Roll::pack(&table, b"", &mut buf).unwrap();
+    assert_eq!((roll.n(), roll.h(), buf), (0, 0, [0xff; 3]));
+    roll.check(&buf).unwrap();
+    assert_eq!(entries_for(roll.n()), 0);
+    let mut directory = [5; 1];
+    roll.make_directory(&buf, &mut directory).unwrap();
+    assert_eq!(directory, [5]);
+    assert_eq!(roll.search(&buf, b"a", &mut [0; 4]), Ok(0));
+
+    // Every slice may be empty.
+    assert_eq!(Roll::pack(&table, b"", &mut []).unwrap(), roll);
+    roll.check(&[]).unwrap();
+    roll.unpack(&[], 0..0, &mut []).unwrap();
+    roll.make_directory(&[], &mut []).unwrap();
+    assert_eq!(roll.search(&[], b"a", &mut []), Ok(0));
+    roll.edit(&mut [], &mut [], 0..0, b"").unwrap();
+    assert_eq!((roll.n(), roll.h()), (0, 0));
+    assert_eq!(refused(roll.read_one(&[], &[], 0)), (10, 0));
+}
+
+#[test]
+fn p15_pattern_lengths() {
+    let (roll, buf) = packed(2, &[b'a'; 70]);
+    assert_eq!(hits_of(&roll, &buf, &[b'a'; 64]), [0, 1, 2, 3, 4, 5, 6]);
+    assert_eq!(refused(roll.search(&buf, &[b'a'; 65], &mut [])), (11, 0));
+    assert_eq!(refused(roll.search(&buf, b"", &mut [])), (11, 0));
+}
+
+#[test]
+fn p16_empty_range_at_the_end() {
+    let (roll, buf) = packed(2, b"abc");
+    assert_eq!(roll.unpack(&buf, 3..3, &mut []), Ok(()));
+    assert_eq!(refused(roll.unpack(&buf, 4..4, &mut [])), (10, 0));
+}
+
+/// A directory over several entries stays right through edits, for both widths.
+#[test]
+fn directory_through_edits() {
+    for k in [2, 4] {
+        let mut text: Vec<u8> = (0..200u32).map(|i| b"salt works"[(i * i % 10) as usize]).collect();
+        let mut counts = [1; 256];
+        for &character in &text {
+            counts[usize::from(character)] += 1;
+        }
+        let (table, _) = Table::choose(k, &counts).unwrap();
+        let (mut buf, mut directory) = (vec![0; 16_384], vec![0; 16]);
+        let mut roll = Roll::pack(&table, &text, &mut buf).unwrap();
+        roll.make_directory(&buf, &mut directory).unwrap();
+        for (range, put) in [(3..3, &b"pan 17"[..]), (100..150, b"x"), (0..1, b"0123456789"), (140..160, b"")] {
+            roll.edit(&mut buf, &mut directory, range.clone(), put).unwrap();
+            text.splice(range, put.iter().copied());
+            assert_eq!(text_of(&roll, &buf), text);
+            let entries = entries_for(roll.n());
+            assert_eq!(directory[..entries], directory_of(&roll, &buf));
+            assert!(directory[entries..].iter().all(|&entry| entry == 0));
+            assert!(buf[bytes_for(k, roll.h().into())..].iter().all(|&byte| byte == 0));
+            for (place, &character) in text.iter().enumerate() {
+                assert_eq!(roll.read_one(&buf, &directory, place), Ok(character));
+            }
+        }
+    }
+}
+
+/// Each number once, with its value, from a call that says so in its own documentation.
+#[test]
+fn each_refusal() {
+    let (roll, buf) = abracadabra();
+    let table = roll.table();
+    let with = |n, h| Roll::new(table.clone(), n, h);
+
+    assert_eq!(refused(Table::choose(3, &[0; 256])), (1, 0));
+    assert_eq!(refused(count(b"abc", &mut [0; 255])), (2, 255));
+    assert_eq!(refused(Roll::pack(table, b"abxay", &mut [0; 16])), (3, 2));
+    assert_eq!(refused(Roll::pack(table, b"abracadabra", &mut [0; 3])), (4, 10));
+    assert_eq!(refused(with(11, 17).check(&buf)), (5, 17));
+    assert_eq!(refused(with(11, 8).check(&buf)), (6, 7));
+    assert_eq!(refused(with(10, 13).check(&buf)), (7, 11));
+    assert_eq!(refused(roll.check(&[0x18, 0xc3, 0x46, 0x01])), (8, 0));
+    assert_eq!(refused(roll.read_one(&buf, &[13], 4)), (9, 0));
+    assert_eq!(refused(roll.read_one(&buf, &[0], 11)), (10, 0));
+    assert_eq!(refused(roll.search(&buf, b"", &mut [0; 4])), (11, 0));
+    assert_eq!(refused(roll.make_directory(&buf, &mut [])), (12, 1));
+    assert_eq!(refused(roll.unpack(&buf, 2..7, &mut [0; 4])), (13, 5));
+}
+
+#[test]
+fn refusals_of_parts() {
+    let everything: Vec<u8> = (0..=255).collect();
+    assert_eq!(Table::new(4, 14, &everything).codeword_of(255).unwrap().symbols(), [14, 14, 15, 15, 3]);
+    for characters in [257, 65_535, 65_536, 70_000] {
+        let table = Table::new(4, 14, &everything.iter().copied().cycle().take(characters).collect::<Vec<u8>>());
+        assert_eq!(usize::from(table.sigma()), characters.min(65_535));
+        assert_eq!(table.characters(), everything);
+        assert_eq!(refused(table.codeword_of(0)), (1, 0));
+    }
+    assert_eq!(refused(Table::new(2, 3, b"aa").codeword_of(b'a')), (1, 0));
+    assert_eq!(refused(Table::new(2, 3, b"a").codeword_of(b'b')), (3, 0));
+
+    // P9's longest codeword, and one symbol more.
+    let table = Table::new(2, 3, &everything);
+    let mut symbols = vec![3; 85];
+    symbols.push(0);
+    assert_eq!(table.codeword_of(255).unwrap().symbols(), symbols);
+    assert_eq!(table.character_of(&Codeword::new(&symbols)), Ok(255));
+    symbols.insert(0, 3);
+    assert_eq!(refused(table.character_of(&Codeword::new(&symbols))), (6, 0));
+    symbols.truncate(86);
+    assert_eq!(refused(table.character_of(&Codeword::new(&symbols))), (6, 0));
+    symbols[85] = 0;
+    symbols.push(0);
+    assert_eq!(refused(table.character_of(&Codeword::new(&symbols))), (6, 0));
+    assert_eq!(Codeword::new(&symbols).symbols().len(), 86);
+    assert_eq!(refused(table.character_of(&Codeword::new(&[]))), (6, 0));
+
+    // P14: the last character that fits, and one more.
+    let table = Table::new(2, 1, b"a");
+    let mut buf = vec![0xff; 20_000];
+    assert_eq!(Roll::pack(&table, &[b'a'; 65_536], &mut buf), Ok(Roll::new(table.clone(), 65_536, 65_536)));
+    assert_eq!(refused(Roll::pack(&table, &[b'a'; 65_537], &mut buf)), (4, 65_536));
+    assert_eq!(refused(count(&[b'a'; 65_537], &mut [0; 256])), (4, 65_536));
+}
+
+#[test]
+fn a_refused_edit_changes_nothing() {
+    let (mut roll, mut buf) = abracadabra();
+    let mut directory = directory_of(&roll, &buf);
+    let before = (roll.clone(), buf.clone(), directory.clone());
+    assert_eq!(refused(roll.edit(&mut buf, &mut directory, std::ops::Range { start: 5, end: 4 }, b"")), (10, 0));
+    assert_eq!(refused(roll.edit(&mut buf, &mut directory, 4..usize::MAX, b"")), (10, 0));
+    assert_eq!(refused(roll.edit(&mut buf, &mut directory, 4..5, b"dx")), (3, 1));
+    assert_eq!(refused(roll.edit(&mut buf, &mut directory, 4..5, b"ddd")), (4, 12));
+    assert_eq!(refused(roll.edit(&mut buf, &mut [1], 4..5, b"d")), (9, 0));
+    let mut wide = buf.clone();
+    wide.resize(32, 0);
+    assert_eq!(refused(roll.edit(&mut wide, &mut directory, 0..0, &[b'a'; 22])), (12, 2));
+    assert_eq!((roll, buf, directory), before);
+}
+
+#[test]
+fn refusals_in_words() {
+    let said: Vec<String> = (1..=13).map(|number| Refusal { number, value: 98_765 }.to_string()).collect();
+    assert_eq!(said.iter().collect::<HashSet<_>>().len(), 13);
+    for (number, words) in (1..).zip(&said) {
+        assert!(words.starts_with(&format!("refusal {}: ", number)), "{}", words);
+        // Where the paper's value is 0, it says nothing.
+        assert_eq!(words.contains("98765"), ![1, 8, 10, 11].contains(&number), "{}", words);
+    }
+    assert_eq!(said[8], "refusal 9: a directory entry missing or wrong; number of the first such: 98765");
+    assert_eq!(said[10], "refusal 11: pattern empty or over 64");
+
+    fn answer() -> Result<(), Box<dyn Error + Send + Sync>> {
+        count(b"", &mut [])?;
+        Ok(())
+    }
+    assert_eq!(answer().unwrap_err().to_string(), "refusal 2: counts slice not 256 long; its length: 0");
+}
