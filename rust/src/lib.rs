@@ -4,6 +4,7 @@
 #![allow(unknown_lints, unexpected_cfgs)] // build.rs sets monterculo_archive; old and new compilers stay quiet
 
 pub mod library;
+pub mod plain;
 pub mod reference;
 
 #[cfg(monterculo_archive)]

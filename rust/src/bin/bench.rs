@@ -1,0 +1,668 @@
+//! Times the archive's operations against plain Rust on full rolls, in turn and on the same buffers.
+//!
+//! `bench [SVG]` prints tables in Markdown and, with a file name, draws the ratios into it.
+
+#![forbid(unsafe_code)]
+
+use std::fmt::Write;
+use std::fs;
+use std::process::exit;
+use std::time::Instant;
+
+use monterculo_reference::library::{Head, Library};
+use monterculo_reference::plain;
+use monterculo_reference::reference::{self, Roll, Table, LIMIT, STRIDE};
+
+/// Measured calls of each operation, on either side.
+const REPETITIONS: usize = 201;
+/// Calls before them that are not measured.
+const WARM_UP: usize = 5;
+/// Places read for one figure of reading one character.
+const PLACES: usize = 2_000;
+/// What lies in a lent buffer before a call that writes it.
+const FILL: u8 = 0xAA;
+const MARK: f64 = 1.5;
+
+// The texts.
+
+/// splitmix64.
+struct Rng(u64);
+
+impl Rng {
+    fn next(&mut self) -> u64 {
+        self.0 = self.0.wrapping_add(0x9e37_79b9_7f4a_7c15);
+        let mut z = self.0;
+        z = (z ^ (z >> 30)).wrapping_mul(0xbf58_476d_1ce4_e5b9);
+        z = (z ^ (z >> 27)).wrapping_mul(0x94d0_49bb_1331_11eb);
+        z ^ (z >> 31)
+    }
+
+    fn below(&mut self, bound: usize) -> usize {
+        (self.next() % bound as u64) as usize
+    }
+
+    fn pick<'a>(&mut self, from: &[&'a str]) -> &'a str {
+        from[self.below(from.len())]
+    }
+}
+
+const FIRST: [&str; 24] = [
+    "Anna", "Bruno", "Carla", "Dario", "Elena", "Franc", "Gina", "Hana", "Ivan", "Jana", "Klara", "Luka", "Marija",
+    "Nino", "Olga", "Pavel", "Rosa", "Stefan", "Tina", "Urban", "Vida", "Zoran", "Alojz", "Breda",
+];
+
+const LAST: [&str; 24] = [
+    "Novak", "Horvat", "Kranjc", "Zupan", "Potok", "Kovac", "Mlakar", "Vidmar", "Golob", "Turk", "Bozic", "Kralj",
+    "Korosec", "Bizjak", "Hribar", "Kotnik", "Rozman", "Kavcic", "Petek", "Kastelic", "Oblak", "Zagar", "Hocevar",
+    "Fonda",
+];
+
+/// Lines of pan number, name and telephone number.
+fn member_roll() -> Vec<u8> {
+    let mut rng = Rng(1);
+    let mut text = String::new();
+    let mut pan = 100;
+    while text.len() < LIMIT {
+        pan += 1 + rng.below(3);
+        let (first, last) = (rng.pick(&FIRST), rng.pick(&LAST));
+        let (block, number) = (30 + rng.below(40), rng.below(1_000_000));
+        let _ = writeln!(text, "{:04} {} {} 0{} {:03} {:03}", pan, first, last, block, number / 1000, number % 1000);
+    }
+    text.into_bytes()
+}
+
+/// The commonest first.
+const WORDS: [&str; 96] = [
+    "the",
+    "of",
+    "and",
+    "to",
+    "a",
+    "in",
+    "is",
+    "that",
+    "it",
+    "was",
+    "for",
+    "on",
+    "with",
+    "as",
+    "by",
+    "at",
+    "from",
+    "be",
+    "this",
+    "which",
+    "or",
+    "not",
+    "are",
+    "salt",
+    "water",
+    "pan",
+    "sea",
+    "wind",
+    "they",
+    "were",
+    "had",
+    "but",
+    "all",
+    "one",
+    "when",
+    "there",
+    "their",
+    "brine",
+    "crystal",
+    "summer",
+    "master",
+    "channel",
+    "before",
+    "after",
+    "through",
+    "between",
+    "every",
+    "morning",
+    "evening",
+    "rake",
+    "wooden",
+    "gather",
+    "white",
+    "heap",
+    "house",
+    "keeper",
+    "notice",
+    "board",
+    "number",
+    "written",
+    "member",
+    "without",
+    "against",
+    "because",
+    "during",
+    "weather",
+    "shallow",
+    "warm",
+    "stone",
+    "bottom",
+    "clean",
+    "carry",
+    "boat",
+    "harbour",
+    "village",
+    "winter",
+    "repair",
+    "dike",
+    "gate",
+    "measure",
+    "thick",
+    "quiet",
+    "bright",
+    "evaporate",
+    "question",
+    "journey",
+    "exactly",
+    "thousand",
+    "year",
+    "people",
+    "work",
+    "until",
+    "again",
+    "never",
+    "young",
+    "old",
+];
+
+/// Sentences in lines of about seventy characters; the word of number i comes about as often as 1/(i + 1).
+fn english_like() -> Vec<u8> {
+    let mut rng = Rng(2);
+    let mut text = String::new();
+    let (mut line, mut in_sentence, mut sentence) = (0, 0, 9);
+    while text.len() < LIMIT {
+        let word = loop {
+            let number = rng.below(WORDS.len());
+            if rng.below(number + 1) < 1 + number / 12 {
+                break WORDS[number];
+            }
+        };
+        let mut word = word.to_string();
+        if in_sentence == 0 {
+            word[..1].make_ascii_uppercase();
+        }
+        in_sentence += 1;
+        if in_sentence == sentence {
+            word.push('.');
+            in_sentence = 0;
+            sentence = 5 + rng.below(14);
+        } else if rng.below(11) == 0 {
+            word.push(',');
+        }
+        line += word.len() + 1;
+        word.push(if line >= 66 { '\n' } else { ' ' });
+        if line >= 66 {
+            line = 0;
+        }
+        text.push_str(&word);
+    }
+    text.into_bytes()
+}
+
+fn chosen(k: u8, text: &[u8]) -> (u64, Table) {
+    let mut counts = [0; 256];
+    reference::count(text, &mut counts).expect("a text within the limit");
+    let (answer, table) = reference::choose(k, &counts);
+    (answer.expect("a good width"), table)
+}
+
+/// A roll with all that is measured on it.
+struct Case {
+    name: String,
+    text: Vec<u8>,
+    roll: Roll,
+    buf: Vec<u8>,
+    directory: Vec<u32>,
+}
+
+impl Case {
+    /// The longest beginning of the text that leaves one symbol of the limit free.
+    fn new(name: &str, k: u8, long: &[u8]) -> Case {
+        let (mut fits, mut over) = (0, long.len().min(LIMIT) + 1);
+        while over - fits > 1 {
+            let middle = (fits + over) / 2;
+            if chosen(k, &long[..middle]).0 < LIMIT as u64 {
+                fits = middle;
+            } else {
+                over = middle;
+            }
+        }
+        let text = long[..fits].to_vec();
+        let table = chosen(k, &text).1;
+        let mut buf = vec![FILL; LIMIT * usize::from(k) / 8];
+        let (answer, roll) = reference::pack(&table, &text, &mut buf);
+        answer.expect("it was seen to fit");
+        let mut directory = vec![0; (text.len() + STRIDE - 1) / STRIDE + 1];
+        reference::make_directory(&roll, &buf, &mut directory).expect("a sound roll");
+        Case { name: format!("{}, k {}", name, k), text, roll, buf, directory }
+    }
+
+    fn head(&self) -> Head {
+        Head { k: self.roll.table.k, s: self.roll.table.s, sigma: self.roll.table.sigma }
+    }
+
+    fn symbols(&self, text: &[u8]) -> usize {
+        let list = reference::listing(self.roll.table.k, self.roll.table.s);
+        let rank = |&byte: &u8| self.roll.table.places.iter().position(|&place| place == byte);
+        text.iter().map(|byte| list.codewords[rank(byte).expect("a character of the table")].len()).sum()
+    }
+}
+
+// Measuring.
+
+/// Microseconds of a call.
+fn timed<T>(call: impl FnOnce() -> T) -> (f64, T) {
+    let start = Instant::now();
+    let answer = call();
+    (start.elapsed().as_nanos() as f64 / 1_000.0, answer)
+}
+
+fn median(mut times: Vec<f64>) -> f64 {
+    times.sort_by(|a, b| a.partial_cmp(b).expect("times are numbers"));
+    times[times.len() / 2]
+}
+
+/// A measured call answers its time and what it found.
+type Call<'a, T> = &'a mut dyn FnMut() -> (f64, T);
+
+/// The medians of calls made in turn, each time another one first. What they find must be the same of all
+/// and always.
+fn medians<const N: usize, T: PartialEq + std::fmt::Debug>(calls: [Call<T>; N]) -> [f64; N] {
+    let mut times = vec![Vec::new(); N];
+    let expected = calls[0]().1;
+    for round in 0..WARM_UP + REPETITIONS {
+        for turn in 0..N {
+            let which = (round + turn) % N;
+            let (time, answer) = calls[which]();
+            assert_eq!(answer, expected, "answers differ");
+            if round >= WARM_UP {
+                times[which].push(time);
+            }
+        }
+    }
+    let mut medians = [0.0; N];
+    for (median_of, times) in medians.iter_mut().zip(times) {
+        *median_of = median(times);
+    }
+    medians
+}
+
+struct Row {
+    name: String,
+    archive: f64,
+    plain: f64,
+    /// Plain Rust tuned further.
+    tuned: Option<f64>,
+    /// The plain search of the unpacked text.
+    unpacked: Option<f64>,
+}
+
+impl Row {
+    fn new(name: &str, [archive, plain]: [f64; 2]) -> Row {
+        Row { name: name.to_string(), archive, plain, tuned: None, unpacked: None }
+    }
+
+    fn ratio(&self) -> f64 {
+        self.archive / self.plain
+    }
+}
+
+fn number_of<T>(answer: &reference::Answer<T>) -> u32 {
+    answer.as_ref().err().map_or(0, |refused| refused.number)
+}
+
+/// A sum of bytes, to hold what was written on either side to the other without keeping it.
+fn sum(bytes: impl Iterator<Item = u64>) -> u64 {
+    bytes.fold(0, |sum, byte| sum.wrapping_mul(31).wrapping_add(byte))
+}
+
+fn sum_bytes(bytes: &[u8]) -> u64 {
+    sum(bytes.iter().map(|&byte| u64::from(byte)))
+}
+
+fn sum_entries(entries: &[u32]) -> u64 {
+    sum(entries.iter().map(|&entry| u64::from(entry)))
+}
+
+fn measure(case: &Case, archive: &dyn Library) -> Vec<Row> {
+    let (head, roll, text, buf, directory) = (case.head(), &case.roll, &case.text, &case.buf, &case.directory);
+    let (places, n, h) = (&roll.table.places, roll.n, roll.h);
+    let mut rows = Vec::new();
+
+    let (mut ours, mut theirs) = (vec![FILL; buf.len()], vec![FILL; buf.len()]);
+    let times = medians([
+        &mut || {
+            ours.fill(FILL);
+            let (time, (number, _, n, h)) = timed(|| archive.pack(&head, places, text, &mut ours, 0, 0));
+            (time, (number, n, h, sum_bytes(&ours)))
+        },
+        &mut || {
+            theirs.fill(FILL);
+            let (time, answer) = timed(|| plain::pack(&roll.table, text, &mut theirs));
+            let answer = answer.expect("it was seen to fit");
+            (time, (0, answer.n, answer.h, sum_bytes(&theirs)))
+        },
+    ]);
+    assert_eq!(&ours, buf);
+    rows.push(Row::new("pack", times));
+
+    let [ours, theirs, tuned] = medians([
+        &mut || timed(|| archive.check(&head, places, n, h, buf).0),
+        &mut || timed(|| number_of(&plain::check(roll, buf))),
+        &mut || timed(|| number_of(&plain::check_straight(roll, buf))),
+    ]);
+    rows.push(Row { tuned: Some(tuned), ..Row::new("check", [ours, theirs]) });
+
+    let (mut ours, mut theirs, mut tuned) = (vec![FILL; text.len()], vec![FILL; text.len()], vec![FILL; text.len()]);
+    let times = medians([
+        &mut || {
+            ours.fill(FILL);
+            let (time, number) = timed(|| archive.unpack(&head, places, n, h, buf, 0, n as usize, &mut ours).0);
+            (time, (number, sum_bytes(&ours)))
+        },
+        &mut || {
+            theirs.fill(FILL);
+            let (time, answer) = timed(|| plain::unpack(roll, buf, 0, n as usize, &mut theirs));
+            (time, (number_of(&answer), sum_bytes(&theirs)))
+        },
+        &mut || {
+            tuned.fill(FILL);
+            let (time, answer) = timed(|| plain::unpack_straight(roll, buf, 0, n as usize, &mut tuned));
+            (time, (number_of(&answer), sum_bytes(&tuned)))
+        },
+    ]);
+    assert_eq!(&ours, text);
+    let [ours, theirs, tuned] = times;
+    rows.push(Row { tuned: Some(tuned), ..Row::new("unpack, whole", [ours, theirs]) });
+
+    let (mut ours, mut theirs) = (vec![9; directory.len()], vec![9; directory.len()]);
+    let times = medians([
+        &mut || {
+            ours.fill(9);
+            let (time, number) = timed(|| archive.make_directory(&head, places, n, h, buf, &mut ours).0);
+            (time, (number, sum_entries(&ours)))
+        },
+        &mut || {
+            theirs.fill(9);
+            let (time, answer) = timed(|| plain::make_directory(roll, buf, &mut theirs));
+            (time, (number_of(&answer), sum_entries(&theirs)))
+        },
+    ]);
+    rows.push(Row::new("make a directory", times));
+
+    let mut rng = Rng(3);
+    let to_read: Vec<usize> = (0..PLACES).map(|_| rng.below(text.len())).collect();
+    let times = medians([
+        &mut || {
+            timed(|| sum(to_read.iter().map(|&place| archive.read_one(&head, places, n, h, buf, directory, place).1)))
+        },
+        &mut || {
+            timed(|| {
+                sum(to_read
+                    .iter()
+                    .map(|&place| plain::read_one(roll, buf, directory, place).map_or(u64::MAX, u64::from)))
+            })
+        },
+    ]);
+    rows.push(Row::new("read one", times.map(|time| time / PLACES as f64)));
+
+    let mut after = Vec::new();
+    for length in [4, 8, 16, 32] {
+        let pattern = &text[text.len() * 2 / 3..][..length];
+        let mut ours = vec![9; text.len()];
+        let (mut theirs, mut tuned, mut unpacked) = (ours.clone(), ours.clone(), ours.clone());
+        // The checks are measured once more among the searches they are taken from.
+        let hits = reference::search(roll, buf, pattern, &mut ours).expect("a sound roll");
+        let found = (0, u64::from(hits), sum_entries(&ours[..hits as usize]));
+        let seen = |hits: u32, list: &[u32]| (0, u64::from(hits), sum_entries(&list[..hits as usize]));
+        let checked = |(time, number): (f64, u32)| (time, (number, found.1, found.2));
+        let [ours, theirs, tuned, unpacked, our_check, their_check, tuned_check] = medians([
+            &mut || {
+                let (time, answer) = timed(|| archive.search(&head, places, n, h, buf, pattern, &mut ours));
+                (time, (answer.0, answer.1, sum_entries(&ours[..answer.1 as usize])))
+            },
+            &mut || {
+                let (time, hits) = timed(|| plain::search(roll, buf, pattern, &mut theirs));
+                (time, seen(hits.expect("a sound roll"), &theirs))
+            },
+            &mut || {
+                let (time, hits) = timed(|| plain::search_straight(roll, buf, pattern, &mut tuned));
+                (time, seen(hits.expect("a sound roll"), &tuned))
+            },
+            &mut || {
+                let (time, hits) = timed(|| plain::search_text(text, pattern, &mut unpacked));
+                (time, seen(hits.expect("a good pattern"), &unpacked))
+            },
+            &mut || checked(timed(|| archive.check(&head, places, n, h, buf).0)),
+            &mut || checked(timed(|| number_of(&plain::check(roll, buf)))),
+            &mut || checked(timed(|| number_of(&plain::check_straight(roll, buf)))),
+        ]);
+        rows.push(Row {
+            name: format!("search for {} characters ({} {})", length, hits, if hits == 1 { "hit" } else { "hits" }),
+            archive: ours,
+            plain: theirs,
+            tuned: Some(tuned),
+            unpacked: Some(unpacked),
+        });
+        after.push(Row {
+            name: format!("search for {} characters, less the check", length),
+            archive: ours - our_check,
+            plain: theirs - their_check,
+            tuned: Some(tuned - tuned_check),
+            unpacked: Some(unpacked),
+        });
+    }
+    rows.append(&mut after);
+
+    for (name, start, end, new) in edits(case) {
+        // The copies that are edited; making them is not timed.
+        let (mut ours, mut our_entries) = (buf.clone(), directory.clone());
+        let (mut theirs, mut their_entries) = (buf.clone(), directory.clone());
+        let times = medians([
+            &mut || {
+                ours.copy_from_slice(buf);
+                our_entries.copy_from_slice(directory);
+                let (time, (number, _, n, h)) =
+                    timed(|| archive.edit(&head, places, n, h, &mut ours, &mut our_entries, start, end, &new));
+                (time, (number, n, h, sum_bytes(&ours), sum_entries(&our_entries)))
+            },
+            &mut || {
+                theirs.copy_from_slice(buf);
+                their_entries.copy_from_slice(directory);
+                let (time, answer) = timed(|| plain::edit(roll, &mut theirs, &mut their_entries, start, end, &new));
+                let after = answer.expect("an edit that fits");
+                (time, (0, after.n, after.h, sum_bytes(&theirs), sum_entries(&their_entries)))
+            },
+        ]);
+        rows.push(Row::new(name, times));
+    }
+    rows
+}
+
+/// Name, range and run of each edit measured.
+fn edits(case: &Case) -> Vec<(&'static str, usize, usize, Vec<u8>)> {
+    let (text, table) = (&case.text, &case.roll.table);
+    let middle = text.len() / 2;
+    let turned: Vec<u8> = text[middle..middle + 16].iter().rev().copied().collect();
+    assert_ne!(turned, &text[middle..middle + 16]);
+    let longer = table.places.iter().copied().take(usize::from(table.sigma));
+    let longer = longer.into_iter().find(|&byte| case.symbols(&[byte]) == case.symbols(&text[..1]) + 1);
+    let line = text.iter().position(|&byte| byte == b'\n').expect("there are lines") + 1;
+    vec![
+        ("edit: 16 characters in the middle, same length", middle, middle + 16, turned),
+        (
+            "edit: first character to one of one symbol more",
+            0,
+            1,
+            vec![longer.expect("no character is one symbol longer than the first")],
+        ),
+        ("edit: a character of one symbol put in front", 0, 0, vec![table.places[0]]),
+        ("edit: first line removed", 0, line, Vec::new()),
+    ]
+}
+
+// What is shown.
+
+fn table_of(case: &Case, rows: &[Row]) -> String {
+    let table = &case.roll.table;
+    let mut lines = format!(
+        "{}: {} characters, {} different, s {}, {} symbols\n\n",
+        case.name, case.roll.n, table.sigma, table.s, case.roll.h
+    );
+    lines.push_str("| operation | archive µs | plain Rust µs | ratio | tuned Rust µs | ratio | unpacked text µs |\n");
+    lines.push_str("|---|--:|--:|--:|--:|--:|--:|\n");
+    for row in rows {
+        let digits = if row.archive < 10.0 { 3 } else { 1 };
+        let shown = |ratio: f64| if ratio > MARK { format!("**{:.2}**", ratio) } else { format!("{:.2}", ratio) };
+        let time = |time: Option<f64>| time.map_or(String::new(), |time| format!("{:.*}", digits, time));
+        let _ = writeln!(
+            lines,
+            "| {} | {} | {} | {} | {} | {} | {} |",
+            row.name,
+            time(Some(row.archive)),
+            time(Some(row.plain)),
+            shown(row.ratio()),
+            time(row.tuned),
+            row.tuned.map_or(String::new(), |tuned| shown(row.archive / tuned)),
+            time(row.unpacked)
+        );
+    }
+    lines
+}
+
+const COLOURS: [&str; 4] = ["#1f5a8a", "#7fb2d9", "#b5541c", "#f0b07a"];
+const BAR: usize = 11;
+const LEFT: usize = 360;
+const WIDTH: usize = 560;
+const TOP: usize = 100;
+
+/// Groups of bars, one bar for each case, and a line at the mark.
+fn drawing(cases: &[Case], rows: &[Vec<Row>]) -> String {
+    let groups = rows[0].len();
+    let group = cases.len() * BAR + 12;
+    let height = TOP + groups * group + 30;
+    let most = rows.iter().flatten().map(Row::ratio).fold(2.0, f64::max);
+    let scale = WIDTH as f64 / most;
+    let x = |ratio: f64| LEFT as f64 + ratio * scale;
+    let mut svg = format!(
+        "<svg xmlns=\"http://www.w3.org/2000/svg\" viewBox=\"0 0 {0} {1}\" width=\"{0}\" height=\"{1}\" \
+         font-family=\"sans-serif\" font-size=\"12\">\n<rect width=\"100%\" height=\"100%\" fill=\"white\"/>\n",
+        LEFT + WIDTH + 60,
+        height
+    );
+    let _ = writeln!(
+        svg,
+        "<text x=\"16\" y=\"28\" font-size=\"16\">Time of the archive divided by that of plain Rust (lower is better)</text>"
+    );
+    for (number, (case, colour)) in cases.iter().zip(COLOURS).enumerate() {
+        let left = 16 + number * 200;
+        let _ = writeln!(svg, "<rect x=\"{}\" y=\"46\" width=\"12\" height=\"12\" fill=\"{}\"/>", left, colour);
+        let _ = writeln!(svg, "<text x=\"{}\" y=\"57\">{}</text>", left + 18, case.name);
+    }
+    let step = if most > 12.0 { 2.0 } else { 1.0 };
+    let mut tick = 0.0;
+    while tick <= most {
+        let _ = writeln!(
+            svg,
+            "<line x1=\"{0:.1}\" y1=\"{1}\" x2=\"{0:.1}\" y2=\"{2}\" stroke=\"#dddddd\"/>\
+             <text x=\"{0:.1}\" y=\"{3}\" text-anchor=\"middle\" fill=\"#555555\">{4}</text>",
+            x(tick),
+            TOP - 6,
+            height - 24,
+            height - 8,
+            tick
+        );
+        tick += step;
+    }
+    // Drawn last, over the line at the mark.
+    let mut figures = String::new();
+    for number in 0..groups {
+        let top = TOP + number * group;
+        // The hits differ from case to case and are left to the tables.
+        let name = rows[0][number].name.split(" (").next().unwrap_or("");
+        let _ = writeln!(
+            svg,
+            "<text x=\"{}\" y=\"{}\" text-anchor=\"end\">{}</text>",
+            LEFT - 8,
+            top + cases.len() * BAR / 2 + 4,
+            name
+        );
+        for (bar, (of_case, colour)) in rows.iter().zip(COLOURS).enumerate() {
+            let ratio = of_case[number].ratio().max(0.0);
+            let y = top + bar * BAR;
+            let _ = writeln!(
+                svg,
+                "<rect x=\"{}\" y=\"{}\" width=\"{:.1}\" height=\"{}\" fill=\"{}\"/>",
+                LEFT,
+                y,
+                ratio * scale,
+                BAR - 1,
+                colour
+            );
+            let _ = writeln!(
+                figures,
+                "<text x=\"{:.1}\" y=\"{}\" font-size=\"9\" stroke=\"white\" stroke-width=\"3\" \
+                 paint-order=\"stroke\">{:.2}</text>",
+                x(ratio) + 3.0,
+                y + BAR - 2,
+                ratio
+            );
+        }
+    }
+    let _ = writeln!(
+        svg,
+        "<line x1=\"{0:.1}\" y1=\"{1}\" x2=\"{0:.1}\" y2=\"{2}\" stroke=\"#c00000\" stroke-width=\"1.5\" \
+         stroke-dasharray=\"5 3\"/><text x=\"{0:.1}\" y=\"{3}\" text-anchor=\"middle\" fill=\"#c00000\">{4}</text>",
+        x(MARK),
+        TOP - 6,
+        height - 24,
+        TOP - 10,
+        MARK
+    );
+    svg.push_str(&figures);
+    svg.push_str("</svg>\n");
+    svg
+}
+
+fn main() {
+    let archive = match monterculo_reference::archive() {
+        Some(archive) => archive,
+        None => {
+            eprintln!("bench: built without the archive");
+            exit(2);
+        }
+    };
+    let (members, english) = (member_roll(), english_like());
+    let mut cases = Vec::new();
+    for (name, text) in [("member roll", &members), ("English-like text", &english)] {
+        for k in [2, 4] {
+            cases.push(Case::new(name, k, text));
+        }
+    }
+    println!(
+        "Medians of {} calls on either side, in turn, after {} that were not measured. Outputs of pack, unpack and make\n\
+         a directory were not cleared but filled with other values before each call, and each edit had a fresh copy\n\
+         of buffer and directory; neither is timed. A hit list keeps the hits of the call before. Reading one is the\n\
+         mean over {} places. Less the check: the median of the search less that of the check, both measured in turn.\n\
+         Unpacked text: its plain search. Bold: over {}.\n",
+        REPETITIONS, WARM_UP, PLACES, MARK
+    );
+    let mut rows = Vec::new();
+    for case in &cases {
+        let measured = measure(case, archive.as_ref());
+        println!("{}", table_of(case, &measured));
+        rows.push(measured);
+    }
+    if let Some(path) = std::env::args().nth(1) {
+        if let Err(error) = fs::write(&path, drawing(&cases, &rows)) {
+            eprintln!("bench: {}: {}", path, error);
+            exit(2);
+        }
+    }
+}
