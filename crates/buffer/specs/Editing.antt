@@ -36,6 +36,10 @@ directoryAfter r text dir = inPlace (entries (r .n)) (directoryOf (lengthsFor (r
 unfoldable pub replacedRow : ℕ → List ℕ → ℕ → ℕ → ℕ → List ℕ → List ℕ
 replacedRow k buf h p q new = over (take h (symbolsOf k buf)) p new q
 
+-- packed in place of them, those others being a text's
+abbrev pub replacedBytes : ℕ → List ℕ → List ℕ → List ℕ → List ℕ → ℕ → ℕ → ℕ → List ℕ
+replacedBytes k lengths words text buf h p q = inPlace (bytesFor k h) (bytesOf k (replacedRow k buf h p q (rowOf lengths words text))) buf
+
 -- what is asked for it: the text's symbols are `taken`, all is within the buffer (and the limit, which is at most 2 ^ 24), and the unused
 -- symbols of the last byte are 0
 pub record Replaces (k : ℕ) (lengths words text : List ℕ) (taken : ℕ) (buf : List ℕ) (h p q : ℕ) : Type 0 where

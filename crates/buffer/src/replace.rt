@@ -14,11 +14,9 @@ ghost use mathlib.Core.Path.{_≡_};
 ghost use Prim.Native.Nat.{_+_, _-_, _≤_, _<_};
 ghost use lib.ListN.{drop};
 ghost use Rattle.stopper.specs.Table.{characters};
-ghost use Rattle.symbols.specs.Symbols.{bytesFor, bytesOf};
 ghost use Rattle.buffer.specs.Roll.{recordOf, firstOver, textOf, Sound};
 ghost use Rattle.buffer.specs.Directory.{startAt, lengthsOf};
-ghost use Rattle.buffer.specs.Words.{rowOf};
-ghost use Rattle.buffer.specs.Editing.{edited, inPlace, bytesAfter, directoryAfter, replacedRow, Replaces, changedUpto, Replaceable};
+ghost use Rattle.buffer.specs.Editing.{edited, bytesAfter, directoryAfter, replacedBytes, Replaces, changedUpto, Replaceable};
 
 // The number of the first character from `from`, which starts at symbol first, whose codeword does not fit in the room left; or n.
 pub fn first_over(roll: Roll, buf: &[u8], from: usize, first: usize, room: usize) -> usize
@@ -61,7 +59,7 @@ fn grow(
     q: usize,
 )
     requires { ⌜ Replaces k (now lengths) (now words) (now text) taken (now buf) h p q × (q - p < taken) ⌝ }
-    ensures { λ _. ⌜ now (buf .exit) ≡ inPlace (bytesFor k h) (bytesOf k (replacedRow k (now (buf .entry)) h p q (rowOf (now (lengths .entry)) (now (words .entry)) (now (text .entry))))) (now (buf .entry)) ⌝ }
+    ensures { λ _. ⌜ now (buf .exit) ≡ replacedBytes k (now (lengths .entry)) (now (words .entry)) (now (text .entry)) (now (buf .entry)) h p q ⌝ }
 {
     let by = taken - (q - p);
     up(k, buf, q, h, by);
@@ -82,7 +80,7 @@ fn shrink(
     q: usize,
 )
     requires { ⌜ Replaces k (now lengths) (now words) (now text) taken (now buf) h p q × (taken < q - p) ⌝ }
-    ensures { λ _. ⌜ now (buf .exit) ≡ inPlace (bytesFor k h) (bytesOf k (replacedRow k (now (buf .entry)) h p q (rowOf (now (lengths .entry)) (now (words .entry)) (now (text .entry))))) (now (buf .entry)) ⌝ }
+    ensures { λ _. ⌜ now (buf .exit) ≡ replacedBytes k (now (lengths .entry)) (now (words .entry)) (now (text .entry)) (now (buf .entry)) h p q ⌝ }
 {
     let by = q - p - taken;
     down(k, buf, q, h, by);
@@ -103,7 +101,7 @@ fn replace_symbols(
     q: usize,
 )
     requires { ⌜ Replaces k (now lengths) (now words) (now text) taken (now buf) h p q ⌝ }
-    ensures { λ _. ⌜ now (buf .exit) ≡ inPlace (bytesFor k h) (bytesOf k (replacedRow k (now (buf .entry)) h p q (rowOf (now (lengths .entry)) (now (words .entry)) (now (text .entry))))) (now (buf .entry)) ⌝ }
+    ensures { λ _. ⌜ now (buf .exit) ≡ replacedBytes k (now (lengths .entry)) (now (words .entry)) (now (text .entry)) (now (buf .entry)) h p q ⌝ }
 {
     if q - p < taken {
         grow(k, lengths, words, text, taken, buf, h, p, q);

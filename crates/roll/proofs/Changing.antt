@@ -52,9 +52,6 @@ module _ (r : Roll) (buf : List ℕ) (long : length (r .table .places) ≡ 256) 
   pub start-room : startAt (lengthsOf r buf) j ≤ room (r .table .code .k) (length buf)
   start-room = omega (arith, tail-is, s .fits)
 
-  pub start-within : startAt (lengthsOf r buf) j ≤ r .h
-  start-within = omega (arith, tail-is)
-
 module _ {r : Roll} {lengths words buf dir text : List ℕ} {start end first last left : ℕ} (m : Measured r lengths words buf dir text start end first last left) where
   abbrev c : Code
   c = r .table .code

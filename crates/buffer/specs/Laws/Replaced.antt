@@ -22,7 +22,7 @@ use Rattle.symbols.specs.Laws.Rows.{room-row}
 use Rattle.buffer.specs.Roll.{symbolsFor, textRow, textOf, Sound}
 use Rattle.buffer.specs.Directory.{entries, sum, startAt, directoryOf, lengthsOf, lengthsFor}
 use Rattle.buffer.specs.Words.{rowOf}
-use Rattle.buffer.specs.Editing.{inPlace, bytesAfter, directoryAfter, replacedRow, Replaces, changedUpto, Replaceable}
+use Rattle.buffer.specs.Editing.{inPlace, bytesAfter, directoryAfter, replacedRow, replacedBytes, Replaces, changedUpto, Replaceable}
 use Rattle.buffer.specs.Laws.Characters.{characters-few, foreign-known}
 use Rattle.buffer.specs.Laws.Texts.{length-parts, length-up}
 use Rattle.buffer.specs.Laws.Sound.{text-length}
@@ -157,7 +157,7 @@ module _ (r : Roll) (lengths words buf dir : List ℕ) (x : Run) (text : List �
       }
 
   pub bytes-after : {after : List ℕ}
-      → after ≡ inPlace (bytesFor (c .k) (r .h)) (bytesOf (c .k) (replacedRow (c .k) buf (r .h) (x .first) (x .last) (rowOf lengths words text))) buf
+      → after ≡ replacedBytes (c .k) lengths words text buf (r .h) (x .first) (x .last)
       → after ≡ bytesAfter r E buf
   unfolding replacedRow
   bytes-after e =

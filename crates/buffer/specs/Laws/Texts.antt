@@ -55,10 +55,6 @@ module _ (c : Code) (l : List ℕ) where
     pub text-drop : drop (length (textRow c l (take i text))) (textRow c l text) ≡ textRow c l (drop i text)
     text-drop = ap (drop (length (textRow c l (take i text)))) text-parts ∙ drop-append-seam (textRow c l (take i text)) (textRow c l (drop i text))
 
-  pub text-one : (b : ℕ) → length (textRow c l (b ∷ [])) ≡ lengthOf c (rankIn l b)
-  unfolding lengthOf
-  text-one b = ap length (text-cons b []) ∙ simp (length-append, text-none) (omega arith)
-
   pub length-none : length (textRow c l []) ≡ 0
   length-none = ap length text-none
 

@@ -3,10 +3,9 @@
 use mathlib.Core.Path.{_≡_, refl, sym, ap, _∙_}
 use mathlib.Core.Logic.{inl}
 use mathlib.Core.List.{List, [], _++_}
-use Prim.Native.Nat.{ℕ, zero, suc, _/_, _≤_}
-use native.Mathlib.Decide.{decLt}
+use Prim.Native.Nat.{ℕ, _≤_}
 use native.Mathlib.Omega.{arith}
-use borrow.Author.Tests.{lt-ltb, le-ltb, eq-eqb}
+use borrow.Author.Tests.{le-ltb, eq-eqb}
 use lib.Dec.{T}
 use lib.ListN.{length, take, drop, length-append}
 use lib.Seq.{take-at, take-all}
@@ -40,8 +39,8 @@ use Rattle.roll.specs.Laws.Accepting.{accepted-packs}
 use Rattle.roll.specs.Laws.Meaning.{packing-sound}
 use Rattle.roll.specs.Laws.Operations.{search-yes}
 use Rattle.roll.specs.declared.pack.Packed.{Packed}
-use Rattle.report.specs.Report.{decimalIn, decimal, bestWord, symbolsWord, hitsWord, bestLine, hitsLine, refusedLine, linesOf, ownTable, linesFor, answered, answerFor}
-use Rattle.report.specs.Laws.Written.{hex-length, numbers-few}
+use Rattle.report.specs.Report.{bestWord, symbolsWord, hitsWord, bestLine, hitsLine, refusedLine, linesOf, ownTable, linesFor, answered, answerFor}
+use Rattle.report.specs.Laws.Written.{decimal-most, hex-length, numbers-few}
 
 module _ (text : List ℕ) (short : length text ≤ 16384) where
   -- the counts are the text's
@@ -142,25 +141,11 @@ module _ (pattern text : List ℕ) (short : length text ≤ 16384) (good : T (go
 
 -- ---- how long the answer is
 
--- no number has more digits than there are places for
-digits : (places n : ℕ) → length (decimalIn places n) ≤ places
-unfolding decimalIn
-digits zero n = omega arith
-digits (suc places) n =
-    elim (decLt n 10) [
-      | yes h ↦ rw (lt-ltb n 10 h) (omega arith)
-      | no h ↦ rw (le-ltb n 10 (omega arith)) (simp length-append (omega (arith, digits places (n / 10))))
-    ]
-
-digits-few : (n : ℕ) → length (decimal n) ≤ 20
-unfolding decimal
-digits-few n = digits 20 n
-
 lines-few : (s h : ℕ) (bytes found : List ℕ) → length bytes ≤ 16384 → length found ≤ 16384 → Below 100000 found
     → length (linesOf s h bytes found) ≤ 147456
 unfolding linesOf bestLine hitsLine bestWord symbolsWord hitsWord
 lines-few s h bytes found c d e =
-    simp length-append (omega (arith, digits-few s, digits-few h, digits-few (length found), hex-length bytes, numbers-few e))
+    simp length-append (omega (arith, decimal-most s, decimal-most h, decimal-most (length found), hex-length bytes, numbers-few e))
 
 hits-below : (pattern text : List ℕ) → length text ≤ 16384 → Below 100000 (hits pattern text)
 hits-below pattern text short = below-from 100000 (hits pattern text) (λ x m. omega (arith, hit-is pattern text x .0 m .0))

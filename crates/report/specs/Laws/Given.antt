@@ -17,24 +17,6 @@ use Rattle.report.specs.Laws.Answer.{report-11, report-4}
 
 -- ---- how long they are
 
-pub pattern-short : (input : List ℕ) → length (givenPattern input) ≤ length input
-unfolding givenPattern
-pattern-short [] = omega arith
-pattern-short (b ∷ input) = go (eqb b 10) (pattern-short input)
-  where
-    go : (t : Bool) → length (givenPattern input) ≤ length input → length (cond t [] (b ∷ givenPattern input)) ≤ suc (length input)
-    go true h = omega arith
-    go false h = omega arith
-
-pub text-short : (input : List ℕ) → length (givenText input) ≤ length input
-unfolding givenText
-text-short [] = omega arith
-text-short (b ∷ input) = go (eqb b 10) (text-short input)
-  where
-    go : (t : Bool) → length (givenText input) ≤ length input → length (cond t input (givenText input)) ≤ suc (length input)
-    go true h = omega arith
-    go false h = omega arith
-
 -- together, the byte 10 between them counted: all of the input, unless it is all pattern
 pub given-whole : (input : List ℕ) → length (givenPattern input) < length input
     → suc (length (givenPattern input) + length (givenText input)) ≡ length input

@@ -1,13 +1,12 @@
 -- The input at its first byte 10: the pattern before it, the text behind it.
 -- Assumes nothing.
-use mathlib.Core.Path.{_≡_, refl, sym, ap, _∙_}
+use mathlib.Core.Path.{_≡_, refl, ap, _∙_}
 use mathlib.Core.Logic.{_≢_}
 use mathlib.Core.List.{List, [], _∷_}
-use Prim.Native.Nat.{ℕ, zero, suc, _+_, _≤_, _<_}
+use Prim.Native.Nat.{ℕ, suc, _+_, _≤_, _<_}
 use native.Mathlib.Decide.{ℕ-discrete, decLt}
 use native.Mathlib.Omega.{arith}
 use borrow.Author.Tests.{eq-eqb, ne-eqb, lt-ltb, le-ltb}
-use lib.Dec.{ltb}
 use lib.ListN.{length, take, drop, getD, drop-of-length-le}
 use lib.Seq.{drop-cons}
 use Rattle.report.specs.Report.{givenPattern, givenText, startOfText}
@@ -43,14 +42,6 @@ unfolding startOfText
 start-first long = rw (lt-ltb 0 (suc long) (omega arith))
 
 -- ---- the parts of the input
-
-pub pattern-within : (input : List ℕ) → length (givenPattern input) ≤ length input
-unfolding givenPattern
-pattern-within [] = omega arith
-pattern-within (b ∷ input) = elim (ℕ-discrete b 10) [
-  | yes e ↦ rw (pattern-here b input e) (omega arith)
-  | no e ↦ rw (pattern-later b input e) (omega (arith, pattern-within input))
-]
 
 -- the pattern is what stands before its end
 pub pattern-take : (input : List ℕ) → take (length (givenPattern input)) input ≡ givenPattern input

@@ -5,6 +5,7 @@ use mathlib.Core.Path.{_≡_, refl, sym, ap, _∙_}
 use mathlib.Core.List.{List, [], _∷_, _++_, append-assoc, append-nil}
 use Prim.Native.Nat.{ℕ, zero, suc, _+_, _*_, _/_, _%_, _^_, _≤_, _<_}
 use native.Mathlib.Nat.{add-zero, zero-add, not-suc-le-zero, pow-suc}
+use native.Mathlib.Decide.{decLt}
 use native.Mathlib.Numerals.{add-one}
 use native.Mathlib.Omega.{arith}
 use borrow.Author.Tests.{lt-ltb, le-ltb, ltb-true, ltb-false, eq-eqb, ne-eqb, eqb-true, eqb-false}
@@ -188,6 +189,20 @@ pub decimal-few : (n k : ℕ) → 0 < k → k ≤ 20 → n < 10 ^ k → length (
 unfolding decimal
 decimal-few n k h l m = few 20 n k h m
 
+-- and no number has more digits than there are places for
+most : (places n : ℕ) → length (decimalIn places n) ≤ places
+unfolding decimalIn
+most zero n = omega arith
+most (suc places) n =
+    elim (decLt n 10) [
+      | yes h ↦ rw (small-in places n h) (omega arith)
+      | no h ↦ rw (large-in places n (omega arith), length-append) (omega (arith, most places (n / 10)))
+    ]
+
+pub decimal-most : (n : ℕ) → length (decimal n) ≤ 20
+unfolding decimal
+decimal-most n = most 20 n
+
 hex-from-length : (i : ℕ) (bytes : List ℕ) → i < 32 → length (hexFrom i bytes) ≤ 2 * length bytes + ((length bytes + i) / 32 + 1)
 unfolding hexFrom
 hex-from-length zero [] h = omega arith
@@ -213,13 +228,9 @@ numbers-few none = omega arith
 numbers-few (also {x} {xs} a b) =
     rw length-append (omega (arith, decimal-few x 5 (omega arith) (omega arith) a, numbers-few b))
 
--- two numbers of 64 bits have at most 20 digits each
-pub refused-few : (number value : ℕ) → number < 2 ^ 64 → value < 2 ^ 64 → length (refusedLine number value) ≤ 50
+pub refused-few : (number value : ℕ) → length (refusedLine number value) ≤ 50
 unfolding refusedLine refusedWord
-refused-few number value h l =
-    let a = decimal-few number 20 (omega arith) (omega arith) (omega arith) in
-    let b = decimal-few value 20 (omega arith) (omega arith) (omega arith) in
-    simp length-append (omega arith)
+refused-few number value = simp length-append (omega (arith, decimal-most number, decimal-most value))
 
 -- ---- the lines, part by part
 

@@ -81,16 +81,6 @@ module _ {k : ℕ} (w : Width k) where
       sym (number-ext (2 ^ k) _ _ (per k) (λ t ht. symbols-in w bs j t ht)
       ∙ byte-back (getD bs j 0) (getD-below h (pow-pos 8) j))
 
-  -- the symbols of byte j settle it
-  pub byte-agree : {xs ys : List ℕ} → Below 256 xs → Below 256 ys → (j : ℕ)
-      → ((i : ℕ) → j * per k ≤ i → i < (j + 1) * per k → getD (symbolsOf k xs) i 0 ≡ getD (symbolsOf k ys) i 0)
-      → getD xs j 0 ≡ getD ys j 0
-  unfolding byteAt
-  byte-agree {xs} {ys} hx hy j same =
-      byte-is hx j
-      ∙ number-ext (2 ^ k) _ _ (per k) (λ t ht. same (j * per k + t) (omega arith) (omega arith))
-      ∙ sym (byte-is hy j)
-
   -- ---- a row packed
 
   pub bytes-length : (xs : List ℕ) → length (bytesOf k xs) ≡ bytesFor k (length xs)

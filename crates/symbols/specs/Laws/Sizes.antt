@@ -68,9 +68,5 @@ room-full k n h = room-by k n (λ r. r ≡ limit) (λ l. refl) (λ l. omega arit
 pub room-all : (k n : ℕ) → n * per k < limit → room k n ≡ n * per k
 room-all k n h = room-by k n (λ r. r ≡ n * per k) (λ l. omega arith) (λ l. refl)
 
--- what is within both is within the room
-pub room-most : (k n h : ℕ) → h ≤ limit → h ≤ n * per k → h ≤ room k n
-room-most k n h a b = room-by k n (λ r. h ≤ r) (λ l. a) (λ l. b)
-
 pub room-bytes : {k : ℕ} → Width k → (h n : ℕ) → h ≤ room k n → bytesFor k h ≤ n
 room-bytes {k} w h n l = bytesFor-within w h n (le-trans l (room-within k n))

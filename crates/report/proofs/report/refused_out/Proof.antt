@@ -14,7 +14,7 @@ abbrev line : tie.Start → List ℕ
 line s = refusedLine (s .args .number) (s .args .value)
 
 room : (s : tie.Start) → 0 + length (line s) ≤ length (s .args .out .now)
-room s = omega (arith, s .pre, refused-few (s .args .number) (s .args .value) (omega (arith, s .fits .number)) (omega (arith, s .fits .value)))
+room s = omega (arith, s .pre, refused-few (s .args .number) (s .args .value))
 
 -- what is put at a place
 abbrev Put : tie.Start → List ℕ → ℕ → List ℕ → Type 0
