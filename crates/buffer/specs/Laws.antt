@@ -1,10 +1,12 @@
--- The laws, by subject: characters and texts under a table, codewords in a row, a sound roll, what it holds, the directory, and hits.
+-- The laws, by subject: characters and texts under a table, codewords in a row, a sound roll, where codewords end, what it holds, the directory, and hits.
 -- Words and Finding are what this crate's functions cite.
 pub mod Characters
 pub mod Texts
 pub mod Reading
 pub mod Codewords
 pub mod Sound
+pub mod Ends
+pub mod Stops
 pub mod Holding
 pub mod Directory
 pub mod Hits

@@ -1,7 +1,7 @@
 // The directory of a sound roll: written from a character on, compared, gone by, and cleared behind its end.
-use crate::reading::Found;
+use crate::ends::pass_ends;
+use crate::ends::stops_by_byte;
 use crate::reading::Passed;
-use crate::reading::codeword_at;
 use crate::reading::pass_over;
 use crate::roll::Roll;
 ghost use mathlib.Core.Path.{_≡_};
@@ -27,20 +27,16 @@ pub fn mend(roll: Roll, buf: &[u8], dir: &mut [u32], from: usize, upto: usize, f
 {
     let table = roll.table;
     let code = table.code;
-    let sigma = table.sigma as u32;
-    let h = roll.h as usize;
+    let stops = stops_by_byte(code);
+    let last = entries_for(upto as u32);
     let mut p = first;
     let mut j = from;
-    while j < upto {
-        if j % 32 == 0 {
-            dir[j / 32] = p as u32;
-        }
-        let found = codeword_at(code, sigma, buf, h, p);
-        let Found::Word(_, next) = found else {
-            return;
-        };
-        p = next;
-        j += 1;
+    let mut e = entries_for(from as u32);
+    while e < last {
+        p = pass_ends(code, &stops, buf, p, e * 32 - j);
+        j = e * 32;
+        dir[e] = p as u32;
+        e += 1;
     }
 }
 
@@ -59,28 +55,23 @@ pub fn first_wrong(roll: Roll, buf: &[u8], dir: &[u32]) -> usize
 {
     let table = roll.table;
     let code = table.code;
-    let sigma = table.sigma as u32;
-    let h = roll.h as usize;
-    let n = roll.n as usize;
+    let stops = stops_by_byte(code);
+    let last = entries_for(roll.n);
     let mut p: usize = 0;
     let mut j: usize = 0;
-    while j < n {
-        if j % 32 == 0 {
-            if dir.len() <= j / 32 {
-                return j / 32;
-            }
-            if dir[j / 32] as usize != p {
-                return j / 32;
-            }
+    let mut e: usize = 0;
+    while e < last {
+        if dir.len() <= e {
+            return e;
         }
-        let found = codeword_at(code, sigma, buf, h, p);
-        let Found::Word(_, next) = found else {
-            return j / 32;
-        };
-        p = next;
-        j += 1;
+        p = pass_ends(code, &stops, buf, p, e * 32 - j);
+        j = e * 32;
+        if dir[e] as usize != p {
+            return e;
+        }
+        e += 1;
     }
-    entries_for(roll.n)
+    last
 }
 
 // The first symbol of character j, or the roll's end for j = n.

@@ -1,6 +1,5 @@
 // The places of a sound roll where a pattern stands.
-use crate::reading::Found;
-use crate::reading::codeword_at;
+use crate::ends::end_at;
 use crate::roll::Roll;
 use stopper::code::Code;
 use stopper::table::ranks_of;
@@ -50,7 +49,6 @@ fn list_hits(roll: Roll, buf: &[u8], symbols: &[u8], slice: &mut [u32]) -> u32
 {
     let table = roll.table;
     let code = table.code;
-    let sigma = table.sigma as u32;
     let k = code.k;
     let n = roll.n;
     let h = roll.h as usize;
@@ -58,10 +56,7 @@ fn list_hits(roll: Roll, buf: &[u8], symbols: &[u8], slice: &mut [u32]) -> u32
     let mut p: usize = 0;
     let mut i: u32 = 0;
     while i < n {
-        let found = codeword_at(code, sigma, buf, h, p);
-        let Found::Word(_, next) = found else {
-            return total;
-        };
+        let next = end_at(code, buf, p);
         let mut j: usize = 0;
         let same = loop {
             if j == symbols.len() {

@@ -2,6 +2,7 @@
 // Read roll.rt (the record), reading.rt (codewords where they lie) and words.rt (a text's codewords); then, on a sound roll, range.rt,
 // directory.rt, finding.rt and replace.rt.
 pub mod directory;
+pub mod ends;
 pub mod finding;
 pub mod range;
 pub mod reading;

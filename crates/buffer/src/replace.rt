@@ -2,8 +2,7 @@
 use crate::directory::clear_entries;
 use crate::directory::entries_for;
 use crate::directory::mend;
-use crate::reading::Found;
-use crate::reading::codeword_at;
+use crate::ends::end_at;
 use crate::roll::Roll;
 use crate::words::write_text;
 use symbols::run::clear;
@@ -25,17 +24,12 @@ pub fn first_over(roll: Roll, buf: &[u8], from: usize, first: usize, room: usize
 {
     let table = roll.table;
     let code = table.code;
-    let sigma = table.sigma as u32;
-    let h = roll.h as usize;
     let n = roll.n as usize;
     let mut left = room;
     let mut p = first;
     let mut j = from;
     while j < n {
-        let found = codeword_at(code, sigma, buf, h, p);
-        let Found::Word(_, next) = found else {
-            return j;
-        };
+        let next = end_at(code, buf, p);
         if left < next - p {
             return j;
         }

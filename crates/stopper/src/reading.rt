@@ -38,7 +38,7 @@ pub fn opening() -> Reader
     }
 }
 
-fn next_place(place: u32) -> u32
+pub fn next_place(place: u32) -> u32
     ensures { λ r. ⌜ r ≡ nearer place ⌝ }
 {
     if place < 2 { place + 1 } else { 2 }

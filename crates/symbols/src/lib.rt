@@ -4,7 +4,7 @@
 //     run::clear, up, down              a run of symbols
 //     size::bytes_for, unused, room_of  bytes for symbols, symbols for bytes
 // and each contract is an equation of that row, or of those sizes. The other modules are what these are made of.
-mod bits;
+pub mod bits;
 mod each;
 pub mod run;
 pub mod size;

@@ -41,20 +41,6 @@ module _ (j : ℕ) where
   unfolding entries
   entries-behind i = omega arith
 
-  -- character j has an entry of its own, or none
-  module _ (e : j % 32 ≡ 0) where
-    pub entries-at : entries j ≡ j / 32
-    unfolding entries
-    entries-at = omega arith
-
-    pub entries-next : entries (j + 1) ≡ j / 32 + 1
-    unfolding entries
-    entries-next = omega arith
-
-  pub entries-same : (j % 32 ≡ 0 → ⊥) → entries (j + 1) ≡ entries j
-  unfolding entries
-  entries-same e = omega arith
-
 -- ---- the entries
 
 pub directory-length : (lengths : List ℕ) → length (directoryOf lengths) ≡ entries (length lengths)

@@ -120,10 +120,10 @@ some-known c l p n =
 
 -- ---- the numbers that pass are the hits
 
-passing-same : {f g : ℕ → Bool} → ((i : ℕ) → f i ≡ g i) → (n : ℕ) → passing f n ≡ passing g n
+pub passing-same : {f g : ℕ → Bool} (n : ℕ) → ((i : ℕ) → i < n → f i ≡ g i) → passing f n ≡ passing g n
 unfolding passing
-passing-same e zero = refl
-passing-same e (suc n) = rw (e n, passing-same e n)
+passing-same zero e = refl
+passing-same (suc n) e = rw (e n (omega arith), passing-same n (λ i h. e i (omega arith)))
 
 passing-hits : (p whole t : List ℕ) (i : ℕ) → drop i whole ≡ t
     → passing (λ j. stands p (drop j whole)) (i + length t) ≡ passing (λ j. stands p (drop j whole)) i ++ hitsFrom p i t
@@ -155,7 +155,7 @@ module _ (r : Roll) (buf : List ℕ) (long : length (r .table .places) ≡ 256) 
   word-hits e =
       let l : List ℕ = characters (r .table) in
       let t : List ℕ = textOf r buf in
-      passing-same (hit-rank r buf long s (foreign-known l p e)) _
+      passing-same _ (λ i _. hit-rank r buf long s (foreign-known l p e) i)
       ∙ ap (passing (λ j. stands p (drop j t))) (ap length (sound-ranked r buf long s) ∙ length-map t (rankIn l))
       ∙ passing-all p t
 

@@ -4,20 +4,25 @@ use mathlib.Core.Path.{_≡_, refl, sym, ap, ap₂, _∙_}
 use mathlib.Core.Logic.{_≢_}
 use mathlib.Core.List.{List, [], _∷_, _++_, append-assoc}
 use Prim.Native.Nat.{ℕ, zero, suc, _+_, _-_, _*_, _≤_, _<_}
-use native.Mathlib.Nat.{sub-self, zero-add, add-zero, suc-add}
+use native.Mathlib.Nat.{le-refl, sub-self, zero-add, add-zero, suc-add}
 use native.Mathlib.Numerals.{add-one}
 use native.Mathlib.Decide.{ℕ-discrete}
 use native.Mathlib.Omega.{arith}
 use borrow.Author.Tests.{eq-eqb, ne-eqb}
 use lib.ListN.{length, take, drop, getD, set, length-drop, take-append-drop, drop-of-length-le}
 use lib.Seq.{take-all, take-take, take-add, take-suc, take-append-seam, drop-cons, drop-drop, drop-length, drop-append-le, drop-append-add, getD-take, getD-drop, length-take-le, ext-getD}
-use Rattle.ground.specs.Rows.{zeros}
+use Rattle.ground.specs.Rows.{tab, zeros}
+use Rattle.ground.specs.Laws.Rows.{tab-at, tab-ext}
+use Rattle.stopper.specs.declared.code.Code.{Code}
 use Rattle.symbols.specs.Runs.{over, run}
-use Rattle.symbols.specs.Laws.Runs.{over-none, over-length, over-more, run-length}
+use Rattle.symbols.specs.Laws.Runs.{over-none, over-length, over-more, run-length, run-slice}
 use Rattle.buffer.specs.Directory.{entries, sum, startAt, directoryOf, lengthsOf, firstWrong, Right}
 use Rattle.buffer.specs.Editing.{inPlace}
-use Rattle.buffer.specs.Roll.{Sound}
-use Rattle.buffer.specs.Laws.Directory.{entries-upto, entries-before, entries-behind, directory-length, directory-at, sound-entries}
+use Rattle.buffer.specs.Ends.{Ending, endFrom}
+use Rattle.buffer.specs.Roll.{reading, ranksRead, Sound}
+use Rattle.buffer.specs.Laws.Codewords.{startOf}
+use Rattle.buffer.specs.Laws.Ends.{sound-end, sound-ends, sound-ending}
+use Rattle.buffer.specs.Laws.Directory.{entries-upto, entries-before, entries-behind, directory-length, directory-at, entry-at, sound-entries}
 use Rattle.buffer.specs.declared.roll.Roll.{Roll}
 
 -- ---- a run of a row laid over the same places of another
@@ -50,6 +55,52 @@ module _ (row wanted : List ℕ) (from to : ℕ) (h : from ≤ to) where
 -- all of it, from the first place on
 pub laid-whole : (row wanted : List ℕ) (n : ℕ) → length wanted ≡ n → laid row wanted 0 n ≡ wanted ++ drop n row
 laid-whole row wanted n e = ap (λ (xs : List ℕ). xs ++ drop n row) (take-all (n - 0) wanted (omega arith))
+
+-- ---- the entries of a sound roll, by the stoppers alone
+
+-- n of them
+abbrev pub byStops : Code → List ℕ → ℕ → List ℕ
+byStops c buf n = tab (λ i. endFrom c buf 0 (i * 32)) 0 n
+
+pub stops-entry : (c : Code) (buf : List ℕ) (n i : ℕ) → i < n → getD (byStops c buf n) i 0 ≡ endFrom c buf 0 (i * 32)
+stops-entry c buf n i h = tab-at _ n i h
+
+module _ (r : Roll) (buf : List ℕ) (s : Sound r buf) where
+  abbrev wanted : List ℕ
+  wanted = directoryOf (lengthsOf r buf)
+
+  pub stops-entries : (n : ℕ) → n ≤ r .n → take (entries n) wanted ≡ byStops (r .table .code) buf (entries n)
+  unfolding lengthsOf
+  stops-entries n h =
+      let l = entries-upto n h in
+      tab-ext _ (entries n) (take (entries n) wanted) (length-take-le (entries n) wanted (omega (arith, l, sound-entries r buf s)))
+      (λ i k. getD-take (entries n) wanted i 0 k
+      ∙ entry-at (r .table .code) (ranksRead (reading r buf)) i (rw (s .count) (omega arith))
+      ∙ sym (sound-end r buf s (i * 32) (omega (arith, entries-before n k))))
+
+  -- written up to character n, all of them
+  pub stops-laid : (row : List ℕ) (from n : ℕ) → n ≤ r .n → laid row (byStops (r .table .code) buf (entries n)) from (entries n) ≡ laid row wanted from (entries n)
+  stops-laid row from n h =
+      let m = entries n in
+      let e : run (take m wanted) from m ≡ run wanted from m
+      = run-slice (take m wanted) from m ∙ ap (drop from) (take-take m m wanted (le-refl m)) ∙ sym (run-slice wanted from m) in
+      ap (λ (xs : List ℕ). over row from xs m) (ap (λ (xs : List ℕ). run xs from m) (sym (stops-entries n h)) ∙ e)
+
+  pub stops-directory : byStops (r .table .code) buf (entries (r .n)) ≡ wanted
+  stops-directory = sym (stops-entries (r .n) (le-refl (r .n))) ∙ take-all (entries (r .n)) wanted (omega (arith, sound-entries r buf s))
+
+  -- from character j on to that of entry e
+  module _ (j e : ℕ) (h : j ≤ e * 32) (k : e * 32 ≤ r .n) where
+    pub entry-ending : Ending (r .table .code) buf (endFrom (r .table .code) buf 0 j) (e * 32 - j)
+    entry-ending = rw (sound-end r buf s j (omega arith)) (sound-ending r buf s j (e * 32 - j) (omega arith))
+
+    pub entry-ends : endFrom (r .table .code) buf (endFrom (r .table .code) buf 0 j) (e * 32 - j) ≡ endFrom (r .table .code) buf 0 (e * 32)
+    entry-ends =
+        let up : j + (e * 32 - j) ≡ e * 32 = omega arith in
+        rw (sound-end r buf s j (omega arith))
+        (sound-ends r buf s j (e * 32 - j) (omega arith)
+        ∙ ap (startOf (r .table .code) (ranksRead (reading r buf))) up
+        ∙ sym (sound-end r buf s (e * 32) k))
 
 -- ---- the first wrong entry
 

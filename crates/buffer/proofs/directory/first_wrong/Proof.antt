@@ -1,185 +1,159 @@
--- `buffer::directory::first_wrong` meets its contract: before character j the symbol is where its codeword starts, and the entries of
--- the characters before it are right.
+-- `buffer::directory::first_wrong` meets its contract: before entry e the symbol is where the codeword of character j starts, and the
+-- entries before it are right.
 -- Assumes nothing.
-use mathlib.Core.Path.{_≡_, refl, sym, ap, _∙_}
-use mathlib.Core.Logic.{⊎-elim}
+use mathlib.Core.Path.{_≡_, refl, sym, ap, subst, _∙_}
 use mathlib.Core.List.{List}
-use Prim.Native.Nat.{ℕ, suc, _+_, _-_, _*_, _/_, _≤_, _<_}
-use native.Mathlib.Numerals.{add-one}
+use Prim.Native.Nat.{ℕ, _-_, _*_, _≤_, _<_}
 use native.Mathlib.Omega.{arith}
 use borrow.Author.Needs.{needs}
 use lib.ListN.{length, take, getD}
-use Rattle.buffer.specs.Roll.{rowUpto, reading, ranksRead}
-use Rattle.buffer.specs.Codewords.{foundAt}
-use Rattle.buffer.specs.Directory.{entries, directoryOf, lengthsOf}
-use Rattle.buffer.specs.Laws.Codewords.{startOf, start-first}
-use Rattle.buffer.specs.Laws.Sound.{sound-reads, sound-found, sound-start}
-use Rattle.buffer.specs.Laws.Directory.{entries-inside, entries-at, entries-next, entries-same, entry-at, sound-entries}
-use Rattle.buffer.specs.Laws.Mending.{wrong-none, wrong-missing, wrong-differs, agree-more}
-use Rattle.buffer.specs.declared.reading.Found.the-variants.{Word, Bad}
+use Rattle.ground.specs.Laws.Rows.{length-tab}
+use Rattle.stopper.specs.Laws.Table.{table-code}
+use Rattle.buffer.specs.Directory.{entries, directoryOf, lengthsOf, firstWrong}
+use Rattle.buffer.specs.Ends.{endOf, Ending, endFrom}
+use Rattle.buffer.specs.Laws.Directory.{entries-before}
+use Rattle.buffer.specs.Laws.Mending.{byStops, stops-entry, stops-directory, entry-ending, entry-ends, wrong-none, wrong-missing, wrong-differs, agree-more}
 use Rattle.buffer.proofs.directory.first_wrong.Statement.{statement}
 use Rattle.buffer.proofs.directory.first_wrong.Tie as tie
 
 abbrev Inv-loop : tie.InvT-loop
-Inv-loop roll buf dir code sigma h n p₀ j₀ p j =
-    (j ≤ roll .n)
-    × (p ≡ startOf (roll .table .code) (ranksRead (reading roll buf)) j)
-    × (take (entries j) dir ≡ take (entries j) (directoryOf (lengthsOf roll buf)))
+Inv-loop buf dir code stops last p₀ j₀ e₀ p j e =
+    (e ≤ last)
+    × (j ≤ e * 32)
+    × (p ≡ endFrom code buf 0 j)
+    × (take e dir ≡ take e (byStops code buf last))
 
 abbrev μ-loop : tie.MeasureT-loop
-μ-loop roll buf dir code sigma h n p₀ j₀ p j = roll .n - j
+μ-loop buf dir code stops last p₀ j₀ e₀ p j e = last - e
 
 -- the way back from a place
 abbrev entered : tie.At-loop Inv-loop μ-loop → tie.Start Inv-loop μ-loop
-entered c = c .before .before .before .before .before .before .before .before
+entered l = l .before .before .before .before .before .before .before
 
-abbrev rs : tie.Start Inv-loop μ-loop → List ℕ
-rs s = ranksRead (reading (s .args .roll) (s .args .buf .now))
+abbrev last : tie.At-loop Inv-loop μ-loop → ℕ
+last l = l .before .entries-for .result
 
-abbrev all : tie.Start Inv-loop μ-loop → List ℕ
-all s = directoryOf (lengthsOf (s .args .roll) (s .args .buf .now))
+abbrev wanted : tie.At-loop Inv-loop μ-loop → List ℕ
+wanted l = byStops (entered l .args .roll .table .code) (entered l .args .buf .now) (last l)
 
-long : (s : tie.Start Inv-loop μ-loop) → length (all s) ≡ entries (s .args .roll .n)
-long s = sound-entries (s .args .roll) (s .args .buf .now) (s .pre)
+last-is : (l : tie.At-loop Inv-loop μ-loop) → last l ≡ entries (entered l .args .roll .n)
+last-is l = l .before .entries-for .ensures
 
--- the entry of character j
-wanted : (c : tie.In-loop Inv-loop μ-loop) → c .before .loop .j / 32 < length (all (entered (c .before)))
-wanted c = omega (arith, entries-inside (c .before .loop .j) (c .loop-test .taken), long (entered (c .before)))
+long : (l : tie.At-loop Inv-loop μ-loop) → length (wanted l) ≡ last l
+long l = length-tab _ 0 (last l)
 
-agrees : (c : tie.Then1 Inv-loop μ-loop) → let l = c .before .before in let s = entered l in
-    take (l .loop .j / 32) (s .args .dir .now) ≡ take (l .loop .j / 32) (all s)
-agrees c = let l = c .before .before in rw (entries-at (l .loop .j) (c .if1 .taken)) at (l .loop .inv .2)
+-- the answer, of the directory
+answer : (l : tie.At-loop Inv-loop μ-loop) (i : ℕ) → let a = entered l .args in
+    firstWrong (wanted l) (a .dir .now) ≡ i → i ≡ firstWrong (directoryOf (lengthsOf (a .roll) (a .buf .now))) (a .dir .now)
+answer l i e =
+    let s = entered l in
+    let a = s .args in
+    sym e
+    ∙ ap (λ (n : ℕ). firstWrong (byStops (a .roll .table .code) (a .buf .now) n) (a .dir .now)) (last-is l)
+    ∙ ap (λ (w : List ℕ). firstWrong w (a .dir .now)) (stops-directory (a .roll) (a .buf .now) (s .pre))
 
-entry-is : (c : tie.Then1 Inv-loop μ-loop) → let l = c .before .before in getD (all (entered l)) (l .loop .j / 32) 0 ≡ l .loop .p
-unfolding lengthsOf
+-- entry e is that of a character of the roll
+inside : (c : tie.In-loop Inv-loop μ-loop) → c .before .loop .e * 32 < entered (c .before) .args .roll .n
+inside c = entries-before (entered (c .before) .args .roll .n) (omega (arith, c .loop-test .taken, last-is (c .before)))
+
+small : (c : tie.In-loop Inv-loop μ-loop) → c .before .loop .e < length (wanted (c .before))
+small c = omega (arith, c .loop-test .taken, long (c .before))
+
+-- its first symbol
+passed : (c : tie.After-pass-ends Inv-loop μ-loop) → let l = c .before .before .before .before in let a = entered l .args in
+    c .pass-ends .result ≡ endFrom (a .roll .table .code) (a .buf .now) 0 (l .loop .e * 32)
+passed c =
+    let n = c .before .before .before in
+    let l = n .before in
+    let s = entered l in
+    c .pass-ends .ensures
+    ∙ ap (λ (p : ℕ). endFrom (s .args .roll .table .code) (s .args .buf .now) p (l .loop .e * 32 - l .loop .j)) (l .loop .inv .2)
+    ∙ entry-ends (s .args .roll) (s .args .buf .now) (s .pre) (l .loop .j) (l .loop .e) (l .loop .inv .1) (omega (arith, inside n))
+
+entry-is : (c : tie.After-pass-ends Inv-loop μ-loop) → let l = c .before .before .before .before in getD (wanted l) (l .loop .e) 0 ≡ c .pass-ends .result
 entry-is c =
-    let n = c .before in
+    let n = c .before .before .before in
     let l = n .before in
-    let s = entered l in
-    let e : l .loop .j / 32 * 32 ≡ l .loop .j = omega (arith, c .if1 .taken) in
-    entry-at (s .args .roll .table .code) (rs s) (l .loop .j / 32) (rw (s .pre .count) (entries-inside (l .loop .j) (n .loop-test .taken)))
-    ∙ ap (startOf (s .args .roll .table .code) (rs s)) e
-    ∙ sym (l .loop .inv .1)
+    stops-entry (entered l .args .roll .table .code) (entered l .args .buf .now) (last l) (l .loop .e) (n .loop-test .taken) ∙ sym (passed c)
 
--- it is right, or character j has none
-more : (c : tie.Else3 Inv-loop μ-loop) → let t = c .before .before .before in let l = t .before .before in let s = entered l in
-    take (entries (l .loop .j + 1)) (s .args .dir .now) ≡ take (entries (l .loop .j + 1)) (all s)
-more c =
-    let b = c .before .before in
-    let t = b .before in
-    let l = t .before .before in
-    let s = entered l in
-    rw (entries-next (l .loop .j) (t .if1 .taken))
-    (agree-more (all s) (s .args .dir .now) (l .loop .j / 32) (agrees t) (wanted (t .before)) (b .if2 .left) (c .if3 .left ∙ sym (entry-is t)))
-
-agreed : (c : tie.Joined1 Inv-loop μ-loop) → let l = c .before .before in let s = entered l in
-    take (entries (l .loop .j + 1)) (s .args .dir .now) ≡ take (entries (l .loop .j + 1)) (all s)
-agreed c =
-    let l = c .before .before in
-    ⊎-elim
-    (λ w. more
-    (record {
-      before = record { before = record { before = record { before = c .before; if1 = w .0 }; if2 = w .1 }; shared-slice-known3 = w .2 };
-      if3 = w .3;
-    }))
-    (λ w. rw (entries-same (l .loop .j) (w .left)) (l .loop .inv .2))
-    (c .if1 .came)
-
--- the codeword of character j
-found-is : (c : tie.After-codeword-at Inv-loop μ-loop) → let n = c .before .before in let s = entered (n .before) in
-    c .codeword-at .result ≡ Word (getD (rs s) (n .before .loop .j) 0) (startOf (s .args .roll .table .code) (rs s) (suc (n .before .loop .j)))
-found-is c =
-    let n = c .before .before in
-    let l = n .before in
-    let s = entered l in
-    c .codeword-at .ensures
-    ∙ ap (foundAt (s .args .roll .table .code) (s .args .roll .table .sigma) (rowUpto (s .args .roll .table .code) (s .args .roll .h) (s .args .buf .now))) (l .loop .inv .1)
-    ∙ sound-found (s .args .roll) (s .args .buf .now) (s .pre) (l .loop .j) (n .loop-test .taken)
-
-next-is : (c : tie.After-found Inv-loop μ-loop) → let l = c .before .before .before .before .before in let s = entered l in
-    c .found .given .0 .1 .0 ≡ startOf (s .args .roll .table .code) (rs s) (suc (l .loop .j))
-next-is c = let e = sym (c .found .given .1) ∙ found-is (c .before .before) in cc
-
-cast-sigma : tie.Need-cast-sigma Inv-loop μ-loop
-cast-sigma c = search needs
-
-cast-h : tie.Need-cast-h Inv-loop μ-loop
-cast-h c = search needs
-
-cast-n : tie.Need-cast-n Inv-loop μ-loop
-cast-n c = search needs
-
-loop-holds : tie.Need-loop-holds Inv-loop μ-loop
-unfolding entries
-loop-holds c = (omega arith, sym (start-first _ _), refl)
-
-returns : tie.Need-returns Inv-loop μ-loop
-returns c =
-    let t = c .before in
-    let l = t .before .before in
-    let s = entered l in
-    sym (wrong-missing (all s) (s .args .dir .now) (l .loop .j / 32) (agrees t) (wanted (t .before)) (c .if2 .taken))
-
-mul-if3 : tie.Need-mul-if3 Inv-loop μ-loop
-mul-if3 c = search needs
-
-shared-slice-read-if3 : tie.Need-shared-slice-read-if3 Inv-loop μ-loop
-shared-slice-read-if3 c = search needs
-
-cast-if3 : tie.Need-cast-if3 Inv-loop μ-loop
-cast-if3 c = omega (arith, c .shared-slice-known3 .given (c .before .before .before .before .loop .j / 32))
-
-returns-2 : tie.Need-returns-2 Inv-loop μ-loop
-returns-2 c =
-    let b = c .before .before in
-    let t = b .before in
-    let l = t .before .before in
-    let s = entered l in
-    sym (wrong-differs (all s) (s .args .dir .now) (l .loop .j / 32) (agrees t) (wanted (t .before)) (b .if2 .left) (λ e. c .if3 .taken (e ∙ entry-is t)))
-
-codeword-at-requires : tie.Need-codeword-at-requires Inv-loop μ-loop
-codeword-at-requires c κs =
-    let l = c .before .before in
-    let s = entered l in
-    sound-reads (s .args .roll) (s .args .buf .now) (s .pre) (l .loop .p) (omega (arith, l .loop .inv .1, sound-start (s .args .roll) (s .args .buf .now) (s .pre) (l .loop .j)))
-
-enum-known-found : tie.Need-enum-known-found Inv-loop μ-loop
-enum-known-found c = search needs
-
-enum-told : tie.Need-enum-told Inv-loop μ-loop
-enum-told c = search needs
-
-returns-3 : tie.Need-returns-3 Inv-loop μ-loop
-returns-3 c =
-    let e : Bad ≡ Word _ _ = sym (c .enum-told .given .1) ∙ found-is (c .before .before) in
-    let z : _≡_ {A = ℕ} 0 1 = cc in
-    absurd (omega arith)
-
-add-j : tie.Need-add-j Inv-loop μ-loop
-add-j c =
-    let n = c .before .before .before .before .before in
-    omega (arith, n .loop-test .taken, n .before .before .struct-known3 .given)
-
-loop-less : tie.Need-loop-less Inv-loop μ-loop
-loop-less c = let n = c .before .before .before .before .before in omega (arith, n .loop-test .taken)
-
-loop-again : tie.Need-loop-again Inv-loop μ-loop
-loop-again c =
-    let f = c .before in
-    let j = f .before .before .before in
-    (omega (arith, j .before .loop-test .taken), rw add-one (next-is f), agreed j)
+stops-by-byte-requires : tie.Need-stops-by-byte-requires Inv-loop μ-loop
+stops-by-byte-requires c κs = let s = c .before .before .before .before in table-code (s .args .roll .table) (s .pre .table)
 
 entries-for-requires : tie.Need-entries-for-requires Inv-loop μ-loop
 entries-for-requires c κs = search needs
 
-returns-4 : tie.Need-returns-4 Inv-loop μ-loop
-returns-4 c =
-    let o = c .before in
-    let l = o .before in
-    let s = entered l in
-    let e : l .loop .j ≡ s .args .roll .n = omega (arith, l .loop .inv .0, o .loop-test .left) in
-    c .entries-for .ensures
-    ∙ sym (wrong-none (all s) (s .args .dir .now) (entries (s .args .roll .n)) (rw e at (l .loop .inv .2)) (sym (long s)))
+loop-holds : tie.Need-loop-holds Inv-loop μ-loop
+unfolding endFrom endOf
+loop-holds c = (omega arith, omega arith, refl, refl)
+
+returns : tie.Need-returns Inv-loop μ-loop
+returns c =
+    let n = c .before in
+    let l = n .before in
+    answer l (l .loop .e) (wrong-missing (wanted l) (entered l .args .dir .now) (l .loop .e) (l .loop .inv .3) (small n) (c .if1 .taken))
+
+slice-aggregate-pass-ends : tie.Need-slice-aggregate-pass-ends Inv-loop μ-loop
+slice-aggregate-pass-ends c = search needs
+
+mul-pass-ends : tie.Need-mul-pass-ends Inv-loop μ-loop
+mul-pass-ends c = let n = c .before .before in omega (arith, inside n, entered (n .before) .good .0)
+
+sub-pass-ends : tie.Need-sub-pass-ends Inv-loop μ-loop
+sub-pass-ends c = search needs
+
+pass-ends-requires : tie.Need-pass-ends-requires Inv-loop μ-loop
+pass-ends-requires c κs =
+    let n = c .before .before in
+    let l = n .before in
+    let s = entered l in (
+      subst (λ p. Ending (s .args .roll .table .code) (s .args .buf .now) p (l .loop .e * 32 - l .loop .j)) (sym (l .loop .inv .2))
+          (entry-ending (s .args .roll) (s .args .buf .now) (s .pre) (l .loop .j) (l .loop .e) (l .loop .inv .1) (omega (arith, inside n))),
+      l .before .before .stops-by-byte .ensures,
+    )
+
+mul-j : tie.Need-mul-j Inv-loop μ-loop
+mul-j c = let n = c .before .before .before in omega (arith, inside n, entered (n .before) .good .0)
+
+mul-if2 : tie.Need-mul-if2 Inv-loop μ-loop
+mul-if2 c = search needs
+
+shared-slice-read-if2 : tie.Need-shared-slice-read-if2 Inv-loop μ-loop
+shared-slice-read-if2 c = search needs
+
+cast-if2 : tie.Need-cast-if2 Inv-loop μ-loop
+cast-if2 c = omega (arith, c .shared-slice-known3 .given (c .before .before .before .before .before .loop .e))
+
+returns-2 : tie.Need-returns-2 Inv-loop μ-loop
+returns-2 c =
+    let p = c .before .before in
+    let b = p .before .before in
+    let l = b .before .before in
+    answer l (l .loop .e)
+    (wrong-differs (wanted l) (entered l .args .dir .now) (l .loop .e) (l .loop .inv .3) (small (b .before)) (b .if1 .left) (λ e. c .if2 .taken (e ∙ entry-is p)))
+
+add-e : tie.Need-add-e Inv-loop μ-loop
+add-e c = search needs
+
+loop-less : tie.Need-loop-less Inv-loop μ-loop
+loop-less c = search needs
+
+loop-again : tie.Need-loop-again Inv-loop μ-loop
+loop-again c =
+    let p = c .before .before in
+    let b = p .before .before in
+    let n = b .before in
+    let l = n .before in (
+      omega (arith, n .loop-test .taken),
+      omega arith,
+      passed p,
+      agree-more (wanted l) (entered l .args .dir .now) (l .loop .e) (l .loop .inv .3) (small n) (b .if1 .left) (c .if2 .left ∙ sym (entry-is p)),
+    )
+
+returns-3 : tie.Need-returns-3 Inv-loop μ-loop
+returns-3 c =
+    let l = c .before in
+    let e : l .loop .e ≡ last l = omega (arith, l .loop .inv .0, c .loop-test .left) in
+    answer l (last l) (wrong-none (wanted l) (entered l .args .dir .now) (last l) (subst (λ i. take i (entered l .args .dir .now) ≡ take i (wanted l)) e (l .loop .inv .3)) (sym (long l)))
 
 pub first-wrong-spec : {M : Type 1} → statement M
 first-wrong-spec =
@@ -187,21 +161,20 @@ first-wrong-spec =
     (tie.spec
     Inv-loop
     μ-loop
-    cast-sigma
-    cast-h
-    cast-n
+    stops-by-byte-requires
+    entries-for-requires
     loop-holds
     returns
-    mul-if3
-    shared-slice-read-if3
-    cast-if3
+    slice-aggregate-pass-ends
+    mul-pass-ends
+    sub-pass-ends
+    pass-ends-requires
+    mul-j
+    mul-if2
+    shared-slice-read-if2
+    cast-if2
     returns-2
-    codeword-at-requires
-    enum-known-found
-    enum-told
-    returns-3
-    add-j
+    add-e
     loop-less
     loop-again
-    entries-for-requires
-    returns-4)
+    returns-3)

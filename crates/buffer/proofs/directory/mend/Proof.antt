@@ -1,206 +1,174 @@
--- `buffer::directory::mend` meets its contract: before character j the symbol is where its codeword starts, and the entries of the
--- characters from `from` up to it are written.
+-- `buffer::directory::mend` meets its contract: before entry e the symbol is where the codeword of character j starts, and the entries
+-- from that of `from` up to e are written.
 -- Assumes nothing.
-use mathlib.Core.Path.{_≡_, sym, ap, ap₂, _∙_}
-use mathlib.Core.Logic.{⊎-elim}
-use mathlib.Core.List.{List, map}
-use Prim.Native.Nat.{ℕ, suc, _+_, _-_, _*_, _/_, _≤_, _<_}
-use native.Mathlib.Numerals.{add-one}
+use mathlib.Core.Path.{_≡_, sym, ap, ap₂, subst, _∙_}
+use mathlib.Core.List.{List}
+use Prim.Native.Nat.{ℕ, _-_, _*_, _≤_, _<_}
 use native.Mathlib.Omega.{arith}
 use borrow.Author.Needs.{needs}
-use lib.ListN.{length, getD, set}
-use Rattle.stopper.specs.Table.{lengthOf}
-use Rattle.stopper.specs.declared.code.Code.{Code}
-use Rattle.buffer.specs.Roll.{rowUpto, readRow, reading, ranksRead}
-use Rattle.buffer.specs.Codewords.{foundAt}
-use Rattle.buffer.specs.Directory.{entries, directoryOf, lengthsOf}
-use Rattle.buffer.specs.Laws.Codewords.{startOf}
-use Rattle.buffer.specs.Laws.Sound.{sound-reads, sound-found, sound-start}
-use Rattle.buffer.specs.Laws.Directory.{entries-upto, entries-inside, entries-at, entries-next, entries-same, entry-at, start-at, sound-entries}
-use Rattle.buffer.specs.Laws.Mending.{laid, laid-none, laid-length, laid-more}
-use Rattle.buffer.specs.declared.reading.Found.the-variants.{Word, Bad}
+use lib.ListN.{length, set}
+use Rattle.ground.specs.Laws.Rows.{length-tab}
+use Rattle.stopper.specs.Laws.Table.{table-code}
+use Rattle.buffer.specs.Roll.{reading, ranksRead}
+use Rattle.buffer.specs.Directory.{entries, lengthsOf}
+use Rattle.buffer.specs.Ends.{Ending, endFrom}
+use Rattle.buffer.specs.Laws.Sound.{sound-reads, sound-start}
+use Rattle.buffer.specs.Laws.Ends.{sound-end}
+use Rattle.buffer.specs.Laws.Directory.{entries-upto, entries-before, entries-behind, start-at}
+use Rattle.buffer.specs.Laws.Mending.{laid, laid-none, laid-length, laid-more, byStops, stops-entry, stops-laid, entry-ending, entry-ends}
 use Rattle.buffer.proofs.directory.mend.Statement.{statement}
 use Rattle.buffer.proofs.directory.mend.Tie as tie
 
--- the ranks that are read, and their directory
-abbrev ranks : Code → ℕ → List ℕ → ℕ → List ℕ
-ranks code sigma buf h = ranksRead (readRow code sigma (rowUpto code h buf))
-
-abbrev whole : Code → List ℕ → List ℕ
-whole code rs = directoryOf (map (lengthOf code) rs)
-
 abbrev Inv-loop : tie.InvT-loop
-Inv-loop buf dir₀ from upto first code sigma h p₀ j₀ dir p j =
-    (from ≤ j)
-    × (j ≤ upto)
-    × (p ≡ startOf code (ranks code sigma buf h) j)
-    × (dir ≡ laid dir₀ (whole code (ranks code sigma buf h)) (entries from) (entries j))
+Inv-loop buf dir₀ from upto first code stops last p₀ j₀ e₀ dir p j e =
+    (entries from ≤ e)
+    × (e ≤ last)
+    × (j ≤ e * 32)
+    × (p ≡ endFrom code buf 0 j)
+    × (dir ≡ laid dir₀ (byStops code buf last) (entries from) e)
 
 abbrev μ-loop : tie.MeasureT-loop
-μ-loop buf dir₀ from upto first code sigma h p₀ j₀ dir p j = upto - j
+μ-loop buf dir₀ from upto first code stops last p₀ j₀ e₀ dir p j e = last - e
 
 -- the way back from a place
-abbrev begun : tie.After-struct-known2 Inv-loop μ-loop → tie.Start Inv-loop μ-loop
-begun c = c .before .before .before .before .before .before
-
 abbrev entered : tie.At-loop Inv-loop μ-loop → tie.Start Inv-loop μ-loop
-entered c = begun (c .before)
+entered l = l .before .before .before .before .before .before .before .before
 
-abbrev rs : tie.Start Inv-loop μ-loop → List ℕ
-rs s = ranks (s .args .roll .table .code) (s .args .roll .table .sigma) (s .args .buf .now) (s .args .roll .h)
+abbrev last : tie.At-loop Inv-loop μ-loop → ℕ
+last l = l .before .before .entries-for .result
 
-abbrev all : tie.Start Inv-loop μ-loop → List ℕ
-all s = whole (s .args .roll .table .code) (rs s)
+abbrev wanted : tie.At-loop Inv-loop μ-loop → List ℕ
+wanted l = byStops (entered l .args .roll .table .code) (entered l .args .buf .now) (last l)
 
-many : (s : tie.Start Inv-loop μ-loop) → length (rs s) ≡ s .args .roll .n
-unfolding reading
-many s = s .pre .0 .count
+last-is : (l : tie.At-loop Inv-loop μ-loop) → last l ≡ entries (entered l .args .upto)
+last-is l = l .before .before .entries-for .ensures
 
-long : (s : tie.Start Inv-loop μ-loop) → length (all s) ≡ entries (s .args .roll .n)
-unfolding reading lengthsOf
-long s = sound-entries (s .args .roll) (s .args .buf .now) (s .pre .0)
+long : (l : tie.At-loop Inv-loop μ-loop) → length (wanted l) ≡ last l
+long l = length-tab _ 0 (last l)
 
--- what is written to once the entries before entry i stand in it, and its length
-abbrev front : tie.Start Inv-loop μ-loop → ℕ → List ℕ
-front s i = laid (s .args .dir .now) (all s) (entries (s .args .from)) i
-
-front-same : (s : tie.Start Inv-loop μ-loop) (j : ℕ) → s .args .from ≤ j → j ≤ s .args .upto → length (front s (entries j)) ≡ length (s .args .dir .now)
-front-same s j f h =
-    let e = entries-upto j h in
-    laid-length (s .args .dir .now) (all s) (entries (s .args .from)) (entries j) (entries-upto (s .args .from) f)
-    (omega (arith, long s, e, entries-upto (s .args .upto) (s .pre .2))) (omega (arith, s .pre .3, e))
+held : (l : tie.At-loop Inv-loop μ-loop) → last l ≤ length (entered l .args .dir .now)
+held l = omega (arith, last-is l, entered l .pre .3)
 
 same : (l : tie.At-loop Inv-loop μ-loop) → length (l .loop .dir) ≡ length (entered l .args .dir .now)
-same l = ap length (l .loop .inv .3) ∙ front-same (entered l) (l .loop .j) (l .loop .inv .0) (l .loop .inv .1)
-
--- character j is one of the roll's, and its entry one of dir's
-inside : (c : tie.In-loop Inv-loop μ-loop) → c .before .loop .j < entered (c .before) .args .roll .n
-inside c = omega (arith, c .loop-test .taken, entered (c .before) .pre .2)
-
-held : (c : tie.In-loop Inv-loop μ-loop) → c .before .loop .j / 32 < length (entered (c .before) .args .dir .now)
-held c = omega (arith, entries-inside (c .before .loop .j) (c .loop-test .taken), entered (c .before) .pre .3)
-
--- before codeword j is read, its entry is written
-stored : (c : tie.Then1 Inv-loop μ-loop) → let l = c .before .before in let s = entered l in
-    set (l .loop .dir) (l .loop .j / 32) (l .loop .p) ≡ front s (entries (l .loop .j + 1))
-stored c =
-    let n = c .before in
-    let l = n .before in
+same l =
     let s = entered l in
-    let i = l .loop .j / 32 in
-    let h = entries-inside (l .loop .j) (inside n) in
-    let e : l .loop .j ≡ i * 32 = omega (arith, c .if1 .taken) in
-    let a = entries-at (l .loop .j) (c .if1 .taken) in
-    ap₂ (λ (d : List ℕ) (v : ℕ). set d i v) (l .loop .inv .3 ∙ ap (front s) a)
-    (l .loop .inv .2 ∙ ap (startOf (s .args .roll .table .code) (rs s)) e ∙ sym (entry-at (s .args .roll .table .code) (rs s) i (rw (many s) h)))
-    ∙ laid-more (s .args .dir .now) (all s) (entries (s .args .from)) i (omega (arith, a, entries-upto (s .args .from) (l .loop .inv .0))) (omega (arith, long s, h)) (held n)
-    ∙ ap (front s) (sym (entries-next (l .loop .j) (c .if1 .taken)))
+    ap length (l .loop .inv .4)
+    ∙ laid-length (s .args .dir .now) (wanted l) (entries (s .args .from)) (l .loop .e) (l .loop .inv .0) (omega (arith, l .loop .inv .1, long l)) (omega (arith, l .loop .inv .1, held l))
 
-written : (c : tie.Joined1 Inv-loop μ-loop) → let l = c .before .before in c .if1 .dir ≡ front (entered l) (entries (l .loop .j + 1))
-written c =
-    let l = c .before .before in
-    ⊎-elim
-    (λ w. w .1 ∙ stored (record { before = c .before; if1 = w .0 }))
-    (λ w. w .1 ∙ l .loop .inv .3 ∙ ap (front (entered l)) (sym (entries-same (l .loop .j) (w .0 .left))))
-    (c .if1 .came)
+-- entry e is that of a character before `upto`
+before-upto : (c : tie.In-loop Inv-loop μ-loop) → c .before .loop .e * 32 < entered (c .before) .args .upto
+before-upto c = entries-before (entered (c .before) .args .upto) (omega (arith, c .loop-test .taken, last-is (c .before)))
 
--- the codeword of character j
-found-is : (c : tie.After-codeword-at Inv-loop μ-loop) → let n = c .before .before in let s = entered (n .before) in
-    c .codeword-at .result ≡ Word (getD (rs s) (n .before .loop .j) 0) (startOf (s .args .roll .table .code) (rs s) (suc (n .before .loop .j)))
-unfolding reading
-found-is c =
+inside : (c : tie.In-loop Inv-loop μ-loop) → c .before .loop .e * 32 ≤ entered (c .before) .args .roll .n
+inside c = omega (arith, before-upto c, entered (c .before) .pre .2)
+
+-- its first symbol
+passed : (c : tie.After-pass-ends Inv-loop μ-loop) → let l = c .before .before .before in let s = entered l in
+    c .pass-ends .result ≡ endFrom (s .args .roll .table .code) (s .args .buf .now) 0 (l .loop .e * 32)
+passed c =
     let n = c .before .before in
     let l = n .before in
     let s = entered l in
-    c .codeword-at .ensures
-    ∙ ap (foundAt (s .args .roll .table .code) (s .args .roll .table .sigma) (rowUpto (s .args .roll .table .code) (s .args .roll .h) (s .args .buf .now))) (l .loop .inv .2)
-    ∙ sound-found (s .args .roll) (s .args .buf .now) (s .pre .0) (l .loop .j) (inside n)
+    c .pass-ends .ensures
+    ∙ ap (λ (p : ℕ). endFrom (s .args .roll .table .code) (s .args .buf .now) p (l .loop .e * 32 - l .loop .j)) (l .loop .inv .3)
+    ∙ entry-ends (s .args .roll) (s .args .buf .now) (s .pre .0) (l .loop .j) (l .loop .e) (l .loop .inv .2) (inside n)
 
-next-is : (c : tie.After-found Inv-loop μ-loop) → let l = c .before .before .before .before .before in let s = entered l in
-    c .found .given .0 .1 .0 ≡ startOf (s .args .roll .table .code) (rs s) (suc (l .loop .j))
-next-is c = let e = sym (c .found .given .1) ∙ found-is (c .before .before) in cc
+stops-by-byte-requires : tie.Need-stops-by-byte-requires Inv-loop μ-loop
+stops-by-byte-requires c κs = let s = c .before .before .before .before in table-code (s .args .roll .table) (s .pre .0 .table)
 
--- where it starts
-before-end : (l : tie.At-loop Inv-loop μ-loop) → l .loop .p ≤ entered l .args .roll .h
-unfolding reading
-before-end l = let s = entered l in omega (arith, l .loop .inv .2, sound-start (s .args .roll) (s .args .buf .now) (s .pre .0) (l .loop .j))
+cast-entries-for : tie.Need-cast-entries-for Inv-loop μ-loop
+cast-entries-for c = search needs
 
-cast-sigma : tie.Need-cast-sigma Inv-loop μ-loop
-cast-sigma c = search needs
+entries-for-requires : tie.Need-entries-for-requires Inv-loop μ-loop
+entries-for-requires c κs = search needs
 
-cast-h : tie.Need-cast-h Inv-loop μ-loop
-cast-h c = search needs
+cast-entries-for-2 : tie.Need-cast-entries-for-2 Inv-loop μ-loop
+cast-entries-for-2 c = search needs
+
+entries-for-requires-2 : tie.Need-entries-for-requires-2 Inv-loop μ-loop
+entries-for-requires-2 c κs = search needs
 
 loop-holds : tie.Need-loop-holds Inv-loop μ-loop
-unfolding lengthsOf reading
+unfolding lengthsOf
 loop-holds c =
-    let s = begun c in (
-      omega arith,
-      s .pre .1,
-      s .pre .4 ∙ sym (start-at (s .args .roll .table .code) (rs s) (s .args .from)),
-      sym (laid-none (s .args .dir .now) (all s) (entries (s .args .from))),
+    let s = c .before .before .before .before .before .before .before in
+    let from = s .args .from in
+    let e = c .entries-for2 .ensures in (
+      omega (arith, e),
+      omega (arith, e, c .before .entries-for .ensures, entries-upto from (s .pre .1)),
+      omega (arith, e, entries-behind from 0),
+      s .pre .4 ∙ sym (start-at (s .args .roll .table .code) (ranksRead (reading (s .args .roll) (s .args .buf .now))) from)
+          ∙ sym (sound-end (s .args .roll) (s .args .buf .now) (s .pre .0) from (omega (arith, s .pre .1, s .pre .2))),
+      sym (ap (laid (s .args .dir .now) _ (entries from)) e ∙ laid-none (s .args .dir .now) _ (entries from)),
     )
+
+slice-aggregate-pass-ends : tie.Need-slice-aggregate-pass-ends Inv-loop μ-loop
+slice-aggregate-pass-ends c = search needs
+
+mul-pass-ends : tie.Need-mul-pass-ends Inv-loop μ-loop
+mul-pass-ends c = let n = c .before in omega (arith, before-upto n, entered (n .before) .fits .upto)
+
+sub-pass-ends : tie.Need-sub-pass-ends Inv-loop μ-loop
+sub-pass-ends c = search needs
+
+pass-ends-requires : tie.Need-pass-ends-requires Inv-loop μ-loop
+pass-ends-requires c κs =
+    let n = c .before in
+    let l = n .before in
+    let s = entered l in (
+      subst (λ p. Ending (s .args .roll .table .code) (s .args .buf .now) p (l .loop .e * 32 - l .loop .j)) (sym (l .loop .inv .3))
+          (entry-ending (s .args .roll) (s .args .buf .now) (s .pre .0) (l .loop .j) (l .loop .e) (l .loop .inv .2) (inside n)),
+      l .before .before .before .stops-by-byte .ensures,
+    )
+
+mul-j : tie.Need-mul-j Inv-loop μ-loop
+mul-j c = let n = c .before .before in omega (arith, before-upto n, entered (n .before) .fits .upto)
 
 cast-dir : tie.Need-cast-dir Inv-loop μ-loop
 cast-dir c =
-    let l = c .before .before in
-    let s = entered l in
-    omega (arith, before-end l, sound-reads (s .args .roll) (s .args .buf .now) (s .pre .0) 0 (omega arith) .small)
+    let n = c .before .before in
+    let s = entered (n .before) in
+    let at = n .before .loop .e * 32 in
+    omega (arith, passed c, sound-end (s .args .roll) (s .args .buf .now) (s .pre .0) at (inside n), sound-start (s .args .roll) (s .args .buf .now) (s .pre .0) at, sound-reads (s .args .roll) (s .args .buf .now) (s .pre .0) 0 (omega arith) .small)
 
 mul-dir : tie.Need-mul-dir Inv-loop μ-loop
-mul-dir c = omega (arith, held (c .before), entered (c .before .before) .good .1 .1 .0)
+mul-dir c = let n = c .before .before in omega (arith, n .loop-test .taken, held (n .before), entered (n .before) .good .1 .1 .0)
 
 slice-write-dir : tie.Need-slice-write-dir Inv-loop μ-loop
-slice-write-dir c = omega (arith, same (c .before .before), held (c .before))
+slice-write-dir c = let n = c .before .before in omega (arith, n .loop-test .taken, held (n .before), same (n .before))
 
-codeword-at-requires : tie.Need-codeword-at-requires Inv-loop μ-loop
-codeword-at-requires c κs =
-    let l = c .before .before in
-    let s = entered l in
-    sound-reads (s .args .roll) (s .args .buf .now) (s .pre .0) (l .loop .p) (before-end l)
-
-enum-known-found : tie.Need-enum-known-found Inv-loop μ-loop
-enum-known-found c = search needs
-
-enum-told : tie.Need-enum-told Inv-loop μ-loop
-enum-told c = search needs
-
-same-length : tie.Need-same-length Inv-loop μ-loop
-same-length c =
-    let j = c .before .before .before in
-    let l = j .before .before in
-    ap length (written j) ∙ front-same (entered l) (l .loop .j + 1) (omega (arith, l .loop .inv .0)) (omega (arith, j .before .loop-test .taken))
-
-returns : tie.Need-returns Inv-loop μ-loop
-returns c =
-    let e : Bad ≡ Word _ _ = sym (c .enum-told .given .1) ∙ found-is (c .before .before) in
-    let z : _≡_ {A = ℕ} 0 1 = cc in
-    absurd (omega arith)
-
-add-j : tie.Need-add-j Inv-loop μ-loop
-add-j c =
-    let n = c .before .before .before .before .before in
-    omega (arith, n .loop-test .taken, entered (n .before) .fits .upto)
+add-e : tie.Need-add-e Inv-loop μ-loop
+add-e c = search needs
 
 loop-less : tie.Need-loop-less Inv-loop μ-loop
-loop-less c = let n = c .before .before .before .before .before in omega (arith, n .loop-test .taken)
+loop-less c = search needs
 
 loop-again : tie.Need-loop-again Inv-loop μ-loop
 loop-again c =
-    let f = c .before in
-    let j = f .before .before .before in
-    (omega (arith, j .before .before .loop .inv .0), omega (arith, j .before .loop-test .taken), rw add-one (next-is f), written j)
+    let n = c .before .before in
+    let l = n .before in
+    let s = entered l in
+    let e = l .loop .e in
+    let h = n .loop-test .taken in (
+      omega (arith, l .loop .inv .0),
+      omega (arith, h),
+      omega arith,
+      passed c,
+      ap₂ (λ (d : List ℕ) (v : ℕ). set d e v) (l .loop .inv .4) (passed c ∙ sym (stops-entry (s .args .roll .table .code) (s .args .buf .now) (last l) e h))
+          ∙ laid-more (s .args .dir .now) (wanted l) (entries (s .args .from)) e (l .loop .inv .0) (omega (arith, h, long l)) (omega (arith, h, held l)),
+    )
 
-same-length-2 : tie.Need-same-length-2 Inv-loop μ-loop
-same-length-2 c = same (c .before)
+same-length : tie.Need-same-length Inv-loop μ-loop
+same-length c = same (c .before)
 
-returns-2 : tie.Need-returns-2 Inv-loop μ-loop
-unfolding lengthsOf reading
-returns-2 c =
+returns : tie.Need-returns Inv-loop μ-loop
+returns c =
     let l = c .before in
     let s = entered l in
-    let e : l .loop .j ≡ s .args .upto = omega (arith, l .loop .inv .1, c .loop-test .left) in
-    l .loop .inv .3 ∙ ap (λ (j : ℕ). front s (entries j)) e
+    let e : l .loop .e ≡ entries (s .args .upto) = omega (arith, l .loop .inv .1, c .loop-test .left, last-is l) in
+    l .loop .inv .4
+    ∙ ap₂ (λ (n m : ℕ). laid (s .args .dir .now) (byStops (s .args .roll .table .code) (s .args .buf .now) n) (entries (s .args .from)) m) (last-is l) e
+    ∙ stops-laid (s .args .roll) (s .args .buf .now) (s .pre .0) (s .args .dir .now) (entries (s .args .from)) (s .args .upto) (s .pre .2)
 
 pub mend-spec : {M : Type 1} → statement M
 mend-spec =
@@ -208,19 +176,22 @@ mend-spec =
     (tie.spec
     Inv-loop
     μ-loop
-    cast-sigma
-    cast-h
+    stops-by-byte-requires
+    cast-entries-for
+    entries-for-requires
+    cast-entries-for-2
+    entries-for-requires-2
     loop-holds
+    slice-aggregate-pass-ends
+    mul-pass-ends
+    sub-pass-ends
+    pass-ends-requires
+    mul-j
     cast-dir
     mul-dir
     slice-write-dir
-    codeword-at-requires
-    enum-known-found
-    enum-told
-    same-length
-    returns
-    add-j
+    add-e
     loop-less
     loop-again
-    same-length-2
-    returns-2)
+    same-length
+    returns)

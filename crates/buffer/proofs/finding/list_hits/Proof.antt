@@ -4,9 +4,8 @@ use mathlib.Core.Path.{_≡_, refl, sym, ap, ap₂, _∙_}
 use mathlib.Core.Logic.{⊎-elim}
 use mathlib.Core.Bool.{Bool}
 use mathlib.Core.List.{List, [], _∷_, _++_}
-use Prim.Native.Nat.{ℕ, suc, _+_, _-_, _≤_, _<_}
+use Prim.Native.Nat.{ℕ, _+_, _-_, _≤_, _<_}
 use native.Mathlib.Nat.{add-zero, add-assoc}
-use native.Mathlib.Numerals.{add-one}
 use native.Mathlib.Omega.{arith}
 use borrow.Author.Needs.{needs}
 use lib.ListN.{length, drop, getD, set, length-set, length-append}
@@ -14,56 +13,52 @@ use lib.Seq.{getD-take}
 use Rattle.stopper.specs.Laws.Table.{table-code, code-width}
 use Rattle.stopper.specs.declared.code.Code.{Code}
 use Rattle.symbols.specs.Symbols.{symbolsOf}
-use Rattle.buffer.specs.Roll.{rowUpto, readRow, reading, ranksRead}
-use Rattle.buffer.specs.Codewords.{foundAt}
+use Rattle.buffer.specs.Roll.{rowUpto, reading, ranksRead}
 use Rattle.buffer.specs.Hits.{stands, listed}
+use Rattle.buffer.specs.Ends.{endOf, endFrom}
 use Rattle.buffer.specs.Finding.{grown, passing, standsAt, wordHits}
-use Rattle.buffer.specs.Laws.Codewords.{startOf, start-first}
-use Rattle.buffer.specs.Laws.Sound.{sound-reads, sound-found, sound-start, sound-length}
+use Rattle.buffer.specs.Laws.Sound.{sound-reads, sound-start, sound-length}
+use Rattle.buffer.specs.Laws.Ends.{sound-end, sound-one, sound-next}
 use Rattle.buffer.specs.Laws.Hits.{stands-start}
-use Rattle.buffer.specs.Laws.Finding.{stands-end, stands-past, stands-same, stands-differ, passing-more, listed-none, listed-more, listed-full}
-use Rattle.buffer.specs.declared.reading.Found.the-variants.{Word, Bad as none-found}
+use Rattle.buffer.specs.Laws.Finding.{stands-end, stands-past, stands-same, stands-differ, passing-more, passing-same, listed-none, listed-more, listed-full}
 use Rattle.buffer.proofs.finding.list_hits.Statement.{statement}
 use Rattle.buffer.proofs.finding.list_hits.Tie as tie
 
--- the ranks that are read, and the codewords among the first i at whose start the symbols stand
-abbrev ranks : Code → ℕ → List ℕ → ℕ → List ℕ
-ranks code sigma buf h = ranksRead (readRow code sigma (rowUpto code h buf))
+-- whether the symbols stand where the first i codewords end, and the numbers below i for which they do
+abbrev behind : Code → List ℕ → ℕ → List ℕ → ℕ → Bool
+behind code buf h symbols i = stands symbols (drop (endFrom code buf 0 i) (rowUpto code h buf))
 
-abbrev found : Code → ℕ → List ℕ → ℕ → List ℕ → ℕ → List ℕ
-found code sigma buf h symbols i = passing (standsAt code (ranks code sigma buf h) symbols) i
+abbrev found : Code → List ℕ → ℕ → List ℕ → ℕ → List ℕ
+found code buf h symbols i = passing (behind code buf h symbols) i
 
 abbrev Inv-loop2 : tie.InvT-loop2
-Inv-loop2 buf symbols slice code sigma k n h total p i next j₀ j =
+Inv-loop2 buf symbols slice code k n h total p i next j₀ j =
     (j ≤ length symbols) × (p + j ≤ h) × (stands symbols (drop p (rowUpto code h buf)) ≡ stands (drop j symbols) (drop (p + j) (rowUpto code h buf)))
 
 abbrev μ-loop2 : tie.MeasureT-loop2
-μ-loop2 buf symbols slice code sigma k n h total p i next j₀ j = length symbols - j
+μ-loop2 buf symbols slice code k n h total p i next j₀ j = length symbols - j
 
 abbrev Inv-loop : tie.InvT-loop
-Inv-loop buf symbols slice₀ code sigma k n h total₀ p₀ i₀ slice total p i =
+Inv-loop buf symbols slice₀ code k n h total₀ p₀ i₀ slice total p i =
     (i ≤ n)
-    × (p ≡ startOf code (ranks code sigma buf h) i)
-    × (total ≡ length (found code sigma buf h symbols i))
-    × (slice ≡ listed (found code sigma buf h symbols i) slice₀)
+    × (p ≡ endFrom code buf 0 i)
+    × (total ≡ length (found code buf h symbols i))
+    × (slice ≡ listed (found code buf h symbols i) slice₀)
     × (total ≤ i)
     × (length slice ≡ length slice₀)
 
 abbrev μ-loop : tie.MeasureT-loop
-μ-loop buf symbols slice₀ code sigma k n h total₀ p₀ i₀ slice total p i = n - i
+μ-loop buf symbols slice₀ code k n h total₀ p₀ i₀ slice total p i = n - i
 
 -- the way back from a place
-abbrev begun : tie.After-struct-known2 Inv-loop2 μ-loop2 Inv-loop μ-loop → tie.Start Inv-loop2 μ-loop2 Inv-loop μ-loop
-begun c = c .before .before .before .before .before .before .before
+abbrev begun : tie.After-struct-known Inv-loop2 μ-loop2 Inv-loop μ-loop → tie.Start Inv-loop2 μ-loop2 Inv-loop μ-loop
+begun c = c .before .before .before .before .before .before
 
 abbrev entered : tie.At-loop Inv-loop2 μ-loop2 Inv-loop μ-loop → tie.Start Inv-loop2 μ-loop2 Inv-loop μ-loop
 entered l = begun (l .before)
 
 abbrev turned : tie.At-loop2 Inv-loop2 μ-loop2 Inv-loop μ-loop → tie.In-loop Inv-loop2 μ-loop2 Inv-loop μ-loop
-turned q = q .before .before .before .before .before
-
-abbrev rs : tie.Start Inv-loop2 μ-loop2 Inv-loop μ-loop → List ℕ
-rs s = ranks (s .args .roll .table .code) (s .args .roll .table .sigma) (s .args .buf .now) (s .args .roll .h)
+turned q = q .before .before
 
 abbrev row : tie.Start Inv-loop2 μ-loop2 Inv-loop μ-loop → List ℕ
 row s = rowUpto (s .args .roll .table .code) (s .args .roll .h) (s .args .buf .now)
@@ -76,76 +71,43 @@ within s = let d = sound-reads (s .args .roll) (s .args .buf .now) (s .pre) 0 (o
 row-long : (s : tie.Start Inv-loop2 μ-loop2 Inv-loop μ-loop) → length (row s) ≡ s .args .roll .h
 row-long s = sound-length (s .args .roll) (s .args .buf .now) (s .pre)
 
-many : (s : tie.Start Inv-loop2 μ-loop2 Inv-loop μ-loop) → length (rs s) ≡ s .args .roll .n
-unfolding reading
-many s = s .pre .count
-
--- codeword i starts before the row ends, and what stands there
-starts : (l : tie.At-loop Inv-loop2 μ-loop2 Inv-loop μ-loop) → l .loop .p ≤ entered l .args .roll .h
-unfolding reading
-starts l = let s = entered l in rw (l .loop .inv .1) (sound-start (s .args .roll) (s .args .buf .now) (s .pre) (l .loop .i))
-
-here : (l : tie.At-loop Inv-loop2 μ-loop2 Inv-loop μ-loop) → let s = entered l in
-    standsAt (s .args .roll .table .code) (rs s) (s .args .symbols .now) (l .loop .i) ≡ stands (s .args .symbols .now) (drop (l .loop .p) (row s))
-unfolding reading
-here l =
+-- codeword i starts before the row ends
+starts : (l : tie.In-loop Inv-loop2 μ-loop2 Inv-loop μ-loop) → l .before .loop .p ≤ entered (l .before) .args .roll .h
+starts n =
+    let l = n .before in
     let s = entered l in
-    stands-start (s .args .roll) (s .args .buf .now) (s .pre) (s .args .symbols .now) (l .loop .i)
-    ∙ ap (λ (p : ℕ). stands (s .args .symbols .now) (drop p (row s))) (sym (l .loop .inv .1))
-
-found-is : (c : tie.After-codeword-at Inv-loop2 μ-loop2 Inv-loop μ-loop) → let l = c .before .before in let s = entered l in
-    c .codeword-at .result ≡ Word (getD (rs s) (l .loop .i) 0) (startOf (s .args .roll .table .code) (rs s) (suc (l .loop .i)))
-unfolding reading
-found-is c =
-    let l = c .before .before in
-    let s = entered l in
-    c .codeword-at .ensures
-    ∙ ap (foundAt (s .args .roll .table .code) (s .args .roll .table .sigma) (row s)) (l .loop .inv .1)
-    ∙ sound-found (s .args .roll) (s .args .buf .now) (s .pre) (l .loop .i) (c .before .loop-test .taken)
-
-next-is : (c : tie.After-found Inv-loop2 μ-loop2 Inv-loop μ-loop) → let l = c .before .before .before .before in let s = entered l in
-    c .found .given .0 .1 .0 ≡ startOf (s .args .roll .table .code) (rs s) (suc (l .loop .i))
-next-is c = let e = sym (c .found .given .1) ∙ found-is (c .before .before) in cc
-
-cast-sigma : tie.Need-cast-sigma Inv-loop2 μ-loop2 Inv-loop μ-loop
-cast-sigma c = search needs
+    let i = l .loop .i in
+    omega (arith, l .loop .inv .1, sound-end (s .args .roll) (s .args .buf .now) (s .pre) i (omega (arith, n .loop-test .taken)), sound-start (s .args .roll) (s .args .buf .now) (s .pre) i)
 
 cast-h : tie.Need-cast-h Inv-loop2 μ-loop2 Inv-loop μ-loop
 cast-h c = search needs
 
 loop-holds : tie.Need-loop-holds Inv-loop2 μ-loop2 Inv-loop μ-loop
-unfolding passing
-loop-holds c =
-    let s = begun c in
-    (omega arith, sym (start-first (s .args .roll .table .code) (rs s)), refl, sym (listed-none (s .args .slice .now)), omega arith, refl)
+unfolding passing endFrom endOf
+loop-holds c = (omega arith, refl, refl, sym (listed-none (begun c .args .slice .now)), omega arith, refl)
 
-codeword-at-requires : tie.Need-codeword-at-requires Inv-loop2 μ-loop2 Inv-loop μ-loop
-codeword-at-requires c κs =
+end-at-requires : tie.Need-end-at-requires Inv-loop2 μ-loop2 Inv-loop μ-loop
+end-at-requires c κs =
     let l = c .before in
     let s = entered l in
-    sound-reads (s .args .roll) (s .args .buf .now) (s .pre) (l .loop .p) (starts l)
+    rw (l .loop .inv .1) (sound-one (s .args .roll) (s .args .buf .now) (s .pre) (l .loop .i) (c .loop-test .taken))
 
-enum-known-found : tie.Need-enum-known-found Inv-loop2 μ-loop2 Inv-loop μ-loop
-enum-known-found c = search needs
-
-enum-told : tie.Need-enum-told Inv-loop2 μ-loop2 Inv-loop μ-loop
-enum-told c = search needs
-
-same-length : tie.Need-same-length Inv-loop2 μ-loop2 Inv-loop μ-loop
-same-length c = c .before .before .before .before .loop .inv .5
-
-returns : tie.Need-returns Inv-loop2 μ-loop2 Inv-loop μ-loop
-returns c =
-    let e : none-found ≡ Word _ _ = sym (c .enum-told .given .1) ∙ found-is (c .before .before) in
-    let z : _≡_ {A = ℕ} 0 1 = cc in
-    absurd (omega arith)
+-- the symbol after codeword i
+next-is : (c : tie.After-end-at Inv-loop2 μ-loop2 Inv-loop μ-loop) → let l = c .before .before in let s = entered l in
+    c .end-at .result ≡ endFrom (s .args .roll .table .code) (s .args .buf .now) 0 (l .loop .i + 1)
+next-is c =
+    let l = c .before .before in
+    let s = entered l in
+    c .end-at .ensures
+    ∙ ap (λ (p : ℕ). endFrom (s .args .roll .table .code) (s .args .buf .now) p 1) (l .loop .inv .1)
+    ∙ sound-next (s .args .roll) (s .args .buf .now) (s .pre) (l .loop .i) (c .before .loop-test .taken)
 
 -- ---- the comparison
 
 loop2-holds : tie.Need-loop2-holds Inv-loop2 μ-loop2 Inv-loop μ-loop
 loop2-holds c =
-    let l = c .before .before .before .before .before in
-    (omega arith, omega (arith, starts l), rw (add-zero (l .loop .p)))
+    let n = c .before in
+    (omega arith, omega (arith, starts n), rw (add-zero (n .before .loop .p)))
 
 add-if2 : tie.Need-add-if2 Inv-loop2 μ-loop2 Inv-loop μ-loop
 add-if2 c = omega (arith, c .before .loop2 .inv .1, within (entered (turned (c .before) .before)) .1)
@@ -199,7 +161,7 @@ loop2-again c =
 
 -- its answer, whichever break gave it
 same-is : (c : tie.Joined1 Inv-loop2 μ-loop2 Inv-loop μ-loop) → let l = turned (c .before) .before in let s = entered l in
-    c .if1 .same ≡ standsAt (s .args .roll .table .code) (rs s) (s .args .symbols .now) (l .loop .i)
+    c .if1 .same ≡ behind (s .args .roll .table .code) (s .args .buf .now) (s .args .roll .h) (s .args .symbols .now) (l .loop .i)
 same-is c =
     let q = c .before in
     let l = turned q .before in
@@ -215,7 +177,7 @@ same-is c =
     let g : tie.After-get Inv-loop2 μ-loop2 Inv-loop μ-loop = record { before = record { before = record { before = q; if1 = w .0 }; if2 = w .1 }; get = w .2 } in
     w .5 ∙ sym (stands-differ sy (row s) j at (omega (arith, w .0 .left, q .loop2 .inv .0)) (omega (arith, inside (g .before), row-long s)) (λ e. w .4 .taken (symbol-is g ∙ e)))))
     (c .if1 .came)
-    ∙ sym (here l ∙ q .loop2 .inv .2)
+    ∙ sym (ap (λ (p : ℕ). stands sy (drop p (row s))) (sym (l .loop .inv .1)) ∙ q .loop2 .inv .2)
 
 -- ---- the list
 
@@ -245,12 +207,12 @@ loop-again c =
     let n = turned (c .before .before) in
     let l = n .before in
     let s = entered l in
-    let f = standsAt (s .args .roll .table .code) (rs s) (s .args .symbols .now) in
+    let f = behind (s .args .roll .table .code) (s .args .buf .now) (s .args .roll .h) (s .args .symbols .now) in
     let o = s .args .slice .now in
     let i = l .loop .i in
     let hs = passing f i in
     let more : passing f (i + 1) ≡ grown (c .before .if1 .same) i hs = passing-more f i (same-is (c .before)) in
-    let next : c .before .before .before .before .found .given .0 .1 .0 ≡ startOf (s .args .roll .table .code) (rs s) (i + 1) = rw add-one (next-is (c .before .before .before .before)) in
+    let next = next-is (c .before .before .before) in
     let inv = l .loop .inv in
     ⊎-elim
     (λ w.
@@ -269,19 +231,29 @@ loop-again c =
     (omega (arith, n .loop-test .taken), next, w .2 ∙ inv .2 ∙ ap length (sym e), w .1 ∙ inv .3 ∙ ap (λ (x : List ℕ). listed x o) (sym e), omega (arith, w .2, inv .4), ap length (w .1) ∙ inv .5))
     (c .if4 .came)
 
-same-length-2 : tie.Need-same-length-2 Inv-loop2 μ-loop2 Inv-loop μ-loop
-same-length-2 c = c .before .loop .inv .5
+same-length : tie.Need-same-length Inv-loop2 μ-loop2 Inv-loop μ-loop
+same-length c = c .before .loop .inv .5
 
-returns-2 : tie.Need-returns-2 Inv-loop2 μ-loop2 Inv-loop μ-loop
-unfolding wordHits reading
-returns-2 c =
+-- where the first i codewords end codeword i starts
+all-found : (s : tie.Start Inv-loop2 μ-loop2 Inv-loop μ-loop)
+    → found (s .args .roll .table .code) (s .args .buf .now) (s .args .roll .h) (s .args .symbols .now) (s .args .roll .n) ≡ wordHits (s .args .roll) (s .args .buf .now) (s .args .symbols .now)
+unfolding wordHits
+all-found s =
+    let roll = s .args .roll in
+    let buf = s .args .buf .now in
+    let sy = s .args .symbols .now in
+    passing-same (roll .n)
+    (λ i h.
+    ap (λ (p : ℕ). stands sy (drop p (row s))) (sound-end roll buf (s .pre) i (omega arith)) ∙ sym (stands-start roll buf (s .pre) sy i))
+    ∙ ap (passing (standsAt (roll .table .code) (ranksRead (reading roll buf)) sy)) (sym (s .pre .count))
+
+returns : tie.Need-returns Inv-loop2 μ-loop2 Inv-loop μ-loop
+returns c =
     let l = c .before in
     let s = entered l in
-    let f = standsAt (s .args .roll .table .code) (rs s) (s .args .symbols .now) in
-    let e : l .loop .i ≡ length (rs s) = omega (arith, many s, l .loop .inv .0, c .loop-test .left) in (
-      l .loop .inv .2 ∙ ap (λ (n : ℕ). length (passing f n)) e,
-      l .loop .inv .3 ∙ ap (λ (n : ℕ). listed (passing f n) (s .args .slice .now)) e,
-    )
+    let e : l .loop .i ≡ s .args .roll .n = omega (arith, l .loop .inv .0, c .loop-test .left) in
+    let all = ap (found (s .args .roll .table .code) (s .args .buf .now) (s .args .roll .h) (s .args .symbols .now)) e ∙ all-found s in
+    (l .loop .inv .2 ∙ ap length all, l .loop .inv .3 ∙ ap (λ (x : List ℕ). listed x (s .args .slice .now)) all)
 
 pub list-hits-spec : {M : Type 1} → statement M
 list-hits-spec =
@@ -291,14 +263,9 @@ list-hits-spec =
     μ-loop2
     Inv-loop
     μ-loop
-    cast-sigma
     cast-h
     loop-holds
-    codeword-at-requires
-    enum-known-found
-    enum-told
-    same-length
-    returns
+    end-at-requires
     loop2-holds
     add-if2
     add-get
@@ -315,5 +282,5 @@ list-hits-spec =
     add-i
     loop-less
     loop-again
-    same-length-2
-    returns-2)
+    same-length
+    returns)
