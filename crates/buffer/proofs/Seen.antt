@@ -1,6 +1,7 @@
 -- Reading the codeword that starts at symbol p of a row: what is known before symbol i.
 -- Assumes nothing.
 use mathlib.Core.Path.{_≡_, refl, sym, ap, subst, _∙_}
+use mathlib.Core.Bool.{true}
 use mathlib.Core.List.{List, _∷_}
 use Prim.Native.Nat.{ℕ, suc, _+_, _-_, _*_, _≤_, _<_}
 use native.Mathlib.Nat.{add-suc, add-zero}
@@ -15,8 +16,8 @@ use Rattle.stopper.specs.Table.{base, stoppers, goodCode}
 use Rattle.stopper.specs.State.{opened, stateAt, stepped}
 use Rattle.stopper.specs.Reading.{whole, broken, firstFrom, firstWord}
 use Rattle.stopper.specs.Laws.Table.{code-good}
-use Rattle.stopper.specs.Laws.State.{Turn, stops, stuck, goes, turn, state-opened}
-use Rattle.stopper.specs.Laws.Reading.{first-stop, first-stuck, first-more}
+use Rattle.stopper.specs.Laws.State.{Turn, stops, stuck, goes, turn, state-opened, state-past}
+use Rattle.stopper.specs.Laws.Reading.{first-stop, first-stuck, first-more, first-past}
 use Rattle.stopper.specs.declared.code.Code.{Code}
 use Rattle.stopper.specs.declared.reading.Reader.{Reader}
 use Rattle.stopper.specs.declared.reading.Step.{Step}
@@ -49,6 +50,12 @@ module _ (c : Code) (σ : ℕ) (row : List ℕ) (p : ℕ) where
   pub ended : {i : ℕ} {r : Reader} → Seen c σ row p i r → length row ≤ i → none-found ≡ foundAt c σ row p
   unfolding firstFrom
   ended {i} s h = no-word (s .first ∙ ap (firstFrom (base c) (stoppers c) σ (s .j) (s .x)) (drop-of-length-le row h))
+
+-- past σ it is bad, whatever follows
+pub is-past : (c : Code) → T (goodCode c) → (σ : ℕ) (row : List ℕ) {p i : ℕ} {r : Reader} → Seen c σ row p i r → r .past ≡ true → none-found ≡ foundAt c σ row p
+is-past c g σ row {p} {i} s e =
+    no-word c σ row p
+    (s .first ∙ first-past (base c) (stoppers c) (code-good c g) σ (drop i row) (s .j) (s .x) (state-past c g σ (s .j) (s .x) (ap (λ (r : Reader). r .past) (sym (s .state)) ∙ e)))
 
 module _ (c : Code) (g : T (goodCode c)) (σ : ℕ) (row : List ℕ) {p i : ℕ} {r : Reader} (s : Seen c σ row p i r) (h : i < length row) {y : ℕ} (e : getD row i 0 ≡ y) where
   first-is : firstWord (base c) (stoppers c) σ (drop p row) ≡ firstFrom (base c) (stoppers c) σ (s .j) (s .x) (y ∷ drop (suc i) row)

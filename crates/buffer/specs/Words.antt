@@ -11,6 +11,7 @@ use Rattle.stopper.specs.Table.{has, rankIn, wordOf, lengthOf}
 use Rattle.stopper.specs.declared.code.Code.{Code}
 use Rattle.symbols.specs.Symbols.{Width, symbolsOf}
 use Rattle.symbols.specs.Runs.{over}
+use Rattle.symbols.specs.Gathered.{Joins}
 use Rattle.buffer.specs.declared.words.Fit.{Fit}
 
 -- the symbols that character b takes; 0 if it is not in the row
@@ -62,12 +63,21 @@ rowOf lengths words (b ∷ text) = wordAt lengths words b ++ rowOf lengths words
 abbrev pub laidFrom : List ℕ → ℕ → List ℕ → List ℕ
 laidFrom row first xs = over row first xs (first + length xs)
 
--- the words are symbols of k bits in their places, and those of the text are within the buffer from a symbol on
-pub record Laid (k : ℕ) (lengths words text buf : List ℕ) (first : ℕ) : Type 0 where
+-- the words are symbols of k bits in their places
+pub record WordsLaid (k : ℕ) (lengths words : List ℕ) : Type 0 where
   pub width : Width k
   pub characters : length lengths ≡ 256
   pub few : Below 87 lengths
   pub places : length words ≡ 22016
-  pub symbols : Below (2 ^ k) (rowOf lengths words text)
+  pub symbols : (b : ℕ) → b < 256 → Below (2 ^ k) (wordAt lengths words b)
+
+-- those of at most 8 symbols as numbers
+pub record Numbers (k : ℕ) (lengths words numbers : List ℕ) : Type 0 where
+  pub many : length numbers ≡ 256
+  pub joins : (b : ℕ) → b < 256 → getD lengths b 0 ≤ 8 → Joins k (wordAt lengths words b) (getD numbers b 0)
+
+-- and those of the text are within the buffer from a symbol on
+pub record Laid (k : ℕ) (lengths words text buf : List ℕ) (first : ℕ) : Type 0 where
+  pub laid : WordsLaid k lengths words
   pub fits : first + length (rowOf lengths words text) ≤ length (symbolsOf k buf)
   pub counts : first + length (rowOf lengths words text) < 2 ^ 64

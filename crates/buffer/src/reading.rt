@@ -46,6 +46,10 @@ pub fn codeword_at(code: Code, sigma: u32, buf: &[u8], h: usize, p: usize) -> Fo
                 return Found::Bad;
             }
             Step::Open(on) => {
+                // Whatever follows, it is bad.
+                if on.past {
+                    return Found::Bad;
+                }
                 r = on;
             }
         }

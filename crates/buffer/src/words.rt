@@ -2,16 +2,21 @@
 // A length of 0 says that the character is not in the table.
 use stopper::code::Code;
 use stopper::word::symbols_of;
-use symbols::symbol::put;
+use symbols::gather::Gather;
+use symbols::gather::add;
+use symbols::gather::add_each;
+use symbols::gather::begin;
+use symbols::gather::finish;
+use symbols::gather::join_all;
 ghost use mathlib.Core.Path.{_≡_};
-ghost use Prim.Native.Nat.{_+_, _^_, _≤_, _<_};
+ghost use Prim.Native.Nat.{_+_, _≤_, _<_};
 ghost use lib.Dec.{T};
 ghost use lib.ListN.{length, take, drop};
-ghost use Rattle.ground.specs.Rows.{Below, zeros};
+ghost use Rattle.ground.specs.Rows.{zeros};
 ghost use Rattle.stopper.specs.Table.{goodCode};
-ghost use Rattle.symbols.specs.Symbols.{Width, symbolsOf};
-ghost use Rattle.symbols.specs.Runs.{over};
-ghost use Rattle.buffer.specs.Words.{Spelt, goesOn, fitOf, foreignOf, Laid, laidFrom, rowOf};
+ghost use Rattle.symbols.specs.Symbols.{symbolsOf};
+ghost use Rattle.symbols.specs.Gathered.{Waiting, Added};
+ghost use Rattle.buffer.specs.Words.{Spelt, goesOn, fitOf, foreignOf, wordAt, WordsLaid, Numbers, Laid, laidFrom, rowOf};
 
 fn wide(x: u8) -> usize
     ensures { λ r. ⌜ (r ≡ x) × (r < 256) ⌝ }
@@ -79,18 +84,45 @@ pub fn first_foreign(lengths: &[u8], text: &[u8], from: usize) -> usize
     i
 }
 
-// A codeword stored from symbol p on; the symbol after it.
-fn put_word(k: u8, word: &[u8], buf: &mut [u8], p: usize) -> usize
-    requires { ⌜ (Width k) × (Below (2 ^ k) (now word)) × (p + length (now word) ≤ length (symbolsOf k (now buf))) × (p + length (now word) < 2 ^ 64) ⌝ }
-    ensures after { λ r. ⌜ r ≡ p + length (now (word .entry)) ⌝ }
-    ensures symbols { λ _. ⌜ symbolsOf k (now (buf .exit)) ≡ over (symbolsOf k (now (buf .entry))) p (now (word .entry)) (p + length (now (word .entry))) ⌝ }
+// The codewords of at most 8 symbols as numbers, by character.
+fn numbers_of(k: u8, lengths: &[u8], words: &[u8]) -> [u32; 256]
+    requires { ⌜ WordsLaid k (now lengths) (now words) ⌝ }
+    ensures { λ r. ⌜ Numbers k (now (lengths .entry)) (now (words .entry)) r ⌝ }
 {
-    let mut i = 0;
-    while i < word.len() {
-        put(k, buf, p + i, word[i]);
-        i += 1;
+    let mut numbers = [0u32; 256];
+    let mut b: usize = 0;
+    while b < 256 {
+        let long = wide(lengths[b]);
+        if long <= 8 {
+            let at = b * 86;
+            let end = at + long;
+            numbers[b] = join_all(k, &words[at..end]);
+        }
+        b += 1;
     }
-    p + i
+    numbers
+}
+
+// The codeword of character b behind those before it.
+fn add_word(
+    k: u8,
+    lengths: &[u8],
+    words: &[u8],
+    numbers: &[u32],
+    b: usize,
+    g: Gather,
+    buf: &mut [u8],
+) -> Gather
+    requires { ⌜ WordsLaid k (now lengths) (now words) × Numbers k (now lengths) (now words) (now numbers) × (b < 256) × Waiting k g (now buf) (length (wordAt (now lengths) (now words) b)) ⌝ }
+    ensures { λ r. ⌜ Added k g (now (buf .entry)) (wordAt (now (lengths .entry)) (now (words .entry)) b) r (now (buf .exit)) ⌝ }
+{
+    let long = wide(lengths[b]);
+    if long <= 8 {
+        return add(k, g, buf, numbers[b], long);
+    }
+    let at = b * 86;
+    let end = at + long;
+    add_each(k, g, buf, &words[at..end])
 }
 
 // The codewords of a text stored from symbol first on.
@@ -98,13 +130,12 @@ pub fn write_text(k: u8, lengths: &[u8], words: &[u8], text: &[u8], buf: &mut [u
     requires { ⌜ Laid k (now lengths) (now words) (now text) (now buf) first ⌝ }
     ensures { λ _. ⌜ symbolsOf k (now (buf .exit)) ≡ laidFrom (symbolsOf k (now (buf .entry))) first (rowOf (now (lengths .entry)) (now (words .entry)) (now (text .entry))) ⌝ }
 {
-    let mut p = first;
+    let numbers = numbers_of(k, lengths, words);
+    let mut g = begin(k, buf, first);
     let mut i = 0;
     while i < text.len() {
-        let b = wide(text[i]);
-        let at = b * 86;
-        let end = at + wide(lengths[b]);
-        p = put_word(k, &words[at..end], buf, p);
+        g = add_word(k, lengths, words, &numbers, wide(text[i]), g, buf);
         i += 1;
     }
+    finish(k, g, buf);
 }

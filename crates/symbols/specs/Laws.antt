@@ -3,3 +3,4 @@ pub mod Sizes
 pub mod Rows
 pub mod Packing
 pub mod Runs
+pub mod Gathered

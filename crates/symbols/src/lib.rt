@@ -2,10 +2,13 @@
 // A buffer means the row of all its symbols, `symbolsOf k bytes`; what this crate offers is
 //     symbol::get, put                  one symbol
 //     run::clear, up, down              a run of symbols
+//     gather::begin, add, finish        symbols stored one after the other
 //     size::bytes_for, unused, room_of  bytes for symbols, symbols for bytes
-// and each contract is an equation of that row, or of those sizes. The other modules are what these are made of.
+//     bits::per_byte, byte_of, place_of where a symbol stands
+// and each contract is of that row, or of those sizes. The other modules are what these are made of.
 pub mod bits;
 mod each;
+pub mod gather;
 pub mod run;
 pub mod size;
 pub mod symbol;

@@ -4,16 +4,17 @@ use mathlib.Core.Path.{_≡_, refl, sym, ap, ap₂, subst, _∙_}
 use mathlib.Core.Logic.{_≢_}
 use mathlib.Core.Bool.{Bool, true, false}
 use mathlib.Core.List.{List, [], _∷_, _++_, append-assoc, append-nil}
-use Prim.Native.Nat.{ℕ, suc, _+_, _-_, _^_, _≤_, _<_}
+use Prim.Native.Nat.{ℕ, suc, _+_, _-_, _*_, _^_, _≤_, _<_}
 use native.Mathlib.Nat.{zero-add}
+use native.Mathlib.Decide.{decLt}
 use native.Mathlib.Omega.{arith}
 use borrow.Author.Tests.{eq-eqb, ne-eqb, le-leb, lt-leb, lt-ltb, ltb-true, ltb-false}
 use mir.Facts.{and-yes}
 use lib.Dec.{T, eqb, ltb, leb, ltb→lt, leb→le}
-use lib.ListN.{length, take, drop, getD, length-append, take-append-drop}
-use lib.Seq.{take-suc, drop-cons}
+use lib.ListN.{length, take, drop, getD, length-append, length-drop, take-append-drop, List·getD-eq-default}
+use lib.Seq.{take-suc, drop-cons, length-take-le}
 use Rattle.ground.specs.Rows.{Below, none, also}
-use Rattle.ground.specs.Laws.Rows.{length-tab, tab-at, tab-below}
+use Rattle.ground.specs.Laws.Rows.{getD-below, below-append, length-tab, tab-at, tab-below}
 use Rattle.stopper.specs.Reading.{write}
 use Rattle.stopper.specs.Table.{base, stoppers, goodCode, has, rankIn, wordOf, lengthOf}
 use Rattle.stopper.specs.Laws.Characters.{has-rank}
@@ -24,7 +25,7 @@ use Rattle.symbols.specs.Symbols.{symbolsOf}
 use Rattle.symbols.specs.Laws.Rows.{symbols-even}
 use Rattle.buffer.specs.Roll.{firstForeign, firstOver, textRow}
 use Rattle.buffer.specs.Laws.Texts.{length-cons}
-use Rattle.buffer.specs.Words.{lengthFor, Spelt, goesOn, uptoOf, takenOf, foreignOf, wordAt, rowOf, Laid}
+use Rattle.buffer.specs.Words.{lengthFor, Spelt, goesOn, uptoOf, takenOf, foreignOf, wordAt, rowOf, WordsLaid, Laid}
 
 -- ---- a character that goes on
 
@@ -137,6 +138,34 @@ module _ (lengths words : List ℕ) where
     row-split =
         ap (rowOf lengths words) (sym (take-append-drop i text) ∙ ap (λ (w : List ℕ). take i text ++ w) (drop-cons text i 0 h))
         ∙ row-append (take i text) (getD text i 0 ∷ drop (suc i) text)
+
+-- ---- words laid out
+
+-- the part of the words that is lent
+pub lent : (lengths words : List ℕ) (b : ℕ) {n : ℕ} → n ≡ getD lengths b 0 → take (b * 86 + n - b * 86) (drop (b * 86) words) ≡ wordAt lengths words b
+unfolding wordAt
+lent lengths words b {n} f = let q : b * 86 + n - b * 86 ≡ n = omega arith in rw (q, f)
+
+module _ {k : ℕ} {lengths words : List ℕ} (a : WordsLaid k lengths words) where
+  pub word-length : (b : ℕ) → b < 256 → length (wordAt lengths words b) ≡ getD lengths b 0
+  unfolding wordAt
+  word-length b h =
+      length-take-le (getD lengths b 0) (drop (b * 86) words)
+      (rw (length-drop, a .places) (omega (arith, getD-below (a .few) (omega arith) b)))
+
+  -- past the last character too
+  word-symbols : (b : ℕ) → Below (2 ^ k) (wordAt lengths words b)
+  unfolding wordAt
+  word-symbols b =
+      elim (decLt b 256) [
+        | yes h ↦ a .symbols b h
+        | no n ↦ rw (List·getD-eq-default lengths 0 {n = b} (omega (arith, a .characters))) none
+      ]
+
+  pub row-symbols : (text : List ℕ) → Below (2 ^ k) (rowOf lengths words text)
+  unfolding rowOf
+  row-symbols [] = none
+  row-symbols (b ∷ text) = below-append (word-symbols b) (row-symbols text)
 
 -- ---- under a table
 
@@ -265,15 +294,24 @@ module _ (c : Code) (g : T (goodCode c)) (l : List ℕ) where
             inside = omega (arith, taken-le lengths room text);
           }
 
+    word-below : (b : ℕ) → b < 256 → Below (base c) (wordAt lengths words b)
+    unfolding wordAt write
+    word-below b h =
+        cases (has b l)
+        (λ e. rw (at-length b h, s .word b h e) (rw append-nil at (write-below (base c) (stoppers c) (code-good c g) (rankIn l b ∷ []))))
+        (λ e. rw (at-length b h, for-none b e) none)
+
     -- what storing the text asks
     pub laid : length l ≤ 256 → {text buf : List ℕ} {first : ℕ} → rowOf lengths words text ≡ textRow c l text
         → first + length (textRow c l text) ≤ length (symbolsOf (c .k) buf) → first + length (textRow c l text) < 2 ^ 64 → Laid (c .k) lengths words text buf first
     laid few f fits counts = record {
-      width = code-width c g;
-      characters = ap length (s .sizes) ∙ length-tab (lengthFor c l) 0 256;
-      few = rw (s .sizes) (tab-below (lengthFor c l) 87 0 256 short);
-      places = s .long;
-      symbols = rw f (row-below _);
+      laid = record {
+        width = code-width c g;
+        characters = ap length (s .sizes) ∙ length-tab (lengthFor c l) 0 256;
+        few = rw (s .sizes) (tab-below (lengthFor c l) 87 0 256 short);
+        places = s .long;
+        symbols = word-below;
+      };
       fits = rw f fits;
       counts = rw f counts;
     }
@@ -290,11 +328,7 @@ module _ (c : Code) (g : T (goodCode c)) (l : List ℕ) where
 pub laid-again : {k : ℕ} {lengths words text buf after : List ℕ} {first : ℕ} → Laid k lengths words text buf first → length after ≡ length buf
     → Laid k lengths words text after first
 laid-again {k} {buf = buf} {after = after} a e = record {
-  width = a .width;
-  characters = a .characters;
-  few = a .few;
-  places = a .places;
-  symbols = a .symbols;
+  laid = a .laid;
   fits = rw (symbols-even k after buf e) (a .fits);
   counts = a .counts;
 }

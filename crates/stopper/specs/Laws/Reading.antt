@@ -190,6 +190,15 @@ module _ (m : ℕ) (s : ℕ → ℕ) (g : Good m s) (σ : ℕ) where
   unfolding firstFrom
   first-more i x y w h = cond-no (ltb y (s i)) _ _ (no-ltb h)
 
+  -- past σ there is none, whatever follows
+  pub first-past : (w : List ℕ) (i x : ℕ) → σ ≤ shorter m s i + x → firstFrom m s σ i x w ≡ broken
+  unfolding firstFrom
+  first-past [] i x h = refl
+  first-past (y ∷ w) i x h =
+      by-test (ltb y (s i))
+      (λ t. first-stuck i x y w (ltb→lt _ _ t) (le-trans h (rank-least i x y)))
+      (λ t. first-more i x y w (nltb→le _ _ t) ∙ first-past w (suc i) _ (le-trans h (least-grows i x (y - s i))))
+
   first-spell : (i x : ℕ) (w : List ℕ) → x < opens m s i → firstFrom m s σ 0 0 (spell m s i x w) ≡ firstFrom m s σ i x w
   unfolding spell opens
   first-spell zero x w h = rw (lt-one h)

@@ -20,7 +20,7 @@ use Rattle.symbols.specs.Laws.Rows.{symbols-length, symbols-at, symbols-
 
 -- ---- digits
 
-pow-mul : (n i j : ℕ) → n ^ (i * j) ≡ (n ^ i) ^ j
+pub pow-mul : (n i j : ℕ) → n ^ (i * j) ≡ (n ^ i) ^ j
 pow-mul n i zero = rw (mul-zero, pow-zero n, pow-zero (n ^ i))
 pow-mul n i (suc j) = rw (mul-suc, pow-add, pow-mul n i j, pow-suc)
 

@@ -2,7 +2,7 @@
 -- Assumes nothing.
 use mathlib.Core.Path.{_≡_, sym, _∙_}
 use mathlib.Core.List.{List}
-use Prim.Native.Nat.{ℕ, _-_, _≤_, _<_}
+use Prim.Native.Nat.{ℕ, _+_, _-_, _≤_, _<_}
 use native.Mathlib.Omega.{arith}
 use borrow.Author.Needs.{needs}
 use lib.ListN.{length, getD}
@@ -14,7 +14,7 @@ use Rattle.stopper.specs.Laws.State.{state-small}
 use Rattle.symbols.specs.Symbols.{symbolsOf}
 use Rattle.symbols.specs.Laws.Rows.{symbols-below}
 use Rattle.buffer.specs.Roll.{rowUpto}
-use Rattle.buffer.proofs.Seen.{Seen, start, ended, is-bad, is-rank, is-open}
+use Rattle.buffer.proofs.Seen.{Seen, start, ended, is-past, is-bad, is-rank, is-open}
 use Rattle.buffer.proofs.reading.codeword_at.Statement.{statement}
 use Rattle.buffer.proofs.reading.codeword_at.Tie as tie
 
@@ -91,24 +91,34 @@ returns-2 c =
 enum-known-next-2 : tie.Need-enum-known-next-2 Inv-loop μ-loop
 enum-known-next-2 c = search needs
 
+-- the codeword stays open
+open-still : (c : tie.After-next2 Inv-loop μ-loop) → let n = c .before .before .before .before in let s = n .before .before .before .before in
+    Seen (s .args .code) (s .args .sigma) (row s) (s .args .p) (n .before .loop .i + 1) (c .next2 .given .0 .0)
+open-still x =
+    let y = x .before .before in
+    let n = y .before .before in
+    let s = n .before .before .before .before in
+    let b : getD (all s) (n .before .loop .i) 0 < base (s .args .code)
+    = below-at (symbols-below (s .args .code .k) (s .args .buf .now)) (n .before .loop .i) (omega (arith, s .pre .held, n .loop-test .taken)) in
+    is-open (s .args .code) (s .pre .good) (s .args .sigma) (row s) (n .before .loop .inv .1) (inside n) (here (y .before)) (rw (y .before .get .ensures) b)
+    (sym (x .next2 .given .1) ∙ y .read-symbol .ensures)
+
+returns-3 : tie.Need-returns-3 Inv-loop μ-loop
+returns-3 c =
+    let x = c .before .before in
+    let s = x .before .before .before .before .before .before .before .before in
+    is-past (s .args .code) (s .pre .good) (s .args .sigma) (row s) (open-still x) (c .if1 .taken)
+
 loop-less : tie.Need-loop-less Inv-loop μ-loop
 loop-less c = omega arith
 
 loop-again : tie.Need-loop-again Inv-loop μ-loop
 loop-again c =
-    let x = c .before in
-    let y = x .before .before in
-    let n = y .before .before in
-    let s = n .before .before .before .before in
-    let b : getD (all s) (n .before .loop .i) 0 < base (s .args .code)
-    = below-at (symbols-below (s .args .code .k) (s .args .buf .now)) (n .before .loop .i) (omega (arith, s .pre .held, n .loop-test .taken)) in (
-      omega (arith, n .loop-test .taken),
-      is-open (s .args .code) (s .pre .good) (s .args .sigma) (row s) (n .before .loop .inv .1) (inside n) (here (y .before)) (rw (y .before .get .ensures) b)
-          (sym (x .next2 .given .1) ∙ y .read-symbol .ensures),
-    )
+    let x = c .before .before in
+    (omega (arith, x .before .before .before .before .loop-test .taken), open-still x)
 
-returns-3 : tie.Need-returns-3 Inv-loop μ-loop
-returns-3 c =
+returns-4 : tie.Need-returns-4 Inv-loop μ-loop
+returns-4 c =
     let s = c .before .before .before .before in
     ended (s .args .code) (s .args .sigma) (row s) (s .args .p) (c .before .loop .inv .1) (omega (arith, long s, c .loop-test .left))
 
@@ -128,6 +138,7 @@ codeword-at-spec =
     enum-told
     returns-2
     enum-known-next-2
+    returns-3
     loop-less
     loop-again
-    returns-3)
+    returns-4)

@@ -10,7 +10,7 @@ use Rattle.symbols.specs.Symbols.{per, bytesFor, symbolsOf}
 use Rattle.symbols.specs.Laws.Rows.{symbols-even, ends-inside}
 use Rattle.symbols.specs.Laws.Sizes.{bytesFor-enough, bytesFor-least}
 use Rattle.symbols.specs.Laws.Width.{per-few}
-use Rattle.buffer.specs.Laws.Words.{laid-again}
+use Rattle.buffer.specs.Laws.Words.{row-symbols, laid-again}
 use Rattle.buffer.specs.Laws.Replacing.{grown}
 use Rattle.buffer.proofs.replace.grow.Statement.{statement}
 use Rattle.buffer.proofs.replace.grow.Tie as tie
@@ -35,7 +35,7 @@ later-few : (s : tie.Start) → later s ≤ 16777216
 later-few s = omega (arith, s .pre .0 .few, s .pre .0 .ordered, s .pre .0 .inside, s .pre .1)
 
 end : (c : tie.After-unused) → let s = begun (moved c) in later s + c .unused .result ≡ bytesFor (s .args .k) (later s) * per (s .args .k)
-end c = let s = begun (moved c) in omega (arith, c .unused .ensures, bytesFor-enough (s .pre .0 .laid .width) (later s))
+end c = let s = begun (moved c) in omega (arith, c .unused .ensures, bytesFor-enough (s .pre .0 .laid .laid .width) (later s))
 
 sub-by : tie.Need-sub-by
 sub-by c = search needs
@@ -64,7 +64,7 @@ unused-requires c κs = search needs
 add-clear-3 : tie.Need-add-clear-3
 add-clear-3 c =
     let s = begun (moved c) in
-    let w = s .pre .0 .laid .width in
+    let w = s .pre .0 .laid .laid .width in
     omega (arith, end c, bytesFor-least w (later s), per-few w, later-few s)
 
 clear-requires : tie.Need-clear-requires
@@ -72,7 +72,7 @@ clear-requires c κs =
     let u = moved c in
     let s = begun u in
     let k = s .args .k in
-    let w = s .pre .0 .laid .width in
+    let w = s .pre .0 .laid .laid .width in
     let one = u .up .last .1 .0 in
     let two = stored c .write-text .last .1 .1 .1 .1 .0 in (
       w,
@@ -95,9 +95,9 @@ returns c =
     let u = moved d in
     let s = begun u in
     let r = s .pre .0 in
-    grown (r .laid .width)
+    grown (r .laid .laid .width)
     (below-all 256 _ (λ i. u .before .before .slice-known .given i .fits))
-    (r .laid .symbols)
+    (row-symbols (r .laid .laid) _)
     (r .ordered)
     (r .inside)
     (r .held)

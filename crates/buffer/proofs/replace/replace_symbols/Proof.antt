@@ -4,6 +4,7 @@ use native.Mathlib.Omega.{arith}
 use borrow.Author.Needs.{needs}
 use Rattle.ground.specs.Laws.Rows.{below-all}
 use Rattle.buffer.specs.Laws.Replacing.{even}
+use Rattle.buffer.specs.Laws.Words.{row-symbols}
 use Rattle.buffer.proofs.replace.replace_symbols.Statement.{statement}
 use Rattle.buffer.proofs.replace.replace_symbols.Tie as tie
 
@@ -43,9 +44,9 @@ returns-3 c =
     let d = t .before .before in
     let k = d .before .before in
     let r = k .before .before .before .before .pre in
-    even (r .laid .width)
+    even (r .laid .laid .width)
     (below-all 256 _ (λ i. k .slice-known .given i .fits))
-    (r .laid .symbols)
+    (row-symbols (r .laid .laid) _)
     (r .ordered)
     (r .inside)
     (r .held)

@@ -5,7 +5,7 @@ use native.Mathlib.Omega.{arith}
 use borrow.Author.Needs.{needs}
 use Rattle.ground.specs.Laws.Rows.{below-all}
 use Rattle.symbols.specs.Laws.Rows.{symbols-even}
-use Rattle.buffer.specs.Laws.Words.{laid-again}
+use Rattle.buffer.specs.Laws.Words.{row-symbols, laid-again}
 use Rattle.buffer.specs.Laws.Replacing.{shrunk}
 use Rattle.buffer.proofs.replace.shrink.Statement.{statement}
 use Rattle.buffer.proofs.replace.shrink.Tie as tie
@@ -41,7 +41,7 @@ clear-requires c κs =
     let k = s .args .k in
     let one = u .down .last .1 .0 in
     let two = stored c .write-text .last .1 .1 .1 .1 .0 in (
-      s .pre .0 .laid .width,
+      s .pre .0 .laid .laid .width,
       omega arith,
       omega (
         arith,
@@ -60,9 +60,9 @@ returns c =
     let u = moved d in
     let s = begun u in
     let r = s .pre .0 in
-    shrunk (r .laid .width)
+    shrunk (r .laid .laid .width)
     (below-all 256 _ (λ i. u .before .before .slice-known .given i .fits))
-    (r .laid .symbols)
+    (row-symbols (r .laid .laid) _)
     (r .ordered)
     (r .inside)
     (r .held)

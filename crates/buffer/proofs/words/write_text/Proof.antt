@@ -1,87 +1,114 @@
--- `buffer::words::write_text` meets its contract: the codewords of the characters passed are stored.
+-- `buffer::words::write_text` meets its contract: the codewords of the characters passed are gathered.
 -- Assumes nothing.
-use mathlib.Core.Path.{_≡_, refl, sym, ap, _∙_}
-use mathlib.Core.List.{List, _++_}
-use Prim.Native.Nat.{ℕ, suc, _+_, _-_, _*_, _^_, _≤_, _<_}
+use mathlib.Core.Path.{_≡_, refl, sym, ap, ap₂, _∙_}
+use mathlib.Core.List.{List, _++_, append-nil, append-assoc}
+use Prim.Native.Nat.{ℕ, _+_, _-_, _*_, _^_, _≤_, _<_}
 use native.Mathlib.Numerals.{add-one}
 use native.Mathlib.Omega.{arith}
 use borrow.Author.Needs.{needs}
 use lib.ListN.{length, take, drop, getD, length-append}
-use lib.Seq.{take-at, drop-at, take-all}
-use Rattle.ground.specs.Rows.{Below}
-use Rattle.ground.specs.Laws.Rows.{getD-below, below-take, below-drop}
-use Rattle.symbols.specs.Symbols.{Width, symbolsOf}
-use Rattle.symbols.specs.Runs.{over}
+use lib.Seq.{take-all, drop-drop}
+use Rattle.symbols.specs.declared.gather.Gather.{Gather}
+use Rattle.symbols.specs.Symbols.{per, symbolsOf}
+use Rattle.symbols.specs.Gathered.{gathered, upTo, Waiting, Added}
+use Rattle.symbols.specs.Laws.Gathered.{added-past, finished}
 use Rattle.symbols.specs.Laws.Rows.{symbols-even}
-use Rattle.symbols.specs.Laws.Runs.{over-none, over-after}
 use Rattle.buffer.specs.Words.{wordAt, rowOf, laidFrom, Laid}
 use Rattle.buffer.specs.Laws.Words.{row-more, row-split}
 use Rattle.buffer.proofs.words.write_text.Statement.{statement}
 use Rattle.buffer.proofs.words.write_text.Tie as tie
 
-pub record Written (k : ℕ) (lengths words text old : List ℕ) (first : ℕ) (buf : List ℕ) (p i : ℕ) : Type 0 where
+-- nothing behind the gathered symbols has changed
+pub record Written (k : ℕ) (lengths words text old : List ℕ) (first : ℕ) (buf : List ℕ) (g : Gather) (i : ℕ) : Type 0 where
   pub inside : i ≤ length text
   pub even : length buf ≡ length old
-  pub after : p ≡ first + length (rowOf lengths words (take i text))
-  pub row : symbolsOf k buf ≡ over (symbolsOf k old) first (rowOf lengths words (take i text)) p
+  pub few : g .count < 4 * per k
+  pub small : g .bits < 2 ^ (k * g .count)
+  pub upto : upTo k g ≡ first + length (rowOf lengths words (take i text))
+  pub symbols : gathered k g buf ≡ take first (symbolsOf k old) ++ rowOf lengths words (take i text)
+  pub rest : drop (upTo k g) (symbolsOf k buf) ≡ drop (upTo k g) (symbolsOf k old)
 
-start : (k : ℕ) (lengths words text old : List ℕ) (first : ℕ) → Written k lengths words text old first old first 0
-unfolding rowOf
-start k lengths words text old first =
-    record { inside = omega arith; even = refl; after = omega arith; row = sym (over-none (symbolsOf k old) first) }
+module _ {k : ℕ} {lengths words text old : List ℕ} {first : ℕ} (a : Laid k lengths words text old first) where
+  start : {g : Gather} → g .count < 4 * per k → g .bits < 2 ^ (k * g .count) → upTo k g ≡ first
+      → gathered k g old ≡ take first (symbolsOf k old) → Written k lengths words text old first old g 0
+  unfolding rowOf
+  start few small upto symbols = record {
+    inside = omega arith;
+    even = refl;
+    few = few;
+    small = small;
+    upto = omega (arith, upto);
+    symbols = symbols ∙ sym (append-nil (take first (symbolsOf k old)));
+    rest = refl;
+  }
 
-all : {k : ℕ} {lengths words text old : List ℕ} {first : ℕ} {buf : List ℕ} {p i : ℕ} → Written k lengths words text old first buf p i → length text ≤ i
-    → symbolsOf k buf ≡ laidFrom (symbolsOf k old) first (rowOf lengths words text)
-all {text = text} {i = i} s h =
-    let e : take i text ≡ text = take-all i text h in
-    s .row ∙ rw (s .after, e)
+  module _ {buf : List ℕ} {g : Gather} {i : ℕ} (s : Written k lengths words text old first buf g i) where
+    waits : {n : ℕ} → upTo k g + n ≤ first + length (rowOf lengths words text) → Waiting k g buf n
+    waits h = record {
+      few = s .few;
+      small = s .small;
+      within = omega (arith, a .fits, symbols-even k buf old (s .even));
+      counts = omega (arith, a .counts);
+    }
 
--- the part of the words that is lent
-lent : (lengths words : List ℕ) {x b n : ℕ} → b ≡ x → n ≡ getD lengths b 0 → take (b * 86 + n - b * 86) (drop (b * 86) words) ≡ wordAt lengths words x
-unfolding wordAt
-lent lengths words {x} {b} {n} e f = let q : b * 86 + n - b * 86 ≡ n = omega arith in rw (q, f, e)
+    module _ (h : i < length text) {b : ℕ} (e : b ≡ getD text i 0) where
+      ends : upTo k g + length (wordAt lengths words b) ≤ first + length (rowOf lengths words text)
+      ends = rw e (omega (arith, s .upto, simp length-append at (ap length (row-split lengths words text i h))))
 
-module _ {k : ℕ} {lengths words text old : List ℕ} {first : ℕ} {buf : List ℕ} {p i : ℕ} (a : Laid k lengths words text old first)
-    (s : Written k lengths words text old first buf p i) (h : i < length text) {w : List ℕ} (e : w ≡ wordAt lengths words (getD text i 0)) where
-  split : rowOf lengths words text ≡ rowOf lengths words (take i text) ++ (w ++ rowOf lengths words (drop (suc i) text))
-  split = rw e (row-split lengths words text i h)
+      more : {after : List ℕ} {r : Gather} → length after ≡ length buf → Added k g buf (wordAt lengths words b) r after
+          → Written k lengths words text old first after r (i + 1)
+      more {after} {r} even d =
+          let w = wordAt lengths words b in
+          let m : rowOf lengths words (take (i + 1) text) ≡ rowOf lengths words (take i text) ++ w = rw (add-one i, e) (row-more lengths words text i h) in
+          let past : drop (upTo k r) (symbolsOf k buf) ≡ drop (upTo k r) (symbolsOf k old)
+          = rw (d .upto)
+          (sym (drop-drop (length w) (upTo k g) (symbolsOf k buf)) ∙ ap (drop (length w)) (s .rest) ∙ drop-drop (length w) (upTo k g) (symbolsOf k old)) in
+          record {
+            inside = omega arith;
+            even = even ∙ s .even;
+            few = d .few;
+            small = d .small;
+            upto = omega (arith, d .upto, s .upto, simp length-append at (ap length m));
+            symbols =
+                d .symbols
+                ∙ ap (λ (l : List ℕ). l ++ w) (s .symbols)
+                ∙ append-assoc (take first (symbolsOf k old)) (rowOf lengths words (take i text)) w
+                ∙ ap (λ (l : List ℕ). take first (symbolsOf k old) ++ l) (sym m);
+            rest = added-past (a .laid .width) d ∙ past;
+          }
 
-  ends : p + length w ≤ first + length (rowOf lengths words text)
-  ends = omega (arith, s .after, simp length-append at (ap length split))
+    module _ (h : length text ≤ i) where
+      all-upto : upTo k g ≡ first + length (rowOf lengths words text)
+      all-upto = rw (take-all i text h) at (s .upto)
 
-  word-symbols : Below (2 ^ k) w
-  word-symbols =
-      let rest = rowOf lengths words (drop (suc i) text) in
-      let n = length (rowOf lengths words (take i text)) in
-      let d : drop n (rowOf lengths words text) ≡ w ++ rest = ap (drop n) split ∙ drop-at (rowOf lengths words (take i text)) (w ++ rest) n refl in
-      let t : take (length w) (drop n (rowOf lengths words text)) ≡ w = ap (take (length w)) d ∙ take-at w rest (length w) refl in
-      rw t at (below-take (below-drop (a .symbols) n) (length w))
-
-  asked : Width k × Below (2 ^ k) w × (p + length w ≤ length (symbolsOf k buf)) × (p + length w < 2 ^ 64)
-  asked = (a .width, word-symbols, omega (arith, ends, a .fits, symbols-even k buf old (s .even)), omega (arith, ends, a .counts))
-
-  more : {buf′ : List ℕ} {q : ℕ} → q ≡ p + length w → length buf′ ≡ length buf → symbolsOf k buf′ ≡ over (symbolsOf k buf) p w (p + length w)
-      → Written k lengths words text old first buf′ q (i + 1)
-  more {buf′} {q} f g r =
-      let m : rowOf lengths words (take (i + 1) text) ≡ rowOf lengths words (take i text) ++ w = rw (add-one i, e) (row-more lengths words text i h) in
-      record {
-        inside = omega arith;
-        even = g ∙ s .even;
-        after = omega (arith, f, s .after, simp length-append at (ap length m));
-        row = r
-            ∙ ap (λ (l : List ℕ). over l p w (p + length w)) (s .row)
-            ∙ over-after (symbolsOf k old) first p (p + length w) (rowOf lengths words (take i text)) w (omega (arith, s .after)) refl (omega (arith, ends, a .fits))
-            ∙ rw (m, f);
-      }
+      all : gathered k g buf ++ drop (upTo k g) (symbolsOf k buf) ≡ laidFrom (symbolsOf k old) first (rowOf lengths words text)
+      all =
+          ap₂ _++_ (s .symbols) (s .rest)
+          ∙ rw (take-all i text h, all-upto) (append-assoc (take first (symbolsOf k old)) (rowOf lengths words text) _)
 
 abbrev Inv-loop : tie.InvT-loop
-Inv-loop k lengths words text buf₀ first p₀ i₀ buf p i = Written k lengths words text buf₀ first buf p i
+Inv-loop k lengths words text buf₀ first numbers g₀ i₀ buf g i = Written k lengths words text buf₀ first buf g i
 
 abbrev μ-loop : tie.MeasureT-loop
-μ-loop k lengths words text buf₀ first p₀ i₀ buf p i = length text - i
+μ-loop k lengths words text buf₀ first numbers g₀ i₀ buf g i = length text - i
+
+abbrev begun : tie.After-numbers-of Inv-loop μ-loop → tie.Start Inv-loop μ-loop
+begun c = c .before .before .before .before .before
+
+numbers-of-requires : tie.Need-numbers-of-requires Inv-loop μ-loop
+numbers-of-requires c κs = c .before .before .before .before .pre .laid
+
+begin-requires : tie.Need-begin-requires Inv-loop μ-loop
+begin-requires c κs = let s = begun (c .before) in (s .pre .laid .width, omega (arith, s .pre .fits))
 
 loop-holds : tie.Need-loop-holds Inv-loop μ-loop
-loop-holds c = start _ _ _ _ _ _
+loop-holds c =
+    let s = begun (c .before .before) in
+    let g = c .begin .ensures in
+    start (s .pre) (g .0 .0) (g .0 .1) (g .1 .0) (g .1 .1)
+
+slice-aggregate-add-word : tie.Need-slice-aggregate-add-word Inv-loop μ-loop
+slice-aggregate-add-word c = search needs
 
 shared-slice-read-wide : tie.Need-shared-slice-read-wide Inv-loop μ-loop
 shared-slice-read-wide c = omega arith
@@ -89,40 +116,17 @@ shared-slice-read-wide c = omega arith
 wide-requires : tie.Need-wide-requires Inv-loop μ-loop
 wide-requires c κs = search needs
 
-mul-at : tie.Need-mul-at Inv-loop μ-loop
-mul-at c = omega arith
-
-shared-slice-read-wide-2 : tie.Need-shared-slice-read-wide-2 Inv-loop μ-loop
-shared-slice-read-wide-2 c = omega arith
-
-wide-requires-2 : tie.Need-wide-requires-2 Inv-loop μ-loop
-wide-requires-2 c κs = search needs
-
-add-end : tie.Need-add-end Inv-loop μ-loop
-add-end c = omega arith
-
-sub-put-word : tie.Need-sub-put-word Inv-loop μ-loop
-sub-put-word c = omega arith
-
-part-put-word-start : tie.Need-part-put-word-start Inv-loop μ-loop
-part-put-word-start c = omega arith
-
-part-put-word-end : tie.Need-part-put-word-end Inv-loop μ-loop
-part-put-word-end c =
-    let v = c .before .before in
-    let s = v .before .before .before .before .before .before .before in
-    omega (arith, c .wide2 .ensures .0, getD-below (s .before .pre .few) (omega arith) (v .wide .result))
-
-put-word-requires : tie.Need-put-word-requires Inv-loop μ-loop
-put-word-requires c κs =
-    let w = c .before .before in
-    let v = w .before .before in
-    let l = v .before .before .before in
-    let s = l .before .before .before .before .before in
-    asked (s .pre) (l .loop .inv) (omega arith) (lent (s .args .lengths .now) (s .args .words .now) (v .wide .ensures .0) (w .wide2 .ensures .0))
+add-word-requires : tie.Need-add-word-requires Inv-loop μ-loop
+add-word-requires c κs =
+    let v = c .before in
+    let l = v .before .before .before .before in
+    let n = l .before .before .before in
+    let s = begun n in
+    let e = v .wide .ensures in
+    (s .pre .laid, n .numbers-of .ensures, e .1, waits (s .pre) (l .loop .inv) (ends (s .pre) (l .loop .inv) (omega arith) (e .0)))
 
 add-i : tie.Need-add-i Inv-loop μ-loop
-add-i c = omega arith
+add-i c = omega (arith, begun (c .before .before .before .before .before .before .before .before .before .before .before) .good .1 .1 .1 .0)
 
 loop-less : tie.Need-loop-less Inv-loop μ-loop
 loop-less c = omega arith
@@ -130,18 +134,26 @@ loop-less c = omega arith
 loop-again : tie.Need-loop-again Inv-loop μ-loop
 loop-again c =
     let u = c .before .before in
-    let w = u .before .before .before in
-    let v = w .before .before in
-    let l = v .before .before .before in
-    let s = l .before .before .before .before .before in
-    more (s .pre) (l .loop .inv) (omega arith) (lent (s .args .lengths .now) (s .args .words .now) (v .wide .ensures .0) (w .wide2 .ensures .0))
-    (u .put-word .ensures .0) (u .put-word .kept .1 .1 .0) (u .put-word .ensures .1)
+    let v = u .before .before in
+    let l = v .before .before .before .before in
+    let s = begun (l .before .before .before) in
+    more (s .pre) (l .loop .inv) (omega arith) (v .wide .ensures .0) (u .add-word .kept .1 .1 .1 .1 .1 .1 .0) (u .add-word .ensures)
+
+finish-requires : tie.Need-finish-requires Inv-loop μ-loop
+finish-requires c κs =
+    let l = c .before .before in
+    let s = begun (l .before .before .before) in
+    (s .pre .laid .width, waits (s .pre) (l .loop .inv) (omega (arith, all-upto (s .pre) (l .loop .inv) (omega arith))))
 
 same-length : tie.Need-same-length Inv-loop μ-loop
-same-length c = c .before .loop .inv .even
+same-length c = c .before .before .finish .kept .1 .1 .0 ∙ c .before .before .before .before .before .loop .inv .even
 
 returns : tie.Need-returns Inv-loop μ-loop
-returns c = all (c .before .loop .inv) (c .loop-test .left)
+returns c =
+    let f = c .before .before in
+    let l = f .before .before .before in
+    let s = begun (l .before .before .before) in
+    f .finish .ensures ∙ finished (s .pre .laid .width) (l .loop .g) (l .loop .buf) ∙ all (s .pre) (l .loop .inv) (omega arith)
 
 pub write-text-spec : {M : Type 1} → statement M
 write-text-spec =
@@ -149,19 +161,16 @@ write-text-spec =
     (tie.spec
     Inv-loop
     μ-loop
+    numbers-of-requires
+    begin-requires
     loop-holds
+    slice-aggregate-add-word
     shared-slice-read-wide
     wide-requires
-    mul-at
-    shared-slice-read-wide-2
-    wide-requires-2
-    add-end
-    sub-put-word
-    part-put-word-start
-    part-put-word-end
-    put-word-requires
+    add-word-requires
     add-i
     loop-less
     loop-again
+    finish-requires
     same-length
     returns)
