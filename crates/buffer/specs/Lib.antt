@@ -5,8 +5,8 @@ pub mod Roll
 pub mod Codewords
 pub mod Directory
 pub mod Hits
+pub mod Editing
 pub mod Ends
 pub mod Words
-pub mod Editing
 pub mod Finding
 pub mod Laws

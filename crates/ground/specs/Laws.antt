@@ -1,3 +1,4 @@
+-- The laws, by subject: the limit's two facts, tests decided, refusals and what they keep, answers, rows of numbers.
 pub mod Limit
 pub mod Tests
 pub mod Refusals

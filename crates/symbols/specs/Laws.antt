@@ -1,3 +1,4 @@
+-- The laws, by subject: the two widths, sizes, the row of a buffer, packing and its way back, runs, and symbols on their way into bytes.
 pub mod Width
 pub mod Sizes
 pub mod Rows
