@@ -197,11 +197,46 @@ def edit(t, n, h, buf, entries, start, end, text):
     return None, n2, h2, after, behind + [0] * (len(wanted) - len(behind)) + entries[max(len(wanted), len(behind)):]
 
 
+def count(text, counts):
+    if len(counts) != 256:
+        return (2, len(counts)), counts
+    if len(text) > LIMIT:
+        return (4, LIMIT), counts
+    return None, counts_of(text)
+
+
+def counts_of(text):
+    return [list(text).count(b) for b in range(256)]
+
+
 def choose(k, counts):
-    """The table: s with the fewest symbols, of equals the smallest; ranks by greater count, of equal counts the smaller byte."""
+    """The refusal or None, the total, the table: s with the fewest symbols, of equals the smallest; ranks by greater count, of equal
+    counts the smaller byte."""
+    if k not in (2, 4):
+        return (1, 0), 0, (k, 0, 0, [0] * 256)
+    if len(counts) != 256:
+        return (2, len(counts)), 0, (k, 0, 0, [0] * 256)
     ranked = sorted((b for b in range(256) if counts[b]), key=lambda b: (-counts[b], b))
-    totals = [sum(counts[b] * len(w) for b, w in zip(ranked, codewords(k, s))) for s in range(1, 2 ** k)]
-    return (k, 1 + totals.index(min(totals)), len(ranked), ranked + [0] * (256 - len(ranked)))
+    totals = [(sum(counts[b] * len(w) for b, w in zip(ranked, codewords(k, s))), s) for s in range(1, 2 ** k)]
+    total, s = min(totals)
+    return None, total, (k, s, len(ranked), ranked + [0] * (256 - len(ranked)))
+
+
+def codeword_of(t, character):
+    if not good_table(t):
+        return (1, 0), []
+    if character not in t[3][:t[2]]:
+        return (3, 0), []
+    return None, list(codewords(t[0], t[1])[t[3].index(character)])
+
+
+def character_of(t, length, row):
+    """The refusal, or None and the character."""
+    if not good_table(t):
+        return (1, 0), None
+    if length > 86 or tuple(row[:length]) not in codewords(t[0], t[1])[:t[2]]:
+        return (6, 0), None
+    return None, t[3][codewords(t[0], t[1]).index(tuple(row[:length]))]
 
 
 def report(data):
@@ -211,7 +246,7 @@ def report(data):
         return b"refused 11 0\n"
     if len(text) > 16384:
         return b"refused 4 16384\n"
-    t = choose(2, [text.count(b) for b in range(256)])
+    _, _, t = choose(2, counts_of(text))
     r, n, h, buf = pack(t, list(text), [0] * 16384)
     if r:
         return b"refused %d %d\n" % r
@@ -266,6 +301,38 @@ def answer(refusal):
 
 def note(words):
     given.append("# " + words)
+
+
+def count_case(words, text, counts, expect=...):
+    r, after = count(text, counts)
+    assert expect is ... or r == expect, (words, r, expect)
+    note(words)
+    given.append(f"9 {row_in(list(text))} {numbers_in(counts)}")
+    said.append("count" + answer(r) + numbers_out(after))
+
+
+def choose_case(words, k, counts, expect=...):
+    r, total, t = choose(k, counts)
+    assert expect is ... or r == expect, (words, r, expect)
+    note(words)
+    given.append(f"10 {k} {numbers_in(counts)}")
+    said.append("choose" + answer(r) + f" total {total} k {t[0]} s {t[1]} sigma {t[2]}" + row_out(t[3]))
+
+
+def codeword_case(words, t, character, expect=...):
+    r, word = codeword_of(t, character)
+    assert expect is ... or r == expect, (words, r, expect)
+    note(words)
+    given.append(f"11 {table_in(t)} {character}")
+    said.append("codeword" + answer(r) + f" length {len(word)}" + row_out(word + [0] * (86 - len(word))))
+
+
+def character_case(words, t, length, row, expect=...):
+    r, b = character_of(t, length, row)
+    assert expect is ... or r == expect, (words, r, expect)
+    note(words)
+    given.append(f"12 {table_in(t)} {length} {row_in(row)}")
+    said.append("character" + (answer(r) if r else f" {b}"))
 
 
 def check_case(words, t, n, h, buf, expect=...):
@@ -556,7 +623,7 @@ every = table(2, 3, ALL)
 rare = [255] * 66
 _, n, h, buf = pack(every, rare, [0xFF] * 1500)
 search_case("64 characters of 86 symbols each", every, n, h, buf, [255] * 64, [9] * 4, None)
-search_case("no roll inside a codeword: 254 stands in 255's symbols", every, n, h, buf, [252], [9] * 4, None)
+search_case("no roll inside a codeword: 252 stands in 255's symbols", every, n, h, buf, [252], [9] * 4, None)
 
 # the edit
 edit_case("P10: 4..5 by dd", ABRA, 11, 13, BYTES, [0], 4, 5, b"dd", None)
@@ -635,6 +702,89 @@ for k, s in ((2, 3), (2, 1), (4, 14), (4, 3)):
     m, g, b32, e32 = rolled(full, 30, 1)
     edit_case(w + "12", t, m, g, b32, e32, 32, 32, b"0", (12, 2))
     edit_case(w + "12, many", t, m, g, b32, e32, 0, 0, b"0" * 40 if k == 2 else b"0" * 28, (12, 3) if k == 2 else (12, 2))
+
+# what the neighbours in the order leave open
+for k, s in ((2, 3), (4, 2)):
+    w = f"width {k}, s {s}: "
+    t = table(k, s, list(b"0123456789"))
+    per = 8 // k
+    directory_case(w + "5 for the directory", t, 1, 99, [0], [9], (5, 99))
+    directory_case(w + "6 for the directory", t, 1, 1, packed(k, [s]), [9], (6, 0))
+    directory_case(w + "7 for the directory", t, 2, 1, packed(k, [0]), [9], (7, 1))
+    search_case(w + "5 for the search", t, 1, 99, [0], [48], [9], (5, 99))
+    search_case(w + "6 for the search", t, 1, 1, packed(k, [s]), [48], [9], (6, 0))
+every = table(2, 3, ALL)
+_, n, h, buf = pack(every, [0, 255, 9, 200], [0xA5] * 90)
+edit_case("codewords of 86 and 68 symbols put in", every, n, h, buf, [0], 1, 3, [255, 201, 3], None)
+_, n, h, buf = pack(ONE, [97] * 65535, [0xA5] * 16386)
+right = make_directory(ONE, n, h, buf, [0] * 2049)[1]
+edit_case("up to the limit in a longer buffer", ONE, n, h, buf, right, 65535, 65535, b"a", None)
+edit_case("4, past the limit in a longer buffer", ONE, n, h, buf, right, 0, 0, b"aa", (4, 65536))
+
+# ranks that 16, 32 and 64 bits would take for 0
+for bits in (16, 32, 64):
+    row = [2] * (bits - 2) + [3, 0]
+    wraps = table(2, 2, ALL)
+    check_case(f"a rank of 2^{bits}", wraps, 1, bits, packed(2, row), (6, 0))
+    read_case(f"a rank of 2^{bits}, read", wraps, 1, bits, packed(2, row), [0], 0, (6, 0))
+    character_case(f"a rank of 2^{bits}, decoded", wraps, bits, row + [0] * (86 - bits), (6, 0))
+
+# counting
+ZEROS = [0] * 256
+count_case("no text", [], [9] * 256, None)
+count_case("abracadabra", TEXT, [9] * 256, None)
+count_case("every byte value", ALL + ALL[128:], ZEROS, None)
+count_case("65,536 of one", [255] * 65536, ZEROS, None)
+count_case("4, one more", [255] * 65537, [9] * 256, (4, 65536))
+count_case("2, no counts", TEXT, [], (2, 0))
+count_case("2, 255 counts", TEXT, [9] * 255, (2, 255))
+count_case("2, 257 counts", TEXT, [9] * 257, (2, 257))
+count_case("2 before 4", [255] * 65537, [9] * 3, (2, 3))
+
+# choosing
+for k in (2, 4):
+    w = f"width {k}: "
+    choose_case(w + "all counts 0", k, ZEROS, None)
+    choose_case(w + "abracadabra", k, counts_of(TEXT), None)
+    choose_case(w + "banana", k, counts_of(b"banana"), None)
+    choose_case(w + "one character", k, counts_of(b"z"), None)
+    choose_case(w + "all alike: the smaller byte first", k, [3] * 256, None)
+    choose_case(w + "each more often than the one before", k, ALL, None)
+    choose_case(w + "halving", k, [2 ** (31 - i) if i < 32 else 0 for i in range(256)], None)
+    choose_case(w + "the greatest counts", k, [2 ** 32 - 1] * 256, None)
+    choose_case(w + "2, no counts", k, [], (2, 0))
+    choose_case(w + "2, 257 counts", k, [1] * 257, (2, 257))
+    for j in range(6):
+        choose_case(w + f"mixed {j}", k, [(i * i * (j + 7) + i * j) % (13 + 31 * j) if i % (j + 2) == 0 else 0 for i in range(256)], None)
+for k in (0, 1, 3, 5, 8, 255):
+    choose_case(f"1, width {k}, before 2", k, [1] * 3, (1, 0))
+assert choose(2, counts_of(TEXT))[1] == 13 and choose(2, counts_of(TEXT))[2][:3] == ABRA[:3]
+assert choose(4, counts_of(b"banana"))[2][1] == 3
+
+# the codeword of a character, and the character of a codeword
+for k, s in ((2, 1), (2, 2), (2, 3), (4, 1), (4, 3), (4, 14), (4, 15)):
+    w = f"width {k}, s {s}: "
+    backwards = table(k, s, list(reversed(ALL)))
+    words = codewords(k, s)
+    for rank in (0, 1, 2, 3, 13, 14, 15, 27, 28, 41, 42, 85, 128, 254, 255):
+        codeword_case(w + f"rank {rank}", backwards, 255 - rank, None)
+        long = list(words[rank])
+        character_case(w + f"rank {rank} back", backwards, len(long), long + [0] * (86 - len(long)), None)
+        character_case(w + f"rank {rank}, what follows is not looked at", backwards, len(long), long + [255] * (86 - len(long)), None)
+    few = table(k, s, list(b"abc"), rest=97)
+    codeword_case(w + "3, not in the table", few, 100, (3, 0))
+    codeword_case(w + "3, only past sigma", (k, s, 2, [1, 2, 3] + [0] * 253), 3, (3, 0))
+    codeword_case(w + "3, sigma 0", table(k, s, []), 0, (3, 0))
+    codeword_case(w + "1 before 3", (k, 2 ** k, 3, few[3]), 100, (1, 0))
+    fourth = list(words[3])
+    character_case(w + "6, of rank sigma", few, len(fourth), fourth + [0] * (86 - len(fourth)), (6, 0))
+    character_case(w + "6, no symbols", few, 0, [0] * 86, (6, 0))
+    character_case(w + "6, a stopper inside", few, 2, [0] * 86, (6, 0))
+    character_case(w + "6, unfinished", few, 86, [s] * 86, (6, 0))
+    character_case(w + "6, a length over 86", few, 87, [s] * 85 + [0], (6, 0))
+    character_case(w + "6, a huge length", few, 10 ** 11, [0] * 86, (6, 0))
+    character_case(w + "6, no base symbol", few, 2, [2 ** k, 0] + [0] * 84, (6, 0))
+    character_case(w + "1 before 6", (3, s, 3, few[3]), 0, [0] * 86, (1, 0))
 
 # the program's report
 EXAMPLE = b"best 3 symbols 13\n18c34600\n0\n7\nhits 2\n"

@@ -12,8 +12,8 @@ use given::number;
 use given::numbers;
 use given::roll_at;
 use given::table_at;
-use ground::answers::Answer;
 use ground::answers::Total;
+use printed::character;
 use printed::done;
 use printed::end;
 use printed::list;
@@ -21,6 +21,8 @@ use printed::number_out;
 use printed::refused;
 use printed::roll_out;
 use printed::runs;
+use printed::table_out;
+use stopper::codeword_of::Codeword;
 use stopper::table::Table;
 
 fn main() {
@@ -52,6 +54,10 @@ fn one_case(s: &[u8], at: usize) -> usize {
         6 => search_case(s, op.next),
         7 => edit_case(s, op.next),
         8 => report_case(s, op.next),
+        9 => count_case(s, op.next),
+        10 => choose_case(s, op.next),
+        11 => codeword_case(s, op.next),
+        12 => character_case(s, op.next),
         _ => s.len(),
     }
 }
@@ -155,16 +161,7 @@ fn read_case(s: &[u8], at: usize) -> usize {
 
 fn read(roll: Roll, buf: &[u8], dir: &[u32], place: usize) {
     io::write_all(1, b"read");
-    let answer = roll::read_one::read_one(roll, buf, dir, place);
-    match answer {
-        Answer::Read(character) => {
-            io::write_all(1, b" ");
-            number_out(character as usize);
-        }
-        Answer::Refused(number, value) => {
-            refused(number, value);
-        }
-    }
+    character(roll::read_one::read_one(roll, buf, dir, place));
     end();
 }
 
@@ -253,4 +250,84 @@ fn reported(input: &[u8]) {
     let mut out = [0u8; 147456];
     let long = report::report::report(input, &mut out);
     io::write_all(1, &out[..long]);
+}
+
+// A text, the counts as they were.
+fn count_case(s: &[u8], at: usize) -> usize {
+    let mut letters = [0u8; 65600];
+    let text = bytes(s, at, &mut letters);
+    let n = text.value;
+    let mut row = [0u32; 300];
+    let counts = numbers(s, text.next, &mut row);
+    let m = counts.value;
+    counted(&letters[..n], &mut row[..m]);
+    counts.next
+}
+
+fn counted(text: &[u8], counts: &mut [u32]) {
+    io::write_all(1, b"count");
+    done(stopper::count::count(text, counts));
+    list(counts);
+    end();
+}
+
+// k, the counts.
+fn choose_case(s: &[u8], at: usize) -> usize {
+    let k = number(s, at);
+    let mut row = [0u32; 300];
+    let counts = numbers(s, k.next, &mut row);
+    let m = counts.value;
+    chosen((k.value % 256) as u8, &row[..m]);
+    counts.next
+}
+
+fn chosen(k: u8, counts: &[u32]) {
+    io::write_all(1, b"choose");
+    let choice = stopper::choose::choose(k, counts);
+    let answer = choice.answer;
+    let table = choice.table;
+    done(answer);
+    io::write_all(1, b" total ");
+    io::print_decimal(1, choice.total);
+    table_out(table);
+    end();
+}
+
+// A table, a character.
+fn codeword_case(s: &[u8], at: usize) -> usize {
+    let given = table_at(s, at);
+    let wanted = number(s, given.next);
+    let table = given.table;
+    coded(table, (wanted.value % 256) as u8);
+    wanted.next
+}
+
+fn coded(table: Table, wanted: u8) {
+    io::write_all(1, b"codeword");
+    let outcome = stopper::codeword_of::codeword_of(table, wanted);
+    let answer = outcome.answer;
+    let word = outcome.word;
+    let symbols = word.symbols;
+    done(answer);
+    io::write_all(1, b" length ");
+    number_out(word.length);
+    runs(&symbols);
+    end();
+}
+
+// A table, a length, symbols.
+fn character_case(s: &[u8], at: usize) -> usize {
+    let given = table_at(s, at);
+    let length = number(s, given.next);
+    let mut symbols = [0u8; 86];
+    let row = bytes(s, length.next, &mut symbols);
+    let table = given.table;
+    let word = Codeword {
+        length: length.value,
+        symbols,
+    };
+    io::write_all(1, b"character");
+    character(stopper::character_of::character_of(table, word));
+    end();
+    row.next
 }

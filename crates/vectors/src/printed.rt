@@ -1,6 +1,8 @@
 // What is printed of an outcome.
 use buffer::roll::Roll;
+use ground::answers::Answer;
 use ground::answers::Done;
+use stopper::table::Table;
 
 pub fn number_out(n: usize) {
     io::print_decimal(1, n as u64);
@@ -23,6 +25,18 @@ pub fn done(answer: Done) {
             io::write_all(1, b" yes");
         }
         Done::Refused(number, value) => {
+            refused(number, value);
+        }
+    }
+}
+
+pub fn character(answer: Answer) {
+    match answer {
+        Answer::Read(character) => {
+            io::write_all(1, b" ");
+            number_out(character as usize);
+        }
+        Answer::Refused(number, value) => {
             refused(number, value);
         }
     }
@@ -86,12 +100,16 @@ fn places_out(places: [u8; 256]) {
 
 pub fn roll_out(roll: Roll) {
     let table = roll.table;
-    let code = table.code;
-    let places = table.places;
     io::write_all(1, b" n ");
     number_out(roll.n as usize);
     io::write_all(1, b" h ");
     number_out(roll.h as usize);
+    table_out(table);
+}
+
+pub fn table_out(table: Table) {
+    let code = table.code;
+    let places = table.places;
     io::write_all(1, b" k ");
     number_out(code.k as usize);
     io::write_all(1, b" s ");
