@@ -33,7 +33,7 @@ fn refused(roll: Roll, number: u8, value: u64) -> Edited
 }
 
 // That a roll is sound and its directory right; refused as check does, or with 9.
-pub fn check_directory(roll: Roll, buf: &[u8], dir: &[u32]) -> Done
+fn check_directory(roll: Roll, buf: &[u8], dir: &[u32]) -> Done
     ensures { λ r. ⌜ DirectoryChecked roll (now (buf .entry)) (now (dir .entry)) r ⌝ }
 {
     let checked = check(roll, buf);
