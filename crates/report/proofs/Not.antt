@@ -49,10 +49,6 @@ pub report-not-leading : {out : List ℕ} → reportOf example ≡ out → getD 
 unfolding exampleLines
 report-not-leading e w = let a = at 29 e in omega arith
 
-pub decimal-not-leading : decimal 7 ≡ 48 ∷ 55 ∷ [] → ⊥
-unfolding decimal decimalIn
-decimal-not-leading e = let a = ap length e in omega arith
-
 -- a last line that is not ended
 pub report-not-unended : {out : List ℕ} → reportOf example ≡ out → length out ≡ 37 → ⊥
 unfolding exampleLines

@@ -1,11 +1,11 @@
 -- Finding the place of the stopper by powers: what is known at the head of the loop, for any stopper counts by place.
 -- Assumes nothing.
-use mathlib.Core.Path.{_≡_, refl, sym, ap, ap₂, _∙_}
-use Prim.Native.Nat.{ℕ, zero, suc, _+_, _-_, _*_, _≤_, _<_}
+use mathlib.Core.Path.{_≡_, refl, sym, ap₂}
+use Prim.Native.Nat.{ℕ, _+_, _-_, _*_, _≤_, _<_}
 use native.Mathlib.Nat.{mul-pos, mul-le-mul, le-mul-of-pos-right}
 use native.Mathlib.Numerals.{add-one}
 use native.Mathlib.Omega.{arith}
-use Rattle.stopper.specs.Code.{Good, Within, opens, shorter, place}
+use Rattle.stopper.specs.Code.{Good, opens, shorter, place}
 use Rattle.stopper.specs.Laws.Code.{place-is}
 
 pub record At (m : ℕ) (st : ℕ → ℕ) (r s i base rows : ℕ) : Type 0 where

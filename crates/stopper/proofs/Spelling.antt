@@ -7,7 +7,7 @@ use native.Mathlib.Nat.{add-zero}
 use native.Mathlib.Omega.{arith}
 use native.Mathlib.Numerals.{add-one}
 use lib.Dec.{T}
-use lib.ListN.{length, drop, set, getD}
+use lib.ListN.{length, drop, set}
 use lib.Seq.{drop-cons, drop-set-add}
 use Rattle.stopper.specs.Code.{spell, codeword}
 use Rattle.stopper.specs.Table.{base, stoppers, goodCode, placeOf, wordOf, lengthOf}

@@ -2,8 +2,8 @@
 -- Assumes nothing.
 use mathlib.Core.Path.{_≡_, refl, sym, ap, subst, _∙_}
 use mathlib.Core.Bool.{Bool, true, false, cond, _&&_}
-use mathlib.Core.List.{List, [], _∷_}
-use Prim.Native.Nat.{ℕ, zero, suc, _+_, _-_, _*_, _≤_, _<_}
+use mathlib.Core.List.{List, _∷_}
+use Prim.Native.Nat.{ℕ, suc, _+_, _-_, _*_, _≤_, _<_}
 use native.Mathlib.Numerals.{add-one}
 use native.Mathlib.Decide.{decLt}
 use native.Mathlib.Omega.{arith}
@@ -12,7 +12,7 @@ use lib.Arith.{digits-lt}
 use lib.Dec.{T, ltb}
 use lib.ListN.{length, drop, getD}
 use lib.Seq.{drop-cons, drop-length}
-use Rattle.stopper.specs.Code.{Good, opens, rankAt, rankFrom, rankOf, isWord}
+use Rattle.stopper.specs.Code.{opens, rankAt, rankFrom, rankOf, isWord}
 use Rattle.stopper.specs.Table.{base, stoppers, goodCode}
 use Rattle.stopper.specs.State.{opened, stateAt, stepped}
 use Rattle.stopper.specs.Operations.{isOne, rankedAs, ifLast}

@@ -1,7 +1,6 @@
 -- Characters and their ranks in a row; a text whose characters are all in it, and the first that is not.
 -- Assumes nothing.
 use mathlib.Core.Path.{_≡_, refl, sym, ap, ap₂, subst, _∙_}
-use mathlib.Core.Logic.{_↔_}
 use mathlib.Core.Bool.{Bool, true, false, not, cond, _||_}
 use mathlib.Core.List.{List, [], _∷_, _++_, map, List·Memᴰ·head, List·Memᴰ·tail}
 use Prim.Native.Nat.{ℕ, zero, suc, _≤_, _<_}
@@ -30,7 +29,7 @@ module _ (l : List ℕ) (b : ℕ) where
   pub within-has : rankIn l b < length l → T (has b l)
   within-has h = subst T (sym (has-rank l b)) (yes-ltb h)
 
-  pub beyond-has : length l ≤ rankIn l b → has b l ≡ false
+  beyond-has : length l ≤ rankIn l b → has b l ≡ false
   beyond-has h = has-rank l b ∙ le-ltb _ _ h
 
 pub rank-character : (l : List ℕ) (b : ℕ) → T (has b l) → getD l (rankIn l b) 0 ≡ b
@@ -152,9 +151,6 @@ module _ (l : List ℕ) where
         | yes h ↦ char (within-has l b h) (foreign-known text (omega (arith, foreign-later b text h)))
         | no h ↦ absurd (omega (arith, foreign-here b text (omega arith)))
       ]
-
-  pub known-is : (text : List ℕ) → InTable l text ↔ (firstForeign l text ≡ length text)
-  known-is text = (known-foreign, foreign-known text)
 
 -- ---- a text and its ranks
 

@@ -22,7 +22,7 @@ use Rattle.buffer.specs.Editing.{edited, inPlace, bytesAfter, directoryA
 use Rattle.buffer.specs.Laws.Characters.{InTable}
 use Rattle.buffer.specs.Laws.Texts.{text-below, length-parts, length-up}
 use Rattle.buffer.specs.Laws.Holding.{Holds, holds-sound, holds-text, sound-known, sound-record, sound-symbols, sound-bytes}
-use Rattle.buffer.specs.Laws.Directory.{directory-length, right-long}
+use Rattle.buffer.specs.Laws.Directory.{directory-length}
 use Rattle.buffer.specs.Laws.Replacing.{replaced-before, replaced-even}
 use Rattle.buffer.specs.Laws.Editing.{edited-row, edited-known, lengths-length, place-front, place-cleared, place-kept, place-length, sound-lengths}
 use Rattle.buffer.specs.declared.roll.Roll.{Roll}
@@ -75,17 +75,12 @@ module _ (r : Roll) (buf dir : List ℕ) (start end : ℕ) (text : List ℕ) (lo
   entries-size : length (directoryOf (lengthsFor (r .table) E)) ≡ entries (q .n)
   entries-size = directory-length (lengthsFor (r .table) E) ∙ ap entries (lengths-length (r .table) E)
 
-  -- the buffer and the directory are as long as before
+  -- the buffer is as long as before
   pub edit-length : length after ≡ length buf
   edit-length =
       place-length (bytesFor k (r .h)) (bytesOf k row) buf bytes-size
       (room-bytes width (q .h) (length buf) (u .fits))
       (room-bytes width (r .h) (length buf) (u .sound .fits))
-
-  pub edit-length-directory : length behind ≡ length dir
-  edit-length-directory =
-      place-length (entries (r .n)) (directoryOf (lengthsFor (r .table) E)) dir entries-size (u .listed)
-      (right-long r buf (u .sound) dir (u .right))
 
   -- the buffer holds the edited text, which is in the table
   pub edit-known : InTable (characters (r .table)) E

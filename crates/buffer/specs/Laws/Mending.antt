@@ -89,15 +89,15 @@ module _ (r : Roll) (buf : List ℕ) (s : Sound r buf) where
   pub stops-directory : byStops (r .table .code) buf (entries (r .n)) ≡ wanted
   stops-directory = sym (stops-entries (r .n) (le-refl (r .n))) ∙ take-all (entries (r .n)) wanted (omega (arith, sound-entries r buf s))
 
-  -- from character j on to that of entry e
-  module _ (j e : ℕ) (h : j ≤ e * 32) (k : e * 32 ≤ r .n) where
-    pub entry-ending : Ending (r .table .code) buf (endFrom (r .table .code) buf 0 j) (e * 32 - j)
-    entry-ending = rw (sound-end r buf s j (omega arith)) (sound-ending r buf s j (e * 32 - j) (omega arith))
+  -- from character j, whose codeword starts at symbol p, on to that of entry e
+  module _ (j e : ℕ) {p : ℕ} (h : j ≤ e * 32) (k : e * 32 ≤ r .n) (at : p ≡ endFrom (r .table .code) buf 0 j) where
+    pub entry-ending : Ending (r .table .code) buf p (e * 32 - j)
+    entry-ending = rw (at, sound-end r buf s j (omega arith)) (sound-ending r buf s j (e * 32 - j) (omega arith))
 
-    pub entry-ends : endFrom (r .table .code) buf (endFrom (r .table .code) buf 0 j) (e * 32 - j) ≡ endFrom (r .table .code) buf 0 (e * 32)
+    pub entry-ends : endFrom (r .table .code) buf p (e * 32 - j) ≡ endFrom (r .table .code) buf 0 (e * 32)
     entry-ends =
         let up : j + (e * 32 - j) ≡ e * 32 = omega arith in
-        rw (sound-end r buf s j (omega arith))
+        rw (at, sound-end r buf s j (omega arith))
         (sound-ends r buf s j (e * 32 - j) (omega arith)
         ∙ ap (startOf (r .table .code) (ranksRead (reading r buf))) up
         ∙ sym (sound-end r buf s (e * 32) k))

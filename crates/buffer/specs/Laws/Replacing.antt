@@ -17,8 +17,9 @@ use Rattle.symbols.specs.Laws.Runs.{over-length, drop-past, over-before, over-a
 use Rattle.symbols.specs.Laws.Sizes.{bytesFor-enough, bytesFor-mono, bytesFor-full}
 use Rattle.symbols.specs.Laws.Packing.{bytes-length, bytes-below, symbols-bytes, symbols-one}
 use Rattle.buffer.specs.Roll.{allZero}
-use Rattle.buffer.specs.Editing.{inPlace, replacedRow}
-use Rattle.buffer.specs.Words.{laidFrom}
+use Rattle.buffer.specs.Editing.{inPlace, replacedRow, Replaces}
+use Rattle.buffer.specs.Words.{laidFrom, rowOf}
+use Rattle.buffer.specs.Laws.Words.{row-symbols}
 use Rattle.buffer.specs.Laws.Reading.{zero-zeros}
 
 -- ---- rows
@@ -212,19 +213,38 @@ module _ {k : ℕ} (w : Width k) {buf : List ℕ} (b : Below 256 buf) {h p q : �
         sym (bytesFor-full w (length outcome)) ∙ ap (bytesFor k) (sym (symbols-length k outcome) ∙ c ∙ symbols-length k buf) ∙ bytesFor-full w (length buf),
       )
 
-  -- ---- a buffer that each way leaves
+-- ---- a buffer that each way leaves
 
-  module _ {after : List ℕ} (a : Below 256 after) where
-    is-outcome : symbolsOf k outcome ≡ symbolsOf k after → after ≡ outcome
-    is-outcome e = symbols-one w a outcome-below (sym e)
+module _ {k : ℕ} {lengths words text : List ℕ} {taken : ℕ} {buf : List ℕ} {h p q : ℕ} (r : Replaces k lengths words text taken buf h p q)
+    (b : Below 256 buf) {after : List ℕ} (a : Below 256 after) where
+  abbrev before : List ℕ
+  before = symbolsOf k buf
 
-    pub grown : {one two : List ℕ} (by : ℕ) {end : ℕ} → one ≡ movedUp row q h by → two ≡ laidFrom one p new → symbolsOf k after ≡ cleared two (h + by) end
-        → p + length new ≡ q + by → h + by ≤ length row → end ≡ bytesFor k (h + by) * per k → after ≡ outcome
-    grown by u t c e inside f = is-outcome (grown-symbols by e inside ∙ sym (c ∙ rw (t, u, f)))
+  abbrev new : List ℕ
+  new = rowOf lengths words text
 
-    pub shrunk : {one two : List ℕ} (by : ℕ) → one ≡ movedDown row q h by → two ≡ laidFrom one p new → symbolsOf k after ≡ cleared two (h - by) h
-        → p + length new + by ≡ q → Clean → after ≡ outcome
-    shrunk by d t c e z = is-outcome (shrunk-symbols by e z ∙ sym (c ∙ rw (t, d)))
+  abbrev left : List ℕ
+  left = inPlace (bytesFor k h) (bytesOf k (replacedRow k buf h p q new)) buf
 
-    pub even : symbolsOf k after ≡ laidFrom row p new → p + length new ≡ q → Clean → after ≡ outcome
-    even t e z = is-outcome (even-symbols e z ∙ sym t)
+  new-below : Below (2 ^ k) new
+  new-below = row-symbols (r .laid .laid) text
+
+  is-left : symbolsOf k left ≡ symbolsOf k after → after ≡ left
+  is-left e = symbols-one (r .laid .laid .width) a (outcome-below (r .laid .laid .width) b new-below (r .ordered) (r .inside) (r .held)) (sym e)
+
+  pub grown : {one two : List ℕ} (by : ℕ) {end : ℕ} → one ≡ movedUp before q h by → two ≡ laidFrom one p new → symbolsOf k after ≡ cleared two (h + by) end
+      → p + taken ≡ q + by → end ≡ bytesFor k (h + by) * per k → after ≡ left
+  grown by u t c e f =
+      is-left
+      (grown-symbols (r .laid .laid .width) b new-below (r .ordered) (r .inside) (r .held) by (omega (arith, r .count)) (omega (arith, r .fits, r .inside))
+      ∙ sym (c ∙ rw (t, u, f)))
+
+  pub shrunk : {one two : List ℕ} (by : ℕ) → one ≡ movedDown before q h by → two ≡ laidFrom one p new → symbolsOf k after ≡ cleared two (h - by) h
+      → p + taken + by ≡ q → after ≡ left
+  shrunk by d t c e =
+      is-left
+      (shrunk-symbols (r .laid .laid .width) b new-below (r .ordered) (r .inside) (r .held) by (omega (arith, r .count)) (r .clean) ∙ sym (c ∙ rw (t, d)))
+
+  pub even : symbolsOf k after ≡ laidFrom before p new → p + taken ≡ q → after ≡ left
+  even t e =
+      is-left (even-symbols (r .laid .laid .width) b new-below (r .ordered) (r .inside) (r .held) (omega (arith, r .count)) (r .clean) ∙ sym t)

@@ -1,6 +1,6 @@
 -- `cabi::monterculo_choose` meets its contract.
 -- Assumes nothing.
-use mathlib.Core.Path.{_≡_, sym, ap, _∙_}
+use mathlib.Core.Path.{sym, ap, _∙_}
 use Rattle.ground.specs.Answers.{doneSays}
 use Rattle.ground.specs.Laws.Refusals.{refused-keeps, accepted-leaves}
 use Rattle.stopper.specs.Choosing.{counted, chosenTable}

@@ -1,6 +1,6 @@
 -- `cabi::monterculo_codeword_of` meets its contract.
 -- Assumes nothing.
-use mathlib.Core.Path.{_≡_, sym, ap, _∙_}
+use mathlib.Core.Path.{sym, ap, _∙_}
 use mathlib.Core.List.{[]}
 use Rattle.ground.specs.Answers.{doneSays}
 use Rattle.ground.specs.Rows.{padded}

@@ -1,7 +1,6 @@
 -- `cabi::monterculo_edit` meets its contract.
 -- Assumes nothing.
-use mathlib.Core.Path.{_≡_, ap, _∙_}
-use Prim.Native.Nat.{ℕ}
+use mathlib.Core.Path.{ap, _∙_}
 use borrow.Author.Needs.{needs}
 use Rattle.buffer.specs.Roll.{recordOf, textOf}
 use Rattle.buffer.specs.Editing.{edited}

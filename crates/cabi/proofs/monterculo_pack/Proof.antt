@@ -1,6 +1,6 @@
 -- `cabi::monterculo_pack` meets its contract.
 -- Assumes nothing.
-use mathlib.Core.Path.{_≡_, refl, sym, ap, _∙_}
+use mathlib.Core.Path.{refl, sym, ap, _∙_}
 use Rattle.ground.specs.Answers.{doneSays}
 use Rattle.ground.specs.Laws.Refusals.{refused-keeps, accepted-leaves}
 use Rattle.buffer.specs.Roll.{recordOf}

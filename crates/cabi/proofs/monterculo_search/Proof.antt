@@ -1,6 +1,6 @@
 -- `cabi::monterculo_search` meets its contract.
 -- Assumes nothing.
-use mathlib.Core.Path.{_≡_, sym, ap, _∙_}
+use mathlib.Core.Path.{sym, ap, _∙_}
 use Rattle.ground.specs.Answers.{totalSays}
 use Rattle.cabi.specs.Laws.{told-answered, told-refused}
 use borrow.Author.Needs.{needs}

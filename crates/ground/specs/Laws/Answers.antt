@@ -1,9 +1,8 @@
 -- An answer is what it says: two that say the same are equal.
 -- Assumes nothing.
-use mathlib.Core.Path.{_≡_, refl, ap₂}
+use mathlib.Core.Path.{_≡_, refl}
 use Prim.Native.Nat.{ℕ}
 use native.Mathlib.Omega.{arith}
-use Rattle.ground.specs.Refusals.{Outcome, accepted, refused}
 use Rattle.ground.specs.Answers.{doneSays, answerSays, totalSays}
 use Rattle.ground.specs.declared.answers.Done.{Done}
 use Rattle.ground.specs.declared.answers.Done.the-variants.{Yes, Refused}

@@ -1,7 +1,6 @@
 -- A refused call changes nothing it was lent; an accepted one leaves what it says.
 -- Assumes nothing.
 use mathlib.Core.Path.{_≡_, refl, _∙_}
-use mathlib.Core.Logic.{_↔_}
 use mathlib.Core.Bool.{Bool, true, false, cond}
 use mathlib.Core.List.{List, [], _∷_, _++_}
 use Prim.Native.Nat.{ℕ}
@@ -77,9 +76,6 @@ accepted-none (r ∷ rows) e =
 pub none-accepted : (rows : List Row) → NoneApplies rows → Accepted rows
 none-accepted [] p = refl
 none-accepted (r ∷ rows) p = rw (p .0) (none-accepted rows (p .1))
-
-pub accepted-is : (rows : List Row) → Accepted rows ↔ NoneApplies rows
-accepted-is rows = (accepted-none rows, none-accepted rows)
 
 -- some refusals, and then others
 pub accepted-both : (rows more : List Row) → Accepted rows → Accepted more → Accepted (rows ++ more)

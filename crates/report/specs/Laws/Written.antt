@@ -83,8 +83,9 @@ module _ {all old : List ℕ} {at : ℕ} {out : List ℕ} {p : ℕ} (fits : at +
       let n = g .next in
       (omega arith, ap length (g .row) ∙ over-length old at (g .done) p (sym n) (omega arith))
 
-  pub going-fits : {rest : List ℕ} → Going all old at out p rest → p + length rest ≤ length out
-  going-fits g = omega (arith, going-room g)
+  -- there is room for what is put next
+  pub going-next : (ys rest : List ℕ) → Going all old at out p (ys ++ rest) → p + length ys ≤ length out
+  going-next ys rest g = omega (arith, simp length-append at (going-room g .0), going-room g .1)
 
   pub going-more : (ys : List ℕ) {rest out′ : List ℕ} {q : ℕ} → Going all old at out p (ys ++ rest) → out′ ≡ over out p ys (p + length ys) → q ≡ p + length ys
       → Going all old at out′ q rest

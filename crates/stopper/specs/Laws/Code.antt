@@ -1,16 +1,16 @@
 -- The laws of the code.
 -- Assumes nothing.
-use mathlib.Core.Path.{_≡_, refl, sym, ap, ap₂, _∙_, subst}
+use mathlib.Core.Path.{_≡_, refl, sym, ap, _∙_, subst}
 use Prim.Native.Nat.{ℕ, zero, suc, _+_, _-_, _*_, _/_, _%_, _^_, _≤_, _<_, zero-le, suc-le-suc}
-use native.Mathlib.Nat.{pow-zero, pow-suc, le-trans, mul-zero, mul-suc, mul-add, le-of-lt, suc-inj, le-refl, le-antisymm, lt-of-not-le, add-sub-of-le, mul-pos, mul-le-mul-left, le-mul-of-pos-right, mod-lt, div-add-mod', div-lt-iff-lt-mul, add-zero, zero-add, add-suc, suc-add, not-suc-le-zero, add-sub-cancel-left}
+use native.Mathlib.Nat.{pow-zero, pow-suc, le-trans, mul-zero, mul-suc, mul-add, le-of-lt, suc-inj, le-refl, le-antisymm, lt-of-not-le, add-sub-of-le, mul-pos, le-mul-of-pos-right, mod-lt, div-add-mod', div-lt-iff-lt-mul, add-zero, zero-add, add-suc, suc-add, add-sub-cancel-left}
 use native.Mathlib.Decide.{decLe}
 use native.Mathlib.Omega.{arith}
 use mathlib.Core.Logic.{_↔_}
-use mathlib.Core.Bool.{Bool, true, false, not, cond, _&&_}
+use mathlib.Core.Bool.{true, false, _&&_}
 use mathlib.Core.List.{List, [], _∷_, _++_}
 use lib.Dec.{T, leb, leb→le, ltb, ltb→lt, nltb→le}
 use lib.Arith.{lt-one, digits-lt, digits-div, digits-mod}
-use lib.ListN.{length, set}
+use lib.ListN.{length}
 use borrow.Author.Tests.{lt-ltb, le-ltb, le-leb, lt-leb}
 use mir.Facts.{and-yes, yes-and, yes-leb, yes-ltb, no-ltb}
 use Rattle.ground.specs.Laws.Tests.{cond-yes, cond-no, by-test}
@@ -33,12 +33,6 @@ module _ (m : ℕ) (s : ℕ → ℕ) where
   unfolding spell
   spell-append zero x w v = refl
   spell-append (suc i) x w v = spell-append i _ _ v
-
-  -- a store behind the continuers (an array that `spell m s i x (drop i out)` describes, written at place i + j)
-  pub spell-set : (i x : ℕ) (w : List ℕ) (j v : ℕ) → set (spell m s i x w) (i + j) v ≡ spell m s i x (set w j v)
-  unfolding spell
-  spell-set zero x w j v = rw zero-add
-  spell-set (suc i) x w j v = rw (suc-add, ← add-suc) (spell-set i _ _ (suc j) v)
 
   -- one continuer more
   pub spell-more : (i x y : ℕ) (w : List ℕ) → s i ≤ y → y < m → spell m s (suc i) (x * (m - s i) + (y - s i)) w ≡ spell m s i x (y ∷ w)

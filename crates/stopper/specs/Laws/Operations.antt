@@ -1,15 +1,15 @@
 -- The promises, row by row: a law for each refusal and one for acceptance.
 -- Assumes nothing.
-use mathlib.Core.Path.{_≡_, refl, sym, ap, subst, _∙_}
+use mathlib.Core.Path.{_≡_, refl, sym, subst}
 use mathlib.Core.Logic.{_≢_}
 use mathlib.Core.Bool.{Bool, true, false, cond}
-use mathlib.Core.List.{List, [], _∷_, _++_}
+use mathlib.Core.List.{List, _++_}
 use Prim.Native.Nat.{ℕ, _≤_, _<_}
 use native.Mathlib.Omega.{arith}
 use borrow.Author.Tests.{le-leb, lt-leb, lt-ltb, le-ltb, eq-eqb, ne-eqb}
 use mir.Facts.{and-yes}
 use lib.Dec.{T, ltb→lt}
-use lib.ListN.{length, drop, take, getD}
+use lib.ListN.{length, drop, getD}
 use Rattle.ground.specs.Limit.{limit}
 use Rattle.ground.specs.Rows.{zeros}
 use Rattle.ground.specs.Laws.Rows.{padded-over}
@@ -25,7 +25,6 @@ use Rattle.stopper.specs.declared.choose.Choice.{Choice}
 use Rattle.stopper.specs.declared.ranking.Ranking.{Ranking}
 use Rattle.stopper.specs.declared.ranking.Best.{Best}
 use Rattle.stopper.specs.declared.codeword_of.Codeword.{Codeword}
-use Rattle.stopper.specs.declared.codeword_of.Coded.{Coded}
 use Rattle.stopper.specs.declared.character_of.Ranked.the-variants.{At, Nothing}
 
 -- ---- count a text

@@ -1,22 +1,21 @@
 -- The laws of reading.
 -- Assumes nothing.
 use mathlib.Core.Path.{_≡_, refl, sym, ap, ap₂, _∙_, subst}
-use Prim.Native.Nat.{ℕ, zero, suc, _+_, _-_, _*_, _/_, _%_, _≤_, _<_}
-use native.Mathlib.Nat.{le-trans, lt-trans, mul-le-mul, le-mul-of-pos-right, mod-lt, div-add-mod', div-lt-iff-lt-mul, add-sub-cancel-left, add-zero, add-assoc, sub-zero}
+use Prim.Native.Nat.{ℕ, zero, suc, _+_, _-_, _*_, _/_, _≤_, _<_}
+use native.Mathlib.Nat.{le-trans, lt-trans, mul-le-mul, le-mul-of-pos-right, div-add-mod', div-lt-iff-lt-mul, add-sub-cancel-left, add-zero, add-assoc, sub-zero}
 use native.Mathlib.Numerals.{add-one}
 use native.Mathlib.Omega.{arith}
-use mathlib.Core.Bool.{Bool, true, false, not, cond}
 use mathlib.Core.List.{List, [], _∷_, _++_, append-assoc, append-nil}
-use lib.Dec.{T, ltb, ltb→lt, nltb→le}
+use lib.Dec.{ltb, ltb→lt, nltb→le}
 use lib.Arith.{lt-one, digits-lt}
 use lib.ListN.{length, take, drop, length-append}
 use lib.Seq.{drop-append-add}
 use mir.Facts.{yes-ltb, no-ltb}
 use Rattle.ground.specs.Rows.{Below, none, also}
-use Rattle.stopper.specs.Code.{Good, IsCodeword, stop, more, opens, shorter, spell, codeword, rankAt, rankFrom}
+use Rattle.stopper.specs.Code.{Good, IsCodeword, stop, more, opens, shorter, spell, codeword, rankAt}
 use Rattle.ground.specs.Laws.Rows.{below-append}
 use Rattle.ground.specs.Laws.Tests.{cond-yes, cond-no, by-test}
-use Rattle.stopper.specs.Laws.Code.{rank-stop, rank-more, conts-pos, by-parts, codeword-at, length-codeword, spell-append, length-spell, spell-more, codeword-word}
+use Rattle.stopper.specs.Laws.Code.{conts-pos, by-parts, codeword-at, spell-append, length-spell, spell-more, codeword-word}
 use Rattle.stopper.specs.Reading.{Reading, done, bad, ahead, readFrom, read, whole, broken, firstFrom, firstWord, write}
 
 unfoldable pub aheads : List ℕ → Reading → Reading
@@ -142,12 +141,6 @@ module _ (m : ℕ) (s : ℕ → ℕ) (g : Good m s) (σ : ℕ) where
   pub write-read : {w : List ℕ} → Below m w → (rs : List ℕ) → read m s σ w ≡ done rs → write m s rs ≡ w
   unfolding read spell opens
   write-read {w} h rs e = write-back w h 0 0 0 (omega arith) rs e
-
-  -- once `shorter i + x` is σ or more, no codeword that goes on from there has a rank below σ
-  pub word-past : {w : List ℕ} {i : ℕ} → IsCodeword m s i w → (x : ℕ) → σ ≤ shorter m s i + x → σ ≤ rankFrom m s i x w
-  word-past {i = i} (stop {y = y} h) x k = rw (rank-stop m s g i x y [] h) (le-trans k (rank-least i x y))
-  word-past {i = i} (more {y = y} {w = w} a b h) x k =
-      rw (rank-more m s g i x y w a) (word-past h (x * (m - s i) + (y - s i)) (le-trans k (least-grows i x (y - s i))))
 
   -- by what a symbol is at place i, after continuers that spell x: the stopper of a rank below σ, that of another, a continuer
   by-symbol {ℓ} : {X : Type ℓ} (i x y : ℕ) → (y < s i → rankAt m s i x y < σ → X) → (y < s i → σ ≤ rankAt m s i x y → X) → (s i ≤ y → X) → X

@@ -1,16 +1,14 @@
 -- The laws of the reading state: it stands for the continuers read, and one more symbol does to it what the symbol does to the codeword.
 -- Assumes nothing.
-use mathlib.Core.Path.{_≡_, refl, sym, ap, _∙_}
+use mathlib.Core.Path.{_≡_, refl, sym, _∙_}
 use mathlib.Core.Bool.{Bool, true, false, cond}
 use Prim.Native.Nat.{ℕ, zero, suc, _+_, _-_, _*_, _≤_, _<_}
 use native.Mathlib.Nat.{le-trans, mul-le-mul, lt-of-not-le}
 use native.Mathlib.Decide.{decLe}
 use native.Mathlib.Omega.{arith}
 use borrow.Author.Tests.{lt-ltb, le-ltb, le-leb, lt-leb}
-use mir.Facts.{yes-leb}
 use lib.Dec.{T, leb, leb→le, nleb→lt}
-use lib.Arith.{lt-one}
-use Rattle.ground.specs.Laws.Tests.{cond-yes, cond-no, by-test}
+use Rattle.ground.specs.Laws.Tests.{by-test}
 use Rattle.stopper.specs.Code.{opens, shorter, rankAt}
 use Rattle.stopper.specs.Table.{base, stoppers, goodCode}
 use Rattle.stopper.specs.State.{Small, near, nearer, openAt, pastAt, stateAt, opened, stepped}

@@ -10,7 +10,7 @@ use lib.ListN.{length, take, getD}
 use Rattle.ground.specs.Laws.Rows.{length-tab}
 use Rattle.stopper.specs.Laws.Table.{table-code}
 use Rattle.buffer.specs.Directory.{entries, directoryOf, lengthsOf, firstWrong}
-use Rattle.buffer.specs.Ends.{endOf, Ending, endFrom}
+use Rattle.buffer.specs.Ends.{endOf, endFrom}
 use Rattle.buffer.specs.Laws.Directory.{entries-before}
 use Rattle.buffer.specs.Laws.Mending.{byStops, stops-entry, stops-directory, entry-ending, entry-ends, wrong-none, wrong-missing, wrong-differs, agree-more}
 use Rattle.buffer.proofs.directory.first_wrong.Statement.{statement}
@@ -67,8 +67,7 @@ passed c =
     let l = n .before in
     let s = entered l in
     c .pass-ends .ensures
-    ∙ ap (λ (p : ℕ). endFrom (s .args .roll .table .code) (s .args .buf .now) p (l .loop .e * 32 - l .loop .j)) (l .loop .inv .2)
-    ∙ entry-ends (s .args .roll) (s .args .buf .now) (s .pre) (l .loop .j) (l .loop .e) (l .loop .inv .1) (omega (arith, inside n))
+    ∙ entry-ends (s .args .roll) (s .args .buf .now) (s .pre) (l .loop .j) (l .loop .e) (l .loop .inv .1) (omega (arith, inside n)) (l .loop .inv .2)
 
 entry-is : (c : tie.After-pass-ends Inv-loop μ-loop) → let l = c .before .before .before .before in getD (wanted l) (l .loop .e) 0 ≡ c .pass-ends .result
 entry-is c =
@@ -106,8 +105,7 @@ pass-ends-requires c κs =
     let n = c .before .before in
     let l = n .before in
     let s = entered l in (
-      subst (λ p. Ending (s .args .roll .table .code) (s .args .buf .now) p (l .loop .e * 32 - l .loop .j)) (sym (l .loop .inv .2))
-          (entry-ending (s .args .roll) (s .args .buf .now) (s .pre) (l .loop .j) (l .loop .e) (l .loop .inv .1) (omega (arith, inside n))),
+      entry-ending (s .args .roll) (s .args .buf .now) (s .pre) (l .loop .j) (l .loop .e) (l .loop .inv .1) (omega (arith, inside n)) (l .loop .inv .2),
       l .before .before .stops-by-byte .ensures,
     )
 

@@ -1,7 +1,7 @@
 -- `buffer::directory::mend` meets its contract: before entry e the symbol is where the codeword of character j starts, and the entries
 -- from that of `from` up to e are written.
 -- Assumes nothing.
-use mathlib.Core.Path.{_≡_, sym, ap, ap₂, subst, _∙_}
+use mathlib.Core.Path.{_≡_, sym, ap, ap₂, _∙_}
 use mathlib.Core.List.{List}
 use Prim.Native.Nat.{ℕ, _-_, _*_, _≤_, _<_}
 use native.Mathlib.Omega.{arith}
@@ -11,7 +11,7 @@ use Rattle.ground.specs.Laws.Rows.{length-tab}
 use Rattle.stopper.specs.Laws.Table.{table-code}
 use Rattle.buffer.specs.Roll.{reading, ranksRead}
 use Rattle.buffer.specs.Directory.{entries, lengthsOf}
-use Rattle.buffer.specs.Ends.{Ending, endFrom}
+use Rattle.buffer.specs.Ends.{endFrom}
 use Rattle.buffer.specs.Laws.Sound.{sound-reads, sound-start}
 use Rattle.buffer.specs.Laws.Ends.{sound-end}
 use Rattle.buffer.specs.Laws.Directory.{entries-upto, entries-before, entries-behind, start-at}
@@ -69,9 +69,7 @@ passed c =
     let n = c .before .before in
     let l = n .before in
     let s = entered l in
-    c .pass-ends .ensures
-    ∙ ap (λ (p : ℕ). endFrom (s .args .roll .table .code) (s .args .buf .now) p (l .loop .e * 32 - l .loop .j)) (l .loop .inv .3)
-    ∙ entry-ends (s .args .roll) (s .args .buf .now) (s .pre .0) (l .loop .j) (l .loop .e) (l .loop .inv .2) (inside n)
+    c .pass-ends .ensures ∙ entry-ends (s .args .roll) (s .args .buf .now) (s .pre .0) (l .loop .j) (l .loop .e) (l .loop .inv .2) (inside n) (l .loop .inv .3)
 
 stops-by-byte-requires : tie.Need-stops-by-byte-requires Inv-loop μ-loop
 stops-by-byte-requires c κs = let s = c .before .before .before .before in table-code (s .args .roll .table) (s .pre .0 .table)
@@ -116,8 +114,7 @@ pass-ends-requires c κs =
     let n = c .before in
     let l = n .before in
     let s = entered l in (
-      subst (λ p. Ending (s .args .roll .table .code) (s .args .buf .now) p (l .loop .e * 32 - l .loop .j)) (sym (l .loop .inv .3))
-          (entry-ending (s .args .roll) (s .args .buf .now) (s .pre .0) (l .loop .j) (l .loop .e) (l .loop .inv .2) (inside n)),
+      entry-ending (s .args .roll) (s .args .buf .now) (s .pre .0) (l .loop .j) (l .loop .e) (l .loop .inv .2) (inside n) (l .loop .inv .3),
       l .before .before .before .stops-by-byte .ensures,
     )
 

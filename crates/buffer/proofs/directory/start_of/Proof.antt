@@ -10,7 +10,7 @@ use Rattle.buffer.specs.Directory.{lengthsOf}
 use Rattle.buffer.specs.Laws.Codewords.{startOf}
 use Rattle.buffer.specs.Laws.Sound.{sound-reads}
 use Rattle.buffer.specs.Laws.Directory.{start-at, sound-end, right-held, right-passed, right-before}
-use Rattle.buffer.specs.declared.reading.Passed.the-variants.{At, Bad}
+use Rattle.buffer.specs.declared.reading.Passed.the-variants.{At}
 use Rattle.buffer.proofs.directory.start_of.Statement.{statement}
 use Rattle.buffer.proofs.directory.start_of.Tie as tie
 
@@ -76,8 +76,7 @@ enum-told c = search needs
 
 returns-2 : tie.Need-returns-2
 returns-2 c =
-    let e : Bad _ ≡ At _ = sym (c .enum-told .given .1) ∙ passed-is (c .before .before) in
-    let z : _≡_ {A = ℕ} 0 1 = cc in
+    let z : _≡_ {A = ℕ} 0 1 = cc (c .enum-told .given .1, passed-is (c .before .before)) in
     absurd (omega arith)
 
 returns-3 : tie.Need-returns-3

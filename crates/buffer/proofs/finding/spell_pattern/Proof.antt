@@ -56,13 +56,7 @@ module _ {c : Code} {l pattern symbols : List ℕ} {p i : ℕ} (s : Spelling c l
       record {
         foreign = s .foreign ∙ ap (λ (m : ℕ). i + m) (foreign-more c l pattern i h (omega (arith, e))) ∙ rw add-one (omega arith);
         long = long ∙ ap length (sym t);
-        row = ap (take (p + n))
-            (laid
-            ∙ ap (λ (x : List ℕ). take p symbols ++ (x ++ rest)) word
-            ∙ ap (λ (x : List ℕ). take p symbols ++ x) (append-assoc w tail rest)
-            ∙ sym (append-assoc (take p symbols) w (tail ++ rest)))
-            ∙ take-at (take p symbols ++ w) (tail ++ rest) (p + n) (sym long)
-            ∙ sym t;
+        row = ap (take (p + n)) (laid ∙ rw word (simp append-assoc)) ∙ take-at (take p symbols ++ w) (tail ++ rest) (p + n) (sym long) ∙ sym t;
       }
 
 abbrev Inv-loop : tie.InvT-loop

@@ -19,7 +19,7 @@ use Rattle.buffer.specs.Codewords.{foundAt}
 use Rattle.buffer.specs.Laws.Codewords.{startOf}
 use Rattle.buffer.specs.Laws.Sound.{sound-reads, sound-below, sound-found, sound-passed, sound-start}
 use Rattle.buffer.specs.declared.reading.Found.the-variants.{Word, Bad as none-found}
-use Rattle.buffer.specs.declared.reading.Passed.the-variants.{At, Bad}
+use Rattle.buffer.specs.declared.reading.Passed.the-variants.{At}
 use Rattle.buffer.proofs.range.unpack_sound.Statement.{statement}
 use Rattle.buffer.proofs.range.unpack_sound.Tie as tie
 
@@ -127,8 +127,7 @@ enum-told c = search needs
 
 returns : tie.Need-returns Inv-loop μ-loop
 returns c =
-    let e : Bad _ ≡ At _ = sym (c .enum-told .given .1) ∙ passed-is (c .before .before) in
-    let z : _≡_ {A = ℕ} 0 1 = cc in
+    let z : _≡_ {A = ℕ} 0 1 = cc (c .enum-told .given .1, passed-is (c .before .before)) in
     absurd (omega arith)
 
 loop-holds : tie.Need-loop-holds Inv-loop μ-loop
@@ -158,8 +157,7 @@ same-length c = same (c .before .before .before .before)
 
 returns-2 : tie.Need-returns-2 Inv-loop μ-loop
 returns-2 c =
-    let e : none-found ≡ Word _ _ = sym (c .enum-told2 .given .1) ∙ found-is (c .before .before) in
-    let z : _≡_ {A = ℕ} 0 1 = cc in
+    let z : _≡_ {A = ℕ} 0 1 = cc (c .enum-told2 .given .1, found-is (c .before .before)) in
     absurd (omega arith)
 
 cast-out : tie.Need-cast-out Inv-loop μ-loop
@@ -171,10 +169,8 @@ array-read-out c =
     let n = c .before .before .before .before in
     let l = n .before in
     let s = entered l in
-    let b : c .before .found .given .0 .0 < s .args .roll .table .sigma
-    = rw (rank-is (c .before)) (below-at (sound-below (s .args .roll) (s .args .buf .now) (s .pre .0)) (s .args .start + l .loop .i) (omega (arith, many s, inside n))) in
-    let h : c .before .found .given .0 .0 < 256 = omega (arith, b, table-few (s .args .roll .table) (s .pre .0 .table)) in
-    h
+    let b = below-at (sound-below (s .args .roll) (s .args .buf .now) (s .pre .0)) (s .args .start + l .loop .i) (omega (arith, many s, inside n)) in
+    omega (arith, b, rank-is (c .before), table-few (s .args .roll .table) (s .pre .0 .table))
 
 slice-write-out : tie.Need-slice-write-out Inv-loop μ-loop
 slice-write-out c =

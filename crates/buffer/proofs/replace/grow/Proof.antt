@@ -1,6 +1,6 @@
 -- `buffer::replace::grow` meets its contract.
 -- Assumes nothing.
-use mathlib.Core.Path.{_≡_}
+use mathlib.Core.Path.{_≡_, _∙_}
 use Prim.Native.Nat.{ℕ, _+_, _-_, _*_, _≤_}
 use native.Mathlib.Omega.{arith}
 use borrow.Author.Needs.{needs}
@@ -10,7 +10,7 @@ use Rattle.symbols.specs.Symbols.{per, bytesFor, symbolsOf}
 use Rattle.symbols.specs.Laws.Rows.{symbols-even, ends-inside}
 use Rattle.symbols.specs.Laws.Sizes.{bytesFor-enough, bytesFor-least}
 use Rattle.symbols.specs.Laws.Width.{per-few}
-use Rattle.buffer.specs.Laws.Words.{row-symbols, laid-again}
+use Rattle.buffer.specs.Laws.Words.{laid-again}
 use Rattle.buffer.specs.Laws.Replacing.{grown}
 use Rattle.buffer.proofs.replace.grow.Statement.{statement}
 use Rattle.buffer.proofs.replace.grow.Tie as tie
@@ -73,18 +73,8 @@ clear-requires c κs =
     let s = begun u in
     let k = s .args .k in
     let w = s .pre .0 .laid .laid .width in
-    let one = u .up .last .1 .0 in
-    let two = stored c .write-text .last .1 .1 .1 .1 .0 in (
-      w,
-      omega arith,
-      omega (
-        arith,
-        end c,
-        ends-inside w (s .args .buf .now) (later s) (later-inside s),
-        symbols-even k one (s .args .buf .now) (u .up .kept .1 .0),
-        symbols-even k two one (stored c .write-text .kept .1 .1 .1 .1 .0),
-      ),
-    )
+    let e = symbols-even k (stored c .write-text .last .1 .1 .1 .1 .0) (s .args .buf .now) (stored c .write-text .kept .1 .1 .1 .1 .0 ∙ u .up .kept .1 .0) in
+    (w, omega arith, omega (arith, e, end c, ends-inside w (s .args .buf .now) (later s) (later-inside s)))
 
 same-length : tie.Need-same-length
 same-length c = search needs
@@ -94,20 +84,14 @@ returns c =
     let d = c .before .before .before in
     let u = moved d in
     let s = begun u in
-    let r = s .pre .0 in
-    grown (r .laid .laid .width)
+    grown (s .pre .0)
     (below-all 256 _ (λ i. u .before .before .slice-known .given i .fits))
-    (row-symbols (r .laid .laid) _)
-    (r .ordered)
-    (r .inside)
-    (r .held)
     (below-all 256 _ (λ i. c .slice-known4 .given i .fits))
     (s .args .taken - (s .args .q - s .args .p))
     (u .up .ensures)
     (stored d .write-text .ensures)
     (c .before .before .clear .ensures)
-    (omega (arith, r .count, r .ordered, s .pre .1))
-    (later-inside s)
+    (omega (arith, s .pre .0 .ordered, s .pre .1))
     (end d)
 
 pub grow-spec : {M : Type 1} → statement M

@@ -4,7 +4,6 @@ use native.Mathlib.Omega.{arith}
 use borrow.Author.Needs.{needs}
 use Rattle.ground.specs.Laws.Rows.{below-all}
 use Rattle.buffer.specs.Laws.Replacing.{even}
-use Rattle.buffer.specs.Laws.Words.{row-symbols}
 use Rattle.buffer.proofs.replace.replace_symbols.Statement.{statement}
 use Rattle.buffer.proofs.replace.replace_symbols.Tie as tie
 
@@ -44,16 +43,11 @@ returns-3 c =
     let d = t .before .before in
     let k = d .before .before in
     let r = k .before .before .before .before .pre in
-    even (r .laid .laid .width)
+    even r
     (below-all 256 _ (λ i. k .slice-known .given i .fits))
-    (row-symbols (r .laid .laid) _)
-    (r .ordered)
-    (r .inside)
-    (r .held)
     (below-all 256 _ (λ i. c .slice-known4 .given i .fits))
     (t .write-text .ensures)
-    (omega (arith, r .count, r .ordered, d .before .if1 .left, d .if2 .left))
-    (r .clean)
+    (omega (arith, r .ordered, d .before .if1 .left, d .if2 .left))
 
 pub replace-symbols-spec : {M : Type 1} → statement M
 replace-symbols-spec =

@@ -1,11 +1,12 @@
 -- `buffer::replace::shrink` meets its contract.
 -- Assumes nothing.
+use mathlib.Core.Path.{_∙_}
 use Prim.Native.Nat.{_-_}
 use native.Mathlib.Omega.{arith}
 use borrow.Author.Needs.{needs}
 use Rattle.ground.specs.Laws.Rows.{below-all}
 use Rattle.symbols.specs.Laws.Rows.{symbols-even}
-use Rattle.buffer.specs.Laws.Words.{row-symbols, laid-again}
+use Rattle.buffer.specs.Laws.Words.{laid-again}
 use Rattle.buffer.specs.Laws.Replacing.{shrunk}
 use Rattle.buffer.proofs.replace.shrink.Statement.{statement}
 use Rattle.buffer.proofs.replace.shrink.Tie as tie
@@ -38,18 +39,8 @@ clear-requires : tie.Need-clear-requires
 clear-requires c κs =
     let u = moved c in
     let s = begun u in
-    let k = s .args .k in
-    let one = u .down .last .1 .0 in
-    let two = stored c .write-text .last .1 .1 .1 .1 .0 in (
-      s .pre .0 .laid .laid .width,
-      omega arith,
-      omega (
-        arith,
-        s .pre .0 .held,
-        symbols-even k one (s .args .buf .now) (u .down .kept .1 .0),
-        symbols-even k two one (stored c .write-text .kept .1 .1 .1 .1 .0),
-      ),
-    )
+    let e = symbols-even (s .args .k) (stored c .write-text .last .1 .1 .1 .1 .0) (s .args .buf .now) (stored c .write-text .kept .1 .1 .1 .1 .0 ∙ u .down .kept .1 .0) in
+    (s .pre .0 .laid .laid .width, omega arith, omega (arith, e, s .pre .0 .held))
 
 same-length : tie.Need-same-length
 same-length c = search needs
@@ -59,20 +50,14 @@ returns c =
     let d = c .before .before .before in
     let u = moved d in
     let s = begun u in
-    let r = s .pre .0 in
-    shrunk (r .laid .laid .width)
+    shrunk (s .pre .0)
     (below-all 256 _ (λ i. u .before .before .slice-known .given i .fits))
-    (row-symbols (r .laid .laid) _)
-    (r .ordered)
-    (r .inside)
-    (r .held)
     (below-all 256 _ (λ i. c .slice-known4 .given i .fits))
     (s .args .q - s .args .p - s .args .taken)
     (u .down .ensures)
     (stored d .write-text .ensures)
     (c .before .before .clear .ensures)
-    (omega (arith, r .count, r .ordered, s .pre .1))
-    (r .clean)
+    (omega (arith, s .pre .0 .ordered, s .pre .1))
 
 pub shrink-spec : {M : Type 1} → statement M
 shrink-spec =

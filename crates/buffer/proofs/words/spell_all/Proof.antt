@@ -99,12 +99,7 @@ module _ {c : Code} (g : T (goodCode c)) {l : List ℕ} {j : ℕ} {lengths words
   word-here : take (lengthOf c j) (drop (b * 86) after) ≡ wordOf c j
   unfolding lengthOf
   word-here =
-      ap (take (lengthOf c j))
-      (ap (drop (b * 86)) laid
-      ∙ drop-over words (b * 86) ys (b * 86 + 86) (omega arith) ends
-      ∙ ap (λ (r : List ℕ). r ++ drop (b * 86 + 86) words) word
-      ∙ append-assoc (wordOf c j) tail (drop (b * 86 + 86) words))
-      ∙ take-at (wordOf c j) _ (lengthOf c j) refl
+      rw (laid, drop-over words (b * 86) ys (b * 86 + 86) (omega arith) ends, word, append-assoc) (take-at (wordOf c j) _ (lengthOf c j) refl)
 
   word-other : (x : ℕ) → x ≢ b → has x (drop (suc j) l) ≡ true
       → take (lengthOf c (rankFrom l (suc j) x)) (drop (x * 86) after) ≡ take (lengthOf c (rankFrom l (suc j) x)) (drop (x * 86) words)

@@ -11,7 +11,7 @@ use lib.Seq.{length-take-le}
 use Rattle.ground.specs.Answers.{doneSays}
 use Rattle.ground.specs.Rows.{zeros}
 use Rattle.ground.specs.declared.answers.Done.the-variants.{Yes}
-use Rattle.ground.specs.declared.answers.Total.the-variants.{Of, Refused}
+use Rattle.ground.specs.declared.answers.Total.the-variants.{Of}
 use Rattle.stopper.specs.declared.table.Table.{Table}
 use Rattle.buffer.specs.Roll.{recordOf}
 use Rattle.buffer.specs.Hits.{hits}
@@ -117,8 +117,7 @@ found s =
 returns-2 : tie.Need-returns-2
 returns-2 c =
     let s = c .before .before .before in
-    let e : Refused _ _ ≡ Of _ = sym (c .enum-told2 .given .1) ∙ found s in
-    let z : _≡_ {A = ℕ} 0 1 = cc in
+    let z : _≡_ {A = ℕ} 0 1 = cc (c .enum-told2 .given .1, found s) in
     absurd (omega arith)
 
 cast-bytes-for : tie.Need-cast-bytes-for

@@ -4,9 +4,9 @@ use mathlib.Core.List.{List, [], _∷_, _++_}
 use Prim.Native.Nat.{ℕ, _+_, _≤_}
 use native.Mathlib.Omega.{arith}
 use borrow.Author.Needs.{needs}
-use lib.ListN.{length, length-append}
+use lib.ListN.{length}
 use Rattle.report.specs.Report.{decimal, hexLines, numberLines, bestWord, symbolsWord, hitsWord, linesOf}
-use Rattle.report.specs.Laws.Written.{Going, going-none, going-as, going-room, going-fits, going-more, going-whole, lines-parts}
+use Rattle.report.specs.Laws.Written.{Going, going-none, going-as, going-room, going-next, going-more, going-whole, lines-parts}
 use Rattle.report.proofs.report.lines_out.Statement.{statement}
 use Rattle.report.proofs.report.lines_out.Tie as tie
 
@@ -109,66 +109,48 @@ text-out-requires : tie.Need-text-out-requires
 unfolding bestWord
 text-out-requires c κs =
     let s = c .before .before .before .before .before in
-    omega (arith, simp length-append at (going-fits (room s) (put0 s)))
+    going-next (room s) bestWord _ (put0 s)
 
 decimal-out-requires : tie.Need-decimal-out-requires
-decimal-out-requires c κs =
-    let b = c .before .before .before in
-    omega (arith, simp length-append at (going-fits (room (start1 b)) (put1 b)))
+decimal-out-requires c κs = let b = c .before .before .before in going-next (room (start1 b)) (decimal (start1 b .args .s)) _ (put1 b)
 
 slice-aggregate-text-out-2 : tie.Need-slice-aggregate-text-out-2
 slice-aggregate-text-out-2 c = search needs
 
 text-out-requires-2 : tie.Need-text-out-requires-2
 unfolding symbolsWord
-text-out-requires-2 c κs =
-    let b = c .before .before .before .before in
-    omega (arith, simp length-append at (going-fits (room (start2 b)) (put2 b)))
+text-out-requires-2 c κs = let b = c .before .before .before .before in going-next (room (start2 b)) symbolsWord _ (put2 b)
 
 decimal-out-requires-2 : tie.Need-decimal-out-requires-2
-decimal-out-requires-2 c κs =
-    let b = c .before .before .before in
-    omega (arith, simp length-append at (going-fits (room (start3 b)) (put3 b)))
+decimal-out-requires-2 c κs = let b = c .before .before .before in going-next (room (start3 b)) (decimal (start3 b .args .h)) _ (put3 b)
 
 slice-aggregate-text-out-3 : tie.Need-slice-aggregate-text-out-3
 slice-aggregate-text-out-3 c = search needs
 
 text-out-requires-3 : tie.Need-text-out-requires-3
-text-out-requires-3 c κs =
-    let b = c .before .before .before .before in
-    omega (arith, simp length-append at (going-fits (room (start4 b)) (put4 b)))
+text-out-requires-3 c κs = let b = c .before .before .before .before in going-next (room (start4 b)) (10 ∷ []) _ (put4 b)
 
 hex-out-requires : tie.Need-hex-out-requires
-hex-out-requires c κs =
-    let b = c .before .before .before in
-    omega (arith, simp length-append at (going-fits (room (start5 b)) (put5 b)))
+hex-out-requires c κs = let b = c .before .before .before in going-next (room (start5 b)) (hexLines (start5 b .args .bytes .now)) _ (put5 b)
 
 numbers-out-requires : tie.Need-numbers-out-requires
-numbers-out-requires c κs =
-    let b = c .before .before .before in
-    omega (arith, simp length-append at (going-fits (room (start6 b)) (put6 b)))
+numbers-out-requires c κs = let b = c .before .before .before in going-next (room (start6 b)) (numberLines (start6 b .args .hits .now)) _ (put6 b)
 
 slice-aggregate-text-out-4 : tie.Need-slice-aggregate-text-out-4
 slice-aggregate-text-out-4 c = search needs
 
 text-out-requires-4 : tie.Need-text-out-requires-4
 unfolding hitsWord
-text-out-requires-4 c κs =
-    let b = c .before .before .before .before in
-    omega (arith, simp length-append at (going-fits (room (start7 b)) (put7 b)))
+text-out-requires-4 c κs = let b = c .before .before .before .before in going-next (room (start7 b)) hitsWord _ (put7 b)
 
 decimal-out-requires-3 : tie.Need-decimal-out-requires-3
-decimal-out-requires-3 c κs =
-    let b = c .before .before .before in
-    omega (arith, simp length-append at (going-fits (room (start8 b)) (put8 b)))
+decimal-out-requires-3 c κs = let b = c .before .before .before in going-next (room (start8 b)) (decimal (length (start8 b .args .hits .now))) _ (put8 b)
 
 slice-aggregate-text-out-5 : tie.Need-slice-aggregate-text-out-5
 slice-aggregate-text-out-5 c = search needs
 
 text-out-requires-5 : tie.Need-text-out-requires-5
-text-out-requires-5 c κs =
-    let b = c .before .before .before .before in
-    going-fits (room (start9 b)) (put9 b)
+text-out-requires-5 c κs = let b = c .before .before .before .before in going-next (room (start9 b)) (10 ∷ []) _ (put9 b)
 
 same-length : tie.Need-same-length
 same-length c = going-room (room (start10 (c .before .before))) (put10 (c .before .before)) .1

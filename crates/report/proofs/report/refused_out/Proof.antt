@@ -4,9 +4,9 @@ use mathlib.Core.List.{List, [], _∷_, _++_}
 use Prim.Native.Nat.{ℕ, _+_, _≤_}
 use native.Mathlib.Omega.{arith}
 use borrow.Author.Needs.{needs}
-use lib.ListN.{length, length-append}
+use lib.ListN.{length}
 use Rattle.report.specs.Report.{decimal, refusedWord, refusedLine}
-use Rattle.report.specs.Laws.Written.{Going, going-none, going-as, going-fits, going-more, going-whole, refused-few, refused-parts}
+use Rattle.report.specs.Laws.Written.{Going, going-none, going-as, going-next, going-more, going-whole, refused-few, refused-parts}
 use Rattle.report.proofs.report.refused_out.Statement.{statement}
 use Rattle.report.proofs.report.refused_out.Tie as tie
 
@@ -66,30 +66,22 @@ text-out-requires : tie.Need-text-out-requires
 text-out-requires c κs = search needs
 
 decimal-out-requires : tie.Need-decimal-out-requires
-decimal-out-requires c κs =
-    let b = c .before .before .before in
-    omega (arith, simp length-append at (going-fits (room (start1 b)) (put1 b)))
+decimal-out-requires c κs = let b = c .before .before .before in going-next (room (start1 b)) (decimal (start1 b .args .number)) _ (put1 b)
 
 slice-aggregate-text-out-2 : tie.Need-slice-aggregate-text-out-2
 slice-aggregate-text-out-2 c = search needs
 
 text-out-requires-2 : tie.Need-text-out-requires-2
-text-out-requires-2 c κs =
-    let b = c .before .before .before .before in
-    omega (arith, simp length-append at (going-fits (room (start2 b)) (put2 b)))
+text-out-requires-2 c κs = let b = c .before .before .before .before in going-next (room (start2 b)) (32 ∷ []) _ (put2 b)
 
 decimal-out-requires-2 : tie.Need-decimal-out-requires-2
-decimal-out-requires-2 c κs =
-    let b = c .before .before .before in
-    omega (arith, simp length-append at (going-fits (room (start3 b)) (put3 b)))
+decimal-out-requires-2 c κs = let b = c .before .before .before in going-next (room (start3 b)) (decimal (start3 b .args .value)) _ (put3 b)
 
 slice-aggregate-text-out-3 : tie.Need-slice-aggregate-text-out-3
 slice-aggregate-text-out-3 c = search needs
 
 text-out-requires-3 : tie.Need-text-out-requires-3
-text-out-requires-3 c κs =
-    let b = c .before .before .before .before in
-    going-fits (room (start4 b)) (put4 b)
+text-out-requires-3 c κs = let b = c .before .before .before .before in going-next (room (start4 b)) (10 ∷ []) _ (put4 b)
 
 same-length : tie.Need-same-length
 same-length c = search needs

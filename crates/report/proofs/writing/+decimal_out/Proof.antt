@@ -28,6 +28,9 @@ abbrev decimal-out-below : ℕ → In 1 decimal-out-kinds.ps
 decimal-out-below t =
     and 1 decimal-out-kinds.ps (falls 1 decimal-out-kinds.ps _<_ μ-decimal-out t) decimal-out.Pre
 
+abbrev callees : ℕ → decimal-out-lts.Claims
+callees t = (decimal-out-below t, decimal-out.Post)
+
 -- a digit alone
 one : (out : List ℕ) (at n : ℕ) → at + length (decimal n) ≤ length out → n < 10 → Going (decimal n) out at (set out at (48 + n)) (at + 1) []
 one out at n h l = rw (glyph-low n l) (going-byte h (going-as (decimal-one n l) (going-none (decimal n) out at)))
@@ -38,7 +41,7 @@ rest : {out out′ : List ℕ} {at n last : ℕ} → at + length (decimal n) ≤
 rest {out} {out′} {at} {n} h l w e r =
     going-more h (decimal (n / 10)) (going-as (decimal-last n l w) (going-none (decimal n) out at)) r e
 
-behind : (t : ℕ) (c : decimal-out-lts.After-slice-known2 (decimal-out-below t, decimal-out.Post) (decimal-out-at t) decimal-out.Post)
+behind : (t : ℕ) (c : decimal-out-lts.After-slice-known2 (callees t) (decimal-out-at t) decimal-out.Post)
     → let d = c .before .before in let s = d .before .before .before .before in
     Going (decimal (s .args .n)) (s .args .out .now) (s .args .at) (d .decimal-out .last .0) (d .decimal-out .result) (glyph (s .args .n % 10) ∷ [])
 behind t c =
@@ -46,103 +49,61 @@ behind t c =
     let s = d .before .before .before .before in
     rest (s .pre .1) (omega arith) (omega arith) (d .decimal-out .ensures .0) (d .decimal-out .ensures .1)
 
-decimal-out-cast-out : (t : ℕ) → decimal-out-lts.Need-cast-out (
-  decimal-out-below t,
-  decimal-out.Post,
-) (decimal-out-at t) decimal-out.Post
+decimal-out-cast-out : (t : ℕ) → decimal-out-lts.Need-cast-out (callees t) (decimal-out-at t) decimal-out.Post
 decimal-out-cast-out t c = omega arith
 
-decimal-out-add-out : (t : ℕ) → decimal-out-lts.Need-add-out (
-  decimal-out-below t,
-  decimal-out.Post,
-) (decimal-out-at t) decimal-out.Post
+decimal-out-add-out : (t : ℕ) → decimal-out-lts.Need-add-out (callees t) (decimal-out-at t) decimal-out.Post
 decimal-out-add-out t c = omega arith
 
-decimal-out-slice-write-out : (t : ℕ) → decimal-out-lts.Need-slice-write-out (
-  decimal-out-below t,
-  decimal-out.Post,
-) (decimal-out-at t) decimal-out.Post
+decimal-out-slice-write-out : (t : ℕ) → decimal-out-lts.Need-slice-write-out (callees t) (decimal-out-at t) decimal-out.Post
 decimal-out-slice-write-out t c =
     let s = c .before .before in
     omega (arith, ap length (decimal-one (s .args .n) (c .if1 .taken)))
 
-decimal-out-add-result : (t : ℕ) → decimal-out-lts.Need-add-result (
-  decimal-out-below t,
-  decimal-out.Post,
-) (decimal-out-at t) decimal-out.Post
+decimal-out-add-result : (t : ℕ) → decimal-out-lts.Need-add-result (callees t) (decimal-out-at t) decimal-out.Post
 decimal-out-add-result t c =
     let s = c .before .before in
     omega (arith, ap length (decimal-one (s .args .n) (c .if1 .taken)))
 
-decimal-out-same-length : (t : ℕ) → decimal-out-lts.Need-same-length (
-  decimal-out-below t,
-  decimal-out.Post,
-) (decimal-out-at t) decimal-out.Post
+decimal-out-same-length : (t : ℕ) → decimal-out-lts.Need-same-length (callees t) (decimal-out-at t) decimal-out.Post
 decimal-out-same-length t c = search needs
 
-decimal-out-returns : (t : ℕ) → decimal-out-lts.Need-returns (
-  decimal-out-below t,
-  decimal-out.Post,
-) (decimal-out-at t) decimal-out.Post
+decimal-out-returns : (t : ℕ) → decimal-out-lts.Need-returns (callees t) (decimal-out-at t) decimal-out.Post
 decimal-out-returns t c =
     let s = c .before .before in
     going-all (s .pre .1) (one (s .args .out .now) (s .args .at) (s .args .n) (s .pre .1) (c .if1 .taken))
 
-decimal-out-decimal-out-requires : (t : ℕ) → decimal-out-lts.Need-decimal-out-requires (
-  decimal-out-below t,
-  decimal-out.Post,
-) (decimal-out-at t) decimal-out.Post
+decimal-out-decimal-out-requires : (t : ℕ) → decimal-out-lts.Need-decimal-out-requires (callees t) (decimal-out-at t) decimal-out.Post
 decimal-out-decimal-out-requires t c κs =
     let s = c .before .before .before in
     omega (arith, simp length-append at (ap length (decimal-last (s .args .n) (omega arith) (omega arith))))
 
-decimal-out-cast-out-2 : (t : ℕ) → decimal-out-lts.Need-cast-out-2 (
-  decimal-out-below t,
-  decimal-out.Post,
-) (decimal-out-at t) decimal-out.Post
+decimal-out-cast-out-2 : (t : ℕ) → decimal-out-lts.Need-cast-out-2 (callees t) (decimal-out-at t) decimal-out.Post
 decimal-out-cast-out-2 t c = omega arith
 
-decimal-out-add-out-2 : (t : ℕ) → decimal-out-lts.Need-add-out-2 (
-  decimal-out-below t,
-  decimal-out.Post,
-) (decimal-out-at t) decimal-out.Post
+decimal-out-add-out-2 : (t : ℕ) → decimal-out-lts.Need-add-out-2 (callees t) (decimal-out-at t) decimal-out.Post
 decimal-out-add-out-2 t c = omega arith
 
-decimal-out-slice-write-out-2 : (t : ℕ) → decimal-out-lts.Need-slice-write-out-2 (
-  decimal-out-below t,
-  decimal-out.Post,
-) (decimal-out-at t) decimal-out.Post
+decimal-out-slice-write-out-2 : (t : ℕ) → decimal-out-lts.Need-slice-write-out-2 (callees t) (decimal-out-at t) decimal-out.Post
 decimal-out-slice-write-out-2 t c =
     let s = c .before .before .before .before .before .before in
     omega (arith, going-room (s .pre .1) (behind t c))
 
-decimal-out-add-result-2 : (t : ℕ) → decimal-out-lts.Need-add-result-2 (
-  decimal-out-below t,
-  decimal-out.Post,
-) (decimal-out-at t) decimal-out.Post
+decimal-out-add-result-2 : (t : ℕ) → decimal-out-lts.Need-add-result-2 (callees t) (decimal-out-at t) decimal-out.Post
 decimal-out-add-result-2 t c =
     let s = c .before .before .before .before .before .before in
     omega (arith, going-room (s .pre .1) (behind t c))
 
-decimal-out-same-length-2 : (t : ℕ) → decimal-out-lts.Need-same-length-2 (
-  decimal-out-below t,
-  decimal-out.Post,
-) (decimal-out-at t) decimal-out.Post
+decimal-out-same-length-2 : (t : ℕ) → decimal-out-lts.Need-same-length-2 (callees t) (decimal-out-at t) decimal-out.Post
 decimal-out-same-length-2 t c = simp length-set (c .before .before .decimal-out .kept .0)
 
-decimal-out-returns-2 : (t : ℕ) → decimal-out-lts.Need-returns-2 (
-  decimal-out-below t,
-  decimal-out.Post,
-) (decimal-out-at t) decimal-out.Post
+decimal-out-returns-2 : (t : ℕ) → decimal-out-lts.Need-returns-2 (callees t) (decimal-out-at t) decimal-out.Post
 decimal-out-returns-2 t c =
     let s = c .before .before .before .before .before .before in
     rw (glyph-low (s .args .n % 10) (omega arith)) (going-all (s .pre .1) (going-byte (s .pre .1) (behind t c)))
 
 pub +decimal-out-spec : {M : Type 1} → statement M
-+decimal-out-spec = close μ-decimal-out λ t. decimal-out-lts.spec (
-  decimal-out-below t,
-  decimal-out.Post,
-)
++decimal-out-spec = close μ-decimal-out λ t. decimal-out-lts.spec (callees t)
     (decimal-out-at t)
     decimal-out.Post
     (decimal-out-cast-out t)

@@ -1,13 +1,12 @@
 -- `stopper::character_of::rank_of_word` meets its contract: `Seen` of the symbols up to the length.
 -- Assumes nothing.
-use mathlib.Core.Path.{_≡_, sym, ap, subst, _∙_}
+use mathlib.Core.Path.{_≡_, sym, _∙_}
 use mathlib.Core.List.{List}
-use Prim.Native.Nat.{ℕ, _+_, _-_, _≤_, _<_}
+use Prim.Native.Nat.{ℕ, _-_, _≤_, _<_}
 use native.Mathlib.Omega.{arith}
 use borrow.Author.Needs.{needs}
 use lib.ListN.{take, getD}
 use lib.Seq.{length-take-le, getD-take}
-use Rattle.stopper.specs.State.{Small, stateAt}
 use Rattle.stopper.specs.Laws.State.{state-small}
 use Rattle.stopper.specs.declared.code.Code.{Code}
 use Rattle.stopper.specs.declared.reading.Reader.{Reader}

@@ -1,20 +1,19 @@
 -- `stopper::codeword_of::codeword_of` meets its contract.
 -- Assumes nothing.
-use mathlib.Core.Path.{_≡_, sym, ap₂, subst, _∙_}
-use mathlib.Core.Bool.{Bool, true, false}
-use Prim.Native.Nat.{ℕ, _≤_, _<_}
+use mathlib.Core.Path.{_≡_, sym, ap₂, _∙_}
+use mathlib.Core.Bool.{Bool, true}
+use Prim.Native.Nat.{_<_}
 use native.Mathlib.Omega.{arith}
 use borrow.Author.Needs.{needs}
 use borrow.Author.Tests.{lt-ltb, le-ltb, not-true, not-false}
-use lib.Dec.{T, ltb}
+use lib.Dec.{ltb}
 use lib.ListN.{length}
 use lib.Seq.{length-take-le}
 use Rattle.ground.specs.Rows.{zeros}
-use Rattle.stopper.specs.Table.{goodTable, characters, has, rankIn}
+use Rattle.stopper.specs.Table.{goodTable, characters, has}
 use Rattle.stopper.specs.Laws.Table.{is-good, table-code, table-few, length-small}
 use Rattle.stopper.specs.Laws.Characters.{has-rank}
 use Rattle.stopper.specs.Laws.Operations.{codeword-1, codeword-3, codeword-yes}
-use Rattle.stopper.specs.declared.table.Table.{Table}
 use Rattle.stopper.proofs.codeword_of.codeword_of.Statement.{statement}
 use Rattle.stopper.proofs.codeword_of.codeword_of.Tie as tie
 

@@ -9,10 +9,9 @@ use native.Mathlib.Omega.{arith}
 use borrow.Author.Tests.{eq-eqb, ne-eqb}
 use lib.ListN.{length, getD, take, set, length-set}
 use lib.Seq.{take-length, length-take-le}
-use Rattle.ground.specs.Limit.{limit}
-use Rattle.ground.specs.Rows.{tab, zeros}
+use Rattle.ground.specs.Rows.{tab}
 use Rattle.ground.specs.Laws.Limit.{limit-fits}
-use Rattle.ground.specs.Laws.Rows.{length-tab, length-zeros, tab-at, tab-zeros, tab-set}
+use Rattle.ground.specs.Laws.Rows.{length-zeros, tab-at, tab-zeros, tab-set}
 use Rattle.stopper.specs.Choosing.{occurs, countsOf}
 use Rattle.stopper.specs.Laws.Counting.{occurs-none, occurs-more, occurs-le}
 use Rattle.stopper.proofs.count.tally.Statement.{statement}

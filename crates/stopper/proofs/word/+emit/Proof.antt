@@ -1,12 +1,12 @@
 -- `stopper::word::emit` meets its contract: a digit stored, and the rest spelt before it.
 -- Assumes nothing.
-use mathlib.Core.Path.{_≡_, sym, ap, _∙_}
-use Prim.Native.Nat.{ℕ, _+_, _-_, _/_, _%_, _≤_, _<_}
+use mathlib.Core.Path.{_≡_, _∙_}
+use Prim.Native.Nat.{ℕ, _-_, _%_, _≤_, _<_}
 use native.Mathlib.Nat.{mod-lt}
 use native.Mathlib.Omega.{arith}
 use borrow.Author.Needs.{needs}
 use lib.Dec.{T}
-use lib.ListN.{length, length-set}
+use lib.ListN.{length-set}
 use Rattle.stopper.specs.Table.{base, stoppers, goodCode}
 use Rattle.stopper.specs.Laws.Table.{code-base, code-good}
 use Rattle.stopper.specs.declared.code.Code.{Code}

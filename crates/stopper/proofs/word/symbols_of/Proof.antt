@@ -1,12 +1,11 @@
 -- `stopper::word::symbols_of` meets its contract: the stopper stored at its place, and the continuers spelt before it.
 -- Assumes nothing.
-use mathlib.Core.Path.{_≡_, sym, ap, _∙_}
-use Prim.Native.Nat.{ℕ, _+_, _≤_, _<_}
+use mathlib.Core.Path.{sym, ap, _∙_}
+use Prim.Native.Nat.{_+_, _<_}
 use native.Mathlib.Nat.{mod-lt}
 use native.Mathlib.Omega.{arith}
 use borrow.Author.Needs.{needs}
 use lib.ListN.{length, length-set}
-use Rattle.stopper.specs.Table.{base, lengthOf}
 use Rattle.stopper.specs.Laws.Table.{code-base, code-good, length-place}
 use Rattle.stopper.specs.declared.code.Place.{Place}
 use Rattle.stopper.proofs.Spelling.{written}

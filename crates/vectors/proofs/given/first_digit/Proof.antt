@@ -1,9 +1,7 @@
 -- `vectors::given::first_digit` meets its contract.
 -- Assumes nothing.
-use Prim.Native.Nat.{ℕ, _+_, _-_, _*_, _≤_, _<_}
-use mathlib.Core.Path.{_≡_, refl, _∙_}
-use native.Mathlib.Omega.{arith}
-use lib.ListN.{length, length-set}
+use Prim.Native.Nat.{_-_}
+use lib.ListN.{length}
 use borrow.Author.Needs.{needs}
 use Rattle.vectors.proofs.given.first_digit.Statement.{statement}
 use Rattle.vectors.proofs.given.first_digit.Tie as tie

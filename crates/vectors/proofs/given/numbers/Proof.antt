@@ -1,7 +1,7 @@
 -- `vectors::given::numbers` meets its contract.
 -- Assumes nothing.
-use Prim.Native.Nat.{ℕ, _+_, _-_, _*_, _≤_, _<_}
-use mathlib.Core.Path.{_≡_, refl, sym, _∙_}
+use Prim.Native.Nat.{_-_, _≤_}
+use mathlib.Core.Path.{_≡_, sym}
 use lib.Seq.{length-take-le}
 use native.Mathlib.Omega.{arith}
 use lib.ListN.{length, length-set}
