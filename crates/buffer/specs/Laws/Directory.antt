@@ -79,9 +79,9 @@ module _ (r : Roll) (buf : List ℕ) (s : Sound r buf) where
   right-long dir right = omega (arith, sym (length-take (entries (r .n)) dir) ∙ ap length right ∙ sound-entries)
 
   -- the last codeword ends at symbol h
-  pub sound-end : startOf (r .table .code) (ranks r buf) (r .n) ≡ r .h
+  pub sound-last : startOf (r .table .code) (ranks r buf) (r .n) ≡ r .h
   unfolding startOf
-  sound-end =
+  sound-last =
       let c = r .table .code in
       ap (λ (rs : List ℕ). length (write (base c) (stoppers c) rs)) (take-all (r .n) (ranks r buf) (omega (arith, s .count)))
       ∙ ap length (sym (sound-row r buf s))

@@ -9,7 +9,7 @@ use Rattle.buffer.specs.Roll.{reading, ranksRead}
 use Rattle.buffer.specs.Directory.{lengthsOf}
 use Rattle.buffer.specs.Laws.Codewords.{startOf}
 use Rattle.buffer.specs.Laws.Sound.{sound-reads}
-use Rattle.buffer.specs.Laws.Directory.{start-at, sound-end, right-held, right-passed, right-before}
+use Rattle.buffer.specs.Laws.Directory.{start-at, sound-last, right-held, right-passed, right-before}
 use Rattle.buffer.specs.declared.reading.Passed.the-variants.{At}
 use Rattle.buffer.proofs.directory.start_of.Statement.{statement}
 use Rattle.buffer.proofs.directory.start_of.Tie as tie
@@ -44,7 +44,7 @@ unfolding lengthsOf
 returns c =
     let s = begun (c .before) in
     let e : s .args .roll .n ≡ s .args .j = omega arith in
-    sym (sound-end (s .args .roll) (s .args .buf .now) (s .pre .0))
+    sym (sound-last (s .args .roll) (s .args .buf .now) (s .pre .0))
     ∙ ap (startOf (s .args .roll .table .code) (ranks s)) e
     ∙ start-at (s .args .roll .table .code) (ranks s) (s .args .j)
 
