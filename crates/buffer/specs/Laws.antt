@@ -1,4 +1,4 @@
--- The laws, by subject: characters and texts under a table, codewords in a row, a sound roll, where codewords end, what it holds, the directory, and hits.
+-- The laws, by subject: characters and texts under a table, codewords in a row, a sound roll, where codewords end, what it holds, the directory, hits, and a good pattern.
 -- Words and Finding are what this crate's functions cite.
 pub mod Characters
 pub mod Texts
@@ -10,6 +10,7 @@ pub mod Stops
 pub mod Holding
 pub mod Directory
 pub mod Hits
+pub mod Patterns
 pub mod Words
 pub mod Mending
 pub mod Editing

@@ -6,24 +6,15 @@ use mathlib.Core.List.{List, [], _∷_, _++_}
 use Prim.Native.Nat.{ℕ}
 use native.Mathlib.Omega.{arith}
 use lib.ListN.{length, drop, getD, replicate}
-use Rattle.ground.specs.Limit.{limit}
-use Rattle.ground.specs.Rows.{tab, zeros, padded}
-use Rattle.stopper.specs.Code.{codeword, place, first, shorter, opens, spell}
-use Rattle.stopper.specs.Table.{stoppers, goodWidth, goodCode, goodCharacters, goodTable, has, repeats, rankIn, lengthOf}
-use Rattle.stopper.specs.Reading.{write}
-use Rattle.stopper.specs.Ranking.{key, insert, rankedFrom, ranked}
-use Rattle.stopper.specs.Choosing.{occurs, countsOf, counted, totalFrom, total, least, chosen, chosenTable}
-use Rattle.symbols.specs.Symbols.{per, bytesFor, room, number, byteAt, bytesOf}
-use Rattle.buffer.specs.Roll.{firstForeign, firstOver, textRow}
-use Rattle.buffer.specs.Hits.{stands, hitsFrom, hits, goodPattern}
-use Rattle.report.specs.Report.{givenPattern, givenText, decimalIn, decimal, hexLines, hexFrom, numberLines, bestWord, symbolsWord, hitsWord, refusedWord, bestLine, hitsLine, refusedLine, linesOf, reportOf}
-use Rattle.report.specs.Worked.{example, exampleLines}
+use Rattle.buffer.specs.Hits.{goodPattern}
+use Rattle.report.specs.Report.{givenPattern, decimalIn, decimal, hexLines, hexFrom, refusedWord, refusedLine, reportOf}
+use Rattle.report.specs.Worked.{example, exampleLines, computed}
 use Rattle.report.specs.Laws.Answer.{report-11}
 
 -- ---- the paper's example, byte by byte
 
 example-answer : reportOf example ≡ exampleLines
-unfolding example exampleLines limit tab zeros padded codeword place first shorter opens spell stoppers goodWidth goodCode goodCharacters goodTable has repeats rankIn lengthOf write key insert rankedFrom ranked occurs countsOf counted totalFrom total least chosen chosenTable per bytesFor room number byteAt bytesOf firstForeign firstOver textRow stands hitsFrom hits goodPattern givenPattern givenText decimalIn decimal hexFrom numberLines bestWord symbolsWord hitsWord refusedWord bestLine hitsLine refusedLine linesOf reportOf
+unfolding example exampleLines computed
 example-answer = refl
 
 at : {out : List ℕ} (i : ℕ) → reportOf example ≡ out → getD out i 0 ≡ getD exampleLines i 0
@@ -94,17 +85,17 @@ report-not-4-first e = report-11-first (replicate 65 97 ++ (10 ∷ replicate 163
 
 -- without a byte 10 the input is the pattern, and not the text
 pub report-not-text : reportOf (97 ∷ 98 ∷ 99 ∷ []) ≡ refusedLine 11 0 → ⊥
-unfolding limit tab zeros padded codeword place first shorter opens spell stoppers goodWidth goodCode goodCharacters goodTable has repeats rankIn lengthOf write key insert rankedFrom ranked occurs countsOf counted totalFrom total least chosen chosenTable per bytesFor room number byteAt bytesOf firstForeign firstOver textRow stands hitsFrom hits goodPattern givenPattern givenText decimalIn decimal hexFrom numberLines bestWord symbolsWord hitsWord refusedWord bestLine hitsLine refusedLine linesOf reportOf
+unfolding computed
 report-not-text e = let a = ap (λ (l : List ℕ). getD l 0 0) e in omega arith
 
 -- ---- hits
 
 -- going on behind a hit: aa in aaa hits 0 and 1, and no `hits` follows the first
 pub report-not-skipping : {out : List ℕ} → reportOf (97 ∷ 97 ∷ 10 ∷ 97 ∷ 97 ∷ 97 ∷ []) ≡ out → getD out 22 0 ≡ 104 → ⊥
-unfolding limit tab zeros padded codeword place first shorter opens spell stoppers goodWidth goodCode goodCharacters goodTable has repeats rankIn lengthOf write key insert rankedFrom ranked occurs countsOf counted totalFrom total least chosen chosenTable per bytesFor room number byteAt bytesOf firstForeign firstOver textRow stands hitsFrom hits goodPattern givenPattern givenText decimalIn decimal hexFrom numberLines bestWord symbolsWord hitsWord refusedWord bestLine hitsLine refusedLine linesOf reportOf
+unfolding computed
 report-not-skipping e w = let a = ap (λ (l : List ℕ). getD l 22 0) e in omega arith
 
 -- a match of symbols inside a codeword: b in abracadabra hits 1 and 8, and not 6
 pub report-not-inside : {out : List ℕ} → reportOf (98 ∷ 10 ∷ drop 5 example) ≡ out → getD out 29 0 ≡ 54 → ⊥
-unfolding example limit tab zeros padded codeword place first shorter opens spell stoppers goodWidth goodCode goodCharacters goodTable has repeats rankIn lengthOf write key insert rankedFrom ranked occurs countsOf counted totalFrom total least chosen chosenTable per bytesFor room number byteAt bytesOf firstForeign firstOver textRow stands hitsFrom hits goodPattern givenPattern givenText decimalIn decimal hexFrom numberLines bestWord symbolsWord hitsWord refusedWord bestLine hitsLine refusedLine linesOf reportOf
+unfolding example computed
 report-not-inside e w = let a = ap (λ (l : List ℕ). getD l 29 0) e in omega arith

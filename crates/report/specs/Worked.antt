@@ -4,17 +4,8 @@ use Prim.Native.Nat.{ℕ}
 use mathlib.Core.Bool.{Bool, true, false, _&&_}
 use mathlib.Core.List.{List, [], _∷_}
 use lib.Dec.{T, eqb}
-use Rattle.ground.specs.Limit.{limit}
-use Rattle.ground.specs.Rows.{tab, zeros, padded}
-use Rattle.stopper.specs.Code.{codeword, place, first, shorter, opens, spell}
-use Rattle.stopper.specs.Table.{stoppers, goodWidth, goodCode, goodCharacters, goodTable, has, repeats, rankIn, lengthOf}
-use Rattle.stopper.specs.Reading.{write}
-use Rattle.stopper.specs.Ranking.{key, insert, rankedFrom, ranked}
-use Rattle.stopper.specs.Choosing.{occurs, countsOf, counted, totalFrom, total, least, chosen, chosenTable}
-use Rattle.symbols.specs.Symbols.{per, bytesFor, room, number, byteAt, bytesOf}
-use Rattle.buffer.specs.Roll.{firstForeign, firstOver, textRow}
-use Rattle.buffer.specs.Hits.{stands, hitsFrom, hits, goodPattern}
 use Rattle.report.specs.Report.{givenPattern, givenText, decimalIn, decimal, hexFrom, numberLines, bestWord, symbolsWord, hitsWord, refusedWord, bestLine, hitsLine, refusedLine, linesOf, reportOf}
+use Rattle.roll.specs.Worked as cases
 
 same : List ℕ → List ℕ → Bool
 same [] [] = true
@@ -49,6 +40,11 @@ rows =
     ∷ record { input = 97 ∷ 98 ∷ 99 ∷ []; output = 98 ∷ 101 ∷ 115 ∷ 116 ∷ 32 ∷ 49 ∷ 32 ∷ 115 ∷ 121 ∷ 109 ∷ 98 ∷ 111 ∷ 108 ∷ 115 ∷ 32 ∷ 48 ∷ 10 ∷ 104 ∷ 105 ∷ 116 ∷ 115 ∷ 32 ∷ 48 ∷ 10 ∷ [] }
     ∷ []
 
+-- all that the cases compute with, named once
+unfoldable pub computed : Unit {0}
+unfolding cases.computed givenPattern givenText decimalIn decimal hexFrom numberLines bestWord symbolsWord hitsWord refusedWord bestLine hitsLine refusedLine linesOf reportOf
+computed = tt
+
 worked : T (every rows)
-unfolding every rows example exampleLines same limit tab zeros padded codeword place first shorter opens spell stoppers goodWidth goodCode goodCharacters goodTable has repeats rankIn lengthOf write key insert rankedFrom ranked occurs countsOf counted totalFrom total least chosen chosenTable per bytesFor room number byteAt bytesOf firstForeign firstOver textRow stands hitsFrom hits goodPattern givenPattern givenText decimalIn decimal hexFrom numberLines bestWord symbolsWord hitsWord refusedWord bestLine hitsLine refusedLine linesOf reportOf
+unfolding every rows example exampleLines same computed
 worked = tt

@@ -20,7 +20,7 @@ use Rattle.buffer.specs.Words.{Spelt, uptoOf, takenOf, foreignOf}
 use Rattle.buffer.specs.Editing.{edited, Replaceable}
 use Rattle.buffer.specs.Laws.Texts.{length-parts, over-within, over-all}
 use Rattle.buffer.specs.Laws.Sound.{text-length}
-use Rattle.buffer.specs.Laws.Holding.{sound-record}
+use Rattle.buffer.specs.Laws.Holding.{sound-h}
 use Rattle.buffer.specs.Laws.Words.{Fitted, upto-taken, taken-le, foreign-found, over-found, all-fitted, row-count}
 use Rattle.buffer.specs.Laws.Editing.{edited-length, edited-over-text, edited-over-tail, start-text}
 use Rattle.buffer.specs.declared.roll.Roll.{Roll}
@@ -47,7 +47,7 @@ module _ (r : Roll) (buf : List ℕ) (long : length (r .table .places) ≡ 256) 
       ap (λ (n : ℕ). n + length (symbolsFor (r .table) (drop j (textOf r buf)))) (start-text r buf long s j)
       ∙ sym (length-parts c l (take j (textOf r buf)) (drop j (textOf r buf)))
       ∙ ap (λ (t : List ℕ). length (textRow c l t)) (take-append-drop j (textOf r buf))
-      ∙ ap (λ (x : Roll). x .h) (sound-record r buf long s)
+      ∙ sound-h r buf long s
 
   pub start-room : startAt (lengthsOf r buf) j ≤ room (r .table .code .k) (length buf)
   start-room = omega (arith, tail-is, s .fits)
@@ -95,7 +95,7 @@ module _ {r : Roll} {lengths words buf dir text : List ℕ} {start end first las
         arith,
         size,
         row-count c good l old,
-        ap (λ (x : Roll). x .h) (sound-record r buf (m .long) (m .sound)),
+        sound-h r buf (m .long) (m .sound),
         m .sound .fits,
         room-limit (c .k) (length buf),
         limit-fits,

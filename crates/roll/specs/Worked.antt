@@ -11,7 +11,7 @@ use Rattle.ground.specs.Refusals.{Outcome, accepted, refused, judged, kept}
 use Rattle.ground.specs.Rows.{tab, zeros, padded}
 use Rattle.stopper.specs.Code.{codeword, place, first, shorter, opens, spell, rankOf, rankFrom, rankAt}
 use Rattle.stopper.specs.Table.{stoppers, goodWidth, goodCode, goodCharacters, goodTable, has, repeats, rankIn, lengthOf, wordOf, tableOf}
-use Rattle.stopper.specs.Reading.{read, readFrom, ahead, write}
+use Rattle.stopper.specs.Reading.{read, readFrom, ahead, write, firstFrom, firstWord}
 use Rattle.stopper.specs.Ranking.{key, insert, rankedFrom, ranked}
 use Rattle.stopper.specs.Choosing.{occurs, countsOf, counted, totalFrom, total, least, chosen, chosenTable}
 use Rattle.symbols.specs.Symbols.{per, bytesFor, room, shift, symbolAt, symbolsOf, number, byteAt, bytesOf}
@@ -23,6 +23,7 @@ use Rattle.buffer.specs.Directory.{entries, sum, startAt, directoryOf, lengthsO
 use Rattle.buffer.specs.Hits.{stands, hitsFrom, hits, goodPattern, listed}
 use Rattle.buffer.specs.Editing.{edited, bytesAfter, directoryAfter}
 use Rattle.buffer.specs.declared.roll.Roll.{Roll}
+use Rattle.buffer.specs.Codewords.{foundIn, foundAt, passedFrom, oneFound, onePassed, oneFrom, oneIsLost, oneLost, oneRank}
 
 -- ---- whether two are the same
 
@@ -120,6 +121,10 @@ abra = tableOf (record { k = 2; s = 3 }) (97 ∷ 98 ∷ 114 ∷ 99 ∷ 100 ∷ [
 unfoldable pub packedAbra : List ℕ
 packedAbra = 24 ∷ 195 ∷ 70 ∷ 0 ∷ []
 
+-- a record of so many characters and symbols
+abbrev pub rolled : Table → ℕ → ℕ → Roll
+rolled t n h = record { table = t; n = n; h = h }
+
 banana : List ℕ
 banana = 98 ∷ 97 ∷ 110 ∷ 97 ∷ 110 ∷ 97 ∷ []
 
@@ -135,19 +140,19 @@ rows =
     ∷ totals 2 abracadabra 3 13
     ∷ choice 2 abracadabra abra 13
     -- P2: symbols and bytes; a byte behind them stays
-    ∷ packs abra abracadabra (9 ∷ 9 ∷ 9 ∷ 9 ∷ 9 ∷ []) yes (record { table = abra; n = 11; h = 13 })
+    ∷ packs abra abracadabra (9 ∷ 9 ∷ 9 ∷ 9 ∷ 9 ∷ []) yes (rolled abra 11 13)
     (0 ∷ 1 ∷ 2 ∷ 0 ∷ 3 ∷ 0 ∷ 0 ∷ 3 ∷ 1 ∷ 0 ∷ 1 ∷ 2 ∷ 0 ∷ []) (packedAbra ++ 9 ∷ [])
-    ∷ checks (record { table = abra; n = 11; h = 13 }) packedAbra yes
-    ∷ unpacks (record { table = abra; n = 11; h = 13 }) packedAbra 0 11 (replicate 12 9) yes (abracadabra ++ 9 ∷ [])
+    ∷ checks (rolled abra 11 13) packedAbra yes
+    ∷ unpacks (rolled abra 11 13) packedAbra 0 11 (replicate 12 9) yes (abracadabra ++ 9 ∷ [])
     -- P3: b, and the symbol that equals its codeword and is no hit
-    ∷ finds (record { table = abra; n = 11; h = 13 }) packedAbra (98 ∷ []) (9 ∷ 9 ∷ 9 ∷ []) (accepted 2) (1 ∷ 8 ∷ 9 ∷ [])
-    ∷ inside (record { table = abra; n = 11; h = 13 }) packedAbra (98 ∷ []) 8
+    ∷ finds (rolled abra 11 13) packedAbra (98 ∷ []) (9 ∷ 9 ∷ 9 ∷ []) (accepted 2) (1 ∷ 8 ∷ 9 ∷ [])
+    ∷ inside (rolled abra 11 13) packedAbra (98 ∷ []) 8
     -- P4: a
-    ∷ finds (record { table = abra; n = 11; h = 13 }) packedAbra (97 ∷ []) (replicate 6 9) (accepted 5) (0 ∷ 3 ∷ 5 ∷ 7 ∷ 10 ∷ 9 ∷ [])
+    ∷ finds (rolled abra 11 13) packedAbra (97 ∷ []) (replicate 6 9) (accepted 5) (0 ∷ 3 ∷ 5 ∷ 7 ∷ 10 ∷ 9 ∷ [])
     -- P5: symbols and bytes; ana, overlapping
     ∷ choice 4 banana bananas 6
-    ∷ packs bananas banana (9 ∷ 9 ∷ 9 ∷ []) yes (record { table = bananas; n = 6; h = 6 }) (2 ∷ 0 ∷ 1 ∷ 0 ∷ 1 ∷ 0 ∷ []) (32 ∷ 16 ∷ 16 ∷ [])
-    ∷ finds (record { table = bananas; n = 6; h = 6 }) (32 ∷ 16 ∷ 16 ∷ []) (97 ∷ 110 ∷ 97 ∷ []) (9 ∷ 9 ∷ 9 ∷ []) (accepted 2) (1 ∷ 3 ∷ 9 ∷ [])
+    ∷ packs bananas banana (9 ∷ 9 ∷ 9 ∷ []) yes (rolled bananas 6 6) (2 ∷ 0 ∷ 1 ∷ 0 ∷ 1 ∷ 0 ∷ []) (32 ∷ 16 ∷ 16 ∷ [])
+    ∷ finds (rolled bananas 6 6) (32 ∷ 16 ∷ 16 ∷ []) (97 ∷ 110 ∷ 97 ∷ []) (9 ∷ 9 ∷ 9 ∷ []) (accepted 2) (1 ∷ 3 ∷ 9 ∷ [])
     -- P6
     ∷ word 4 14 13 (13 ∷ [])
     ∷ word 4 14 14 (14 ∷ 0 ∷ [])
@@ -163,16 +168,21 @@ rows =
     ∷ word 4 15 255 (replicate 17 15 ++ 0 ∷ [])
     ∷ word 2 3 255 (replicate 85 3 ++ 0 ∷ [])
     -- P10: dd in place of c; a byte and an entry behind stay
-    ∷ edits (record { table = abra; n = 11; h = 13 }) (packedAbra ++ 9 ∷ []) (0 ∷ 9 ∷ []) 4 5 (100 ∷ 100 ∷ []) yes
-    (record { table = abra; n = 12; h = 15 }) (24 ∷ 221 ∷ 52 ∷ 96 ∷ 9 ∷ []) (0 ∷ 9 ∷ [])
+    ∷ edits (rolled abra 11 13) (packedAbra ++ 9 ∷ []) (0 ∷ 9 ∷ []) 4 5 (100 ∷ 100 ∷ []) yes
+    (rolled abra 12 15) (24 ∷ 221 ∷ 52 ∷ 96 ∷ 9 ∷ []) (0 ∷ 9 ∷ [])
     -- P11: cad dropped; the bytes used no longer are 0
-    ∷ edits (record { table = abra; n = 11; h = 13 }) (packedAbra ++ 9 ∷ []) (0 ∷ 9 ∷ []) 4 7 [] yes
-    (record { table = abra; n = 8; h = 8 }) (24 ∷ 24 ∷ 0 ∷ 0 ∷ 9 ∷ []) (0 ∷ 9 ∷ [])
+    ∷ edits (rolled abra 11 13) (packedAbra ++ 9 ∷ []) (0 ∷ 9 ∷ []) 4 7 [] yes
+    (rolled abra 8 8) (24 ∷ 24 ∷ 0 ∷ 0 ∷ 9 ∷ []) (0 ∷ 9 ∷ [])
     -- all counts 0
     ∷ choice 2 [] (tableOf (record { k = 2; s = 1 }) []) 0
     ∷ choice 4 [] (tableOf (record { k = 4; s = 1 }) []) 0
     ∷ []
 
+-- all that the cases compute with, named once
+unfoldable pub computed : Unit {0}
+unfolding limit tab zeros padded codeword place first shorter opens spell rankOf rankFrom rankAt stoppers goodWidth goodCode goodCharacters goodTable has repeats rankIn lengthOf read readFrom ahead write key insert rankedFrom ranked occurs countsOf counted totalFrom total least chosen chosenTable per bytesFor room shift symbolAt symbolsOf number byteAt bytesOf firstForeign firstOver textRow reading isBad firstBad ranksRead textOf allZero entries sum startAt directoryOf lengthsOf lengthsFor firstWrong stands hitsFrom hits goodPattern firstFrom firstWord foundIn foundAt passedFrom oneFound onePassed oneFrom oneIsLost oneLost oneRank
+computed = tt
+
 worked : T (every rows)
-unfolding every rows right same sameTable sameRoll sameOutcome sameTotal yes abracadabra abra packedAbra banana bananas limit tab zeros padded codeword place first shorter opens spell rankOf rankFrom rankAt stoppers goodWidth goodCode goodCharacters goodTable has repeats rankIn lengthOf read readFrom ahead write key insert rankedFrom ranked occurs countsOf counted totalFrom total least chosen chosenTable per bytesFor room shift symbolAt symbolsOf number byteAt bytesOf firstForeign firstOver textRow reading isBad firstBad ranksRead textOf allZero entries sum startAt directoryOf lengthsOf lengthsFor firstWrong stands hitsFrom hits goodPattern
+unfolding every rows right same sameTable sameRoll sameOutcome sameTotal yes abracadabra abra packedAbra banana bananas computed
 worked = tt

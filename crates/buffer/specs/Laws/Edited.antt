@@ -21,7 +21,7 @@ use Rattle.buffer.specs.Directory.{entries, directoryOf, lengthsFor, Rig
 use Rattle.buffer.specs.Editing.{edited, inPlace, bytesAfter, directoryAfter, replacedRow}
 use Rattle.buffer.specs.Laws.Characters.{InTable}
 use Rattle.buffer.specs.Laws.Texts.{text-below, length-parts, length-up}
-use Rattle.buffer.specs.Laws.Holding.{Holds, holds-sound, holds-text, sound-known, sound-record, sound-symbols, sound-bytes}
+use Rattle.buffer.specs.Laws.Holding.{Holds, holds-sound, holds-text, sound-known, sound-h, sound-symbols, sound-bytes}
 use Rattle.buffer.specs.Laws.Directory.{directory-length}
 use Rattle.buffer.specs.Laws.Replacing.{replaced-before, replaced-even}
 use Rattle.buffer.specs.Laws.Editing.{edited-row, edited-known, lengths-length, place-front, place-cleared, place-kept, place-length, sound-lengths}
@@ -151,7 +151,7 @@ module _ (r : Roll) (buf dir : List ℕ) (start end : ℕ) (text : List ℕ) (lo
           arith,
           length-parts (r .table .code) (characters (r .table)) (take end (textOf r buf)) (drop end (textOf r buf)),
           ap (λ (x : List ℕ). length (symbolsFor (r .table) x)) (take-append-drop end (textOf r buf)),
-          ap (λ (x : Roll). x .h) (sound-record r buf long (u .sound)),
+          sound-h r buf long (u .sound),
         )
 
     -- each byte before the one where the run begins is as it was

@@ -9,8 +9,7 @@ use native.Mathlib.Nat.{add-zero, zero-add}
 use native.Mathlib.Numerals.{add-one}
 use native.Mathlib.Omega.{arith}
 use borrow.Author.Tests.{eq-eqb, ne-eqb}
-use mir.Facts.{and-yes}
-use lib.Dec.{T, eqb, leb, leb→le}
+use lib.Dec.{T, eqb}
 use lib.ListN.{length, take, drop, getD, set, length-append, length-map, drop-of-length-le}
 use lib.Seq.{drop-cons, drop-drop, drop-length, take-all, take-append-le, take-suc, take-nil, set-append-seam, append-snoc}
 use Rattle.stopper.specs.Table.{goodCode, characters, rankIn, wordOf}
@@ -23,6 +22,7 @@ use Rattle.buffer.specs.Laws.Characters.{foreign-within, foreign-known, 
 use Rattle.buffer.specs.Laws.Texts.{text-none, text-cons, text-append, length-cons}
 use Rattle.buffer.specs.Laws.Holding.{sound-known, sound-ranked}
 use Rattle.buffer.specs.Laws.Hits.{hit-rank, foreign-hits}
+use Rattle.buffer.specs.Laws.Patterns.{pattern-least}
 use Rattle.buffer.specs.declared.roll.Roll.{Roll}
 
 -- ---- the comparison
@@ -101,8 +101,7 @@ foreign-end l p = ap (firstForeign l) (drop-length p) ∙ foreign-none l
 -- none of them: a character is not in the table
 module _ (c : Code) (g : T (goodCode c)) (l p : List ℕ) (k : T (goodPattern p)) where
   pattern-some : 0 < length (textRow c l p)
-  unfolding goodPattern
-  pattern-some = go p (leb→le _ _ (and-yes (leb 1 (length p)) (leb (length p) 64) k .0))
+  pattern-some = go p (pattern-least p k)
     where
       go : (p : List ℕ) → 0 < length p → 0 < length (textRow c l p)
       go [] h = absurd (omega arith)

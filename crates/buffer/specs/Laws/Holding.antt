@@ -144,13 +144,16 @@ module _ (r : Roll) (buf : List ℕ) (long : length (r .table .places) ≡ 256) 
   unfolding textRow
   sound-symbols = ap (write (base (r .table .code)) (stoppers (r .table .code))) (sym sound-ranked) ∙ sym (sound-row r buf s)
 
+  pub sound-h : length (symbolsFor (r .table) (textOf r buf)) ≡ r .h
+  sound-h = ap length sound-symbols ∙ row-length
+
   -- its record is the roll's
   pub sound-record : recordOf (r .table) (textOf r buf) ≡ r
   unfolding textOf
   sound-record =
       ap₂ {C = Roll} (λ (n h : ℕ). record { table = r .table; n = n; h = h })
       (length-map (ranksRead (reading r buf)) (λ rank. getD (r .table .places) rank 0) ∙ s .count)
-      (ap length sound-symbols ∙ row-length)
+      sound-h
 
   module _ (bytes : Below 256 buf) where
     -- its bytes are the buffer's

@@ -26,7 +26,7 @@ use Rattle.buffer.specs.Editing.{inPlace, bytesAfter, directoryAfter, re
 use Rattle.buffer.specs.Laws.Characters.{characters-few, foreign-known}
 use Rattle.buffer.specs.Laws.Texts.{length-parts, length-up}
 use Rattle.buffer.specs.Laws.Sound.{text-length}
-use Rattle.buffer.specs.Laws.Holding.{sound-record, sound-symbols}
+use Rattle.buffer.specs.Laws.Holding.{sound-h, sound-symbols}
 use Rattle.buffer.specs.Laws.Hits.{map-drop}
 use Rattle.buffer.specs.Laws.Words.{row-count, row-known, laid}
 use Rattle.buffer.specs.Laws.Directory.{entries-upto}
@@ -80,7 +80,7 @@ module _ (r : Roll) (lengths words buf dir : List ℕ) (x : Run) (text : List �
   within = omega (arith, size, p .inside)
 
   whole : length (textRow c l old) ≡ r .h
-  whole = ap (λ (q : Roll). q .h) (sound-record r buf long (p .sound))
+  whole = sound-h r buf long (p .sound)
 
   pub run-ordered : x .first ≤ x .last
   run-ordered = omega (arith, first-is, last-is, length-up c l old (x .start) (x .end) (p .ordered))

@@ -1,17 +1,18 @@
 -- What came in: the pattern and the text of an input cut short, and why the first 16,450 bytes are enough.
 -- Assumes nothing.
 use mathlib.Core.Path.{_≡_, refl, sym, ap, _∙_}
-use mathlib.Core.Bool.{Bool, true, false, cond, _&&_}
+use mathlib.Core.Logic.{inr}
+use mathlib.Core.Bool.{Bool, true, false, cond}
 use mathlib.Core.List.{List, [], _∷_}
-use Prim.Native.Nat.{ℕ, zero, suc, _+_, _-_, min, _≤_, _<_}
+use Prim.Native.Nat.{ℕ, zero, suc, _+_, _-_, _≤_, _<_}
 use native.Mathlib.Nat.{zero-sub, suc-sub-suc, sub-zero}
 use native.Mathlib.Omega.{arith}
-use borrow.Author.Tests.{leb-true}
-use lib.Dec.{leb, ltb, eqb, leb→le, le→leb, ltb→lt, nltb→le}
+use lib.Dec.{leb, ltb, eqb, leb→le, nleb→lt, ltb→lt, nltb→le}
 use lib.ListN.{length, take, length-take}
 use lib.Seq.{take-all, take-nil}
-use Rattle.ground.specs.Laws.Tests.{by-test, same-test, true-yes}
+use Rattle.ground.specs.Laws.Tests.{by-test, true-yes}
 use Rattle.buffer.specs.Hits.{goodPattern}
+use Rattle.buffer.specs.Laws.Patterns.{pattern-bad, pattern-most}
 use Rattle.report.specs.Report.{givenPattern, givenText, reportOf}
 use Rattle.report.specs.Laws.Answer.{report-11, report-4}
 
@@ -57,24 +58,10 @@ text-cut (suc n) (b ∷ input) = rw suc-sub-suc (go (eqb b 10) (text-cut n input
 
 -- a pattern cut at over 64 characters is good exactly if it was
 pub good-cut : (n : ℕ) (pattern : List ℕ) → 64 < n → goodPattern (take n pattern) ≡ goodPattern pattern
-unfolding goodPattern
-good-cut n pattern h = rw length-take (go (length pattern))
-  where
-    go : (l : ℕ) → (leb 1 (min n l) && leb (min n l) 64) ≡ (leb 1 l && leb l 64)
-    go l =
-        rw (
-          same-test (leb 1 (min n l)) (leb 1 l) (λ t. omega (arith, leb→le, le→leb)) (λ t. omega (arith, leb→le, le→leb)),
-          same-test (leb (min n l) 64) (leb l 64) (λ t. omega (arith, leb→le, le→leb)) (λ t. omega (arith, leb→le, le→leb)),
-        )
-
--- a good pattern has at most 64 characters
-pub good-short : (pattern : List ℕ) → goodPattern pattern ≡ true → length pattern ≤ 64
-unfolding goodPattern
-good-short pattern g = go (leb 1 (length pattern)) g
-  where
-    go : (t : Bool) → (t && leb (length pattern) 64) ≡ true → length pattern ≤ 64
-    go true e = leb-true (length pattern) 64 e
-    go false e = absurd (true-yes false e)
+good-cut n pattern h =
+    by-test (leb (length pattern) 64)
+    (λ t. ap goodPattern (take-all n pattern (omega (arith, leb→le (length pattern) 64 t))))
+    (λ t. let l : 64 < length pattern = nleb→lt (length pattern) 64 t in pattern-bad (take n pattern) (inr (rw length-take (omega arith))) ∙ sym (pattern-bad pattern (inr l)))
 
 -- ---- the first bytes decide: 64 + 1 + 16,384 + 1
 
@@ -89,7 +76,7 @@ first-bytes-at n input h = by-good (goodPattern (givenPattern input)) refl
 
     both-4 : goodPattern (givenPattern input) ≡ true → n < length input → reportOf input ≡ reportOf (take n input)
     both-4 g l =
-        let s = good-short (givenPattern input) g in
+        let s = pattern-most (givenPattern input) (true-yes _ g) in
         report-4 input g (omega (arith, given-whole input (omega arith))) ∙ sym (report-4 (take n input) (good ∙ g) (long s l))
 
     by-good : (g : Bool) → goodPattern (givenPattern input) ≡ g → reportOf input ≡ reportOf (take n input)

@@ -27,7 +27,7 @@ use Rattle.ground.specs.Laws.Refusals.{Accepted}
 use Rattle.buffer.specs.Laws.Characters.{InTable}
 use Rattle.roll.specs.Laws.Accepting.{Packs, packs-accepted, accepted-packs, Unpacks, unpacks-accepted}
 use Rattle.buffer.specs.Laws.Sound.{text-length}
-use Rattle.buffer.specs.Laws.Holding.{widthOf, Holds, holds-sound, holds-text, sound-known, sound-record, sound-symbols, sound-bytes, sound-holds}
+use Rattle.buffer.specs.Laws.Holding.{widthOf, Holds, holds-sound, holds-text, sound-known, sound-record, sound-h, sound-symbols, sound-bytes, sound-holds}
 use Rattle.buffer.specs.declared.roll.Roll.{Roll}
 use Rattle.roll.specs.declared.pack.Packed.{Packed}
 
@@ -81,7 +81,7 @@ module _ (r : Roll) (buf : List ℕ) (long : length (r .table .places) ≡ 256) 
             (record {
               good = s .table;
               known = sound-known r buf long s;
-              fits = rw (ap (λ (x : Roll). x .h) is) h;
+              fits = rw (sound-h r buf long s) h;
             });
       }
 
@@ -90,7 +90,7 @@ module _ (r : Roll) (buf : List ℕ) (long : length (r .table .places) ≡ 256) 
   pack-again s =
       ap₂ (λ (a : List ℕ) (h : ℕ). a ++ drop (bytesFor (widthOf r) h) buf)
       (sound-bytes r buf long s bytes)
-      (ap (λ (x : Roll). x .h) (sound-record r buf long s))
+      (sound-h r buf long s)
       ∙ take-append-drop (bytesFor (widthOf r) (r .h)) buf
 
   -- ---- sound: it holds some text, which is the only one (`holds-one`)

@@ -1,7 +1,7 @@
 -- The promises, row by row: a law for each refusal and one for acceptance.
 -- Assumes nothing.
 use mathlib.Core.Path.{_≡_, refl, sym, ap, _∙_, ap₂}
-use mathlib.Core.Logic.{_≢_, _⊎_, inl, inr}
+use mathlib.Core.Logic.{_≢_}
 use mathlib.Core.Bool.{true, false, _||_, not}
 use mathlib.Core.List.{List, [], _∷_, _++_}
 use Prim.Native.Nat.{ℕ, _-_, _≤_, _<_, _*_, _^_, _/_}
@@ -229,16 +229,6 @@ module _ (r : Roll) (buf dir : List ℕ) (place : ℕ) where
             read-yes e = record { says = rw (g, le-ltb _ _ h, lt-leb _ _ k, lt-leb _ _ l, lt-leb _ _ m, e) }
 
 -- ---- search
-
-module _ (pattern : List ℕ) where
-  pub pattern-bad : (length pattern < 1) ⊎ (64 < length pattern) → goodPattern pattern ≡ false
-  unfolding goodPattern
-  pattern-bad (inl h) = rw (lt-leb 1 (length pattern) h)
-  pattern-bad (inr h) = rw (le-leb 1 (length pattern) (omega arith), lt-leb (length pattern) 64 h)
-
-  pub pattern-good : 1 ≤ length pattern → length pattern ≤ 64 → goodPattern pattern ≡ true
-  unfolding goodPattern
-  pattern-good h k = rw (le-leb 1 (length pattern) h, le-leb (length pattern) 64 k)
 
 module _ (r : Roll) (buf pattern slice : List ℕ) where
   -- the row after check's, and what an accepted call answers and leaves

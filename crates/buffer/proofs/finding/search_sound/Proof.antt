@@ -6,14 +6,14 @@ use mathlib.Core.List.{List}
 use Prim.Native.Nat.{ℕ, _≤_}
 use native.Mathlib.Omega.{arith}
 use borrow.Author.Needs.{needs}
-use mir.Facts.{and-yes}
-use lib.Dec.{T, leb, leb→le}
+use lib.Dec.{T}
 use lib.ListN.{length, take, length-take}
 use Rattle.stopper.specs.Table.{goodCode, characters}
 use Rattle.stopper.specs.Laws.Table.{table-code, table-few}
 use Rattle.buffer.specs.Roll.{firstForeign, textOf}
-use Rattle.buffer.specs.Hits.{hits, goodPattern, listed}
+use Rattle.buffer.specs.Hits.{hits, listed}
 use Rattle.buffer.specs.Finding.{wordHits}
+use Rattle.buffer.specs.Laws.Patterns.{pattern-most}
 use Rattle.buffer.specs.Laws.Finding.{pattern-known, none-foreign, some-known, word-hits, no-hits, listed-none}
 use Rattle.buffer.proofs.finding.search_sound.Statement.{statement}
 use Rattle.buffer.proofs.finding.search_sound.Tie as tie
@@ -25,8 +25,7 @@ code : (s : tie.Start) → T (goodCode (s .args .roll .table .code))
 code s = table-code (s .args .roll .table) (s .pre .0 .table)
 
 few : (s : tie.Start) → length (s .args .pattern .now) ≤ 64
-unfolding goodPattern
-few s = let n = length (s .args .pattern .now) in leb→le _ _ (and-yes (leb 1 n) (leb n 64) (s .pre .1) .1)
+few s = pattern-most (s .args .pattern .now) (s .pre .1)
 
 abbrev begun : tie.After-spell-pattern → tie.Start
 begun p = p .before .before .before .before .before .before .before .before

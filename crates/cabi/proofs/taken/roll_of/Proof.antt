@@ -1,8 +1,5 @@
 -- `cabi::taken::roll_of` meets its contract.
 -- Assumes nothing.
-use mathlib.Core.Path.{ap}
-use Rattle.stopper.specs.declared.table.Table.{Table}
-use Rattle.buffer.specs.declared.roll.Roll.{Roll}
 use borrow.Author.Needs.{needs}
 use Rattle.cabi.proofs.taken.roll_of.Statement.{statement}
 use Rattle.cabi.proofs.taken.roll_of.Tie as tie
@@ -11,9 +8,7 @@ table-of-requires : tie.Need-table-of-requires
 table-of-requires c κs = search needs
 
 returns : tie.Need-returns
-returns c =
-    let a = c .before .args in
-    ap {B = Roll} (λ (t : Table). record { table = t; n = a .n; h = a .h }) (c .table-of .ensures)
+returns c = rw (c .table-of .ensures)
 
 pub roll-of-spec : {M : Type 1} → statement M
 roll-of-spec = tie.close (tie.spec table-of-requires returns)

@@ -11,7 +11,7 @@ use lib.ListN.{length, take, drop, length-drop}
 use lib.Seq.{length-take-le, take-length}
 use Rattle.ground.specs.Laws.Tests.{true-yes}
 use Rattle.buffer.specs.Hits.{goodPattern}
-use Rattle.roll.specs.Laws.Operations.{pattern-bad, pattern-good}
+use Rattle.buffer.specs.Laws.Patterns.{pattern-bad, pattern-good}
 use Rattle.report.specs.Report.{givenPattern, givenText, reportOf, startOfText, answerFor}
 use Rattle.report.specs.Laws.Split.{pattern-take, text-drop}
 use Rattle.report.specs.Laws.Answer.{report-11, report-4, report-answer}
