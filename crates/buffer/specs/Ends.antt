@@ -31,15 +31,15 @@ endOf st (suc n) i (y ∷ ys) =
 abbrev pub symbolsFrom : Code → List ℕ → ℕ → List ℕ
 symbolsFrom c buf p = drop p (symbolsOf (c .k) buf)
 
+-- the symbol behind the n-th codeword from there
+unfoldable pub endFrom : Code → List ℕ → ℕ → ℕ → ℕ
+endFrom c buf p n = p + endOf (stoppers c) n 0 (symbolsFrom c buf p)
+
 -- n codewords end behind symbol p of a buffer, which is where one starts
 pub record Ending (c : Code) (buf : List ℕ) (p n : ℕ) : Type 0 where
   pub good : T (goodCode c)
   pub enough : n ≤ stops (stoppers c) 0 (symbolsFrom c buf p)
-  pub counts : p + endOf (stoppers c) n 0 (symbolsFrom c buf p) < 2 ^ 64
-
--- the symbol behind the n-th of them
-unfoldable pub endFrom : Code → List ℕ → ℕ → ℕ → ℕ
-endFrom c buf p n = p + endOf (stoppers c) n 0 (symbolsFrom c buf p)
+  pub counts : endFrom c buf p n < 2 ^ 64
 
 -- how many codewords end in a byte, for each byte value
 unfoldable pub stopsByByte : Code → List ℕ

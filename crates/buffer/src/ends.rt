@@ -28,6 +28,7 @@ pub fn end_at(code: Code, buf: &[u8], p: usize) -> usize
     q + 1
 }
 
+// How many codewords end in a byte.
 fn stops_in(code: Code, b: u8) -> u8
     requires { ⌜ T (goodCode code) ⌝ }
     ensures { λ r. ⌜ r ≡ stops (stoppers code) 0 (symbolsOf (code .k) (b ∷ [])) ⌝ }

@@ -1,8 +1,8 @@
 // A range of a sound roll's text.
+use crate::ends::pass_ends;
+use crate::ends::stops_by_byte;
 use crate::reading::Found;
-use crate::reading::Passed;
 use crate::reading::codeword_at;
-use crate::reading::pass_over;
 use crate::roll::Roll;
 ghost use mathlib.Core.Path.{_≡_};
 ghost use mathlib.Core.List.{_++_};
@@ -21,10 +21,8 @@ pub fn unpack_sound(roll: Roll, buf: &[u8], start: usize, end: usize, out: &mut 
     let sigma = table.sigma as u32;
     let places = table.places;
     let h = roll.h as usize;
-    let passed = pass_over(code, sigma, buf, h, 0, start);
-    let Passed::At(first) = passed else {
-        return;
-    };
+    let stops = stops_by_byte(code);
+    let first = pass_ends(code, &stops, buf, 0, start);
     let mut p = first;
     let mut i: usize = 0;
     while i < end - start {

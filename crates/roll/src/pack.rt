@@ -1,6 +1,5 @@
 // Packing a text under a table.
 use buffer::roll::Roll;
-use buffer::words::Fit;
 use buffer::words::first_foreign;
 use buffer::words::fitting;
 use buffer::words::spell_all;

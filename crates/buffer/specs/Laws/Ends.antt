@@ -140,7 +140,6 @@ module _ (r : Roll) (buf : List ℕ) (s : Sound r buf) where
       ∙ sym (rw (take-add j n rs, write-append, length-append))
 
   pub sound-ending : (j n : ℕ) → j + n ≤ r .n → Ending (r .table .code) buf (startOf (r .table .code) (ranks r buf) j) n
-  unfolding endFrom
   sound-ending j n h =
       record {
         good = table-code (r .table) (s .table);
@@ -148,7 +147,10 @@ module _ (r : Roll) (buf : List ℕ) (s : Sound r buf) where
         counts = omega (arith, sound-ends j n h, sound-start r buf s (j + n), sound-reads r buf s 0 zero-le .small);
       }
 
-  -- codeword after codeword, from the first on
+  -- from the first codeword on
+  pub sound-first : (n : ℕ) → n ≤ r .n → Ending (r .table .code) buf 0 n
+  sound-first n h = rw (start-first (r .table .code) (ranks r buf)) at (sound-ending 0 n (omega arith))
+
   pub sound-end : (i : ℕ) → i ≤ r .n → endFrom (r .table .code) buf 0 i ≡ startOf (r .table .code) (ranks r buf) i
   sound-end i h =
       let c = r .table .code in

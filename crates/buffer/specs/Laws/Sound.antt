@@ -5,7 +5,7 @@ use mathlib.Core.Logic.{_≢_}
 use mathlib.Core.Bool.{true, false}
 use mathlib.Core.List.{List, _∷_}
 use Prim.Native.Nat.{ℕ, suc, _+_, _-_, _≤_, _<_}
-use native.Mathlib.Nat.{sub-self, zero-add}
+use native.Mathlib.Nat.{sub-self}
 use native.Mathlib.Numerals.{add-one}
 use native.Mathlib.Omega.{arith}
 use borrow.Author.Tests.{eq-eqb, ne-eqb}
@@ -24,12 +24,11 @@ use Rattle.symbols.specs.Symbols.{room, symbolsOf}
 use Rattle.symbols.specs.Laws.Sizes.{room-limit}
 use Rattle.symbols.specs.Laws.Rows.{symbols-below, room-row}
 use Rattle.buffer.specs.Roll.{rowUpto, reading, ranksRead, textOf, allZero, Sound}
-use Rattle.buffer.specs.Codewords.{Reads, foundAt, passedFrom}
+use Rattle.buffer.specs.Codewords.{Reads, foundAt}
 use Rattle.buffer.specs.Laws.Reading.{whole-is}
-use Rattle.buffer.specs.Laws.Codewords.{startOf, found-rank, passed-ranks, start-first, start-upto}
+use Rattle.buffer.specs.Laws.Codewords.{startOf, found-rank, start-upto}
 use Rattle.buffer.specs.declared.roll.Roll.{Roll}
 use Rattle.buffer.specs.declared.reading.Found.the-variants.{Word}
-use Rattle.buffer.specs.declared.reading.Passed.the-variants.{At}
 
 -- ---- a run that is all 0, from its first symbol on
 
@@ -106,12 +105,6 @@ module _ (r : Roll) (buf : List ℕ) (s : Sound r buf) where
       → foundAt (r .table .code) (r .table .sigma) (row r buf) (startOf (r .table .code) (ranks r buf) j)
       ≡ Word (getD (ranks r buf) j 0) (startOf (r .table .code) (ranks r buf) (suc j))
   sound-found j h = rw sound-row (found-rank (r .table .code) (table-code (r .table) (s .table)) (r .table .sigma) sound-below j (omega (arith, s .count)))
-
-  pub sound-passed : (j : ℕ) → j ≤ r .n
-      → passedFrom (r .table .code) (r .table .sigma) (row r buf) 0 j ≡ At (startOf (r .table .code) (ranks r buf) j)
-  sound-passed j h =
-      rw (sound-row, ← start-first (r .table .code) (ranks r buf))
-      (passed-ranks (r .table .code) (table-code (r .table) (s .table)) (r .table .sigma) sound-below j 0 (omega (arith, s .count)) ∙ rw zero-add)
 
   pub sound-start : (j : ℕ) → startOf (r .table .code) (ranks r buf) j ≤ r .h
   sound-start j = omega (arith, start-upto (r .table .code) (ranks r buf) j, ap length sound-row, sound-length)

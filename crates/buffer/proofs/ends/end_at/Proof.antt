@@ -76,6 +76,7 @@ next-place-requires : tie.Need-next-place-requires Inv-loop μ-loop
 next-place-requires c κs = search needs
 
 add-q : tie.Need-add-q Inv-loop μ-loop
+unfolding endFrom
 add-q c = let l = c .before .before .before .before in omega (arith, on (c .before) .1, l .loop .inv .3, entered l .pre .counts)
 
 loop-less : tie.Need-loop-less Inv-loop μ-loop
@@ -88,6 +89,7 @@ loop-again c =
     (suc i, c .next-place .ensures ∙ ap nearer (l .loop .inv .1) ∙ near-next i, on (c .before) .0, omega (arith, on (c .before) .1, l .loop .inv .3))
 
 add-result : tie.Need-add-result Inv-loop μ-loop
+unfolding endFrom
 add-result c = let l = c .before .before .before in omega (arith, here c, l .loop .inv .3, entered l .pre .counts)
 
 returns : tie.Need-returns Inv-loop μ-loop

@@ -11,15 +11,15 @@ use borrow.Author.Needs.{needs}
 use lib.ListN.{length, take, drop, getD, set, length-map, length-drop}
 use lib.Seq.{getD-drop}
 use Rattle.ground.specs.Laws.Rows.{map-at, below-at}
-use Rattle.stopper.specs.Laws.Table.{table-few}
+use Rattle.stopper.specs.Laws.Table.{table-code, table-few}
 use Rattle.stopper.specs.declared.code.Code.{Code}
 use Rattle.symbols.specs.Laws.Runs.{front-length, front-more}
 use Rattle.buffer.specs.Roll.{rowUpto, readRow, reading, ranksRead, textOf}
 use Rattle.buffer.specs.Codewords.{foundAt}
 use Rattle.buffer.specs.Laws.Codewords.{startOf}
-use Rattle.buffer.specs.Laws.Sound.{sound-reads, sound-below, sound-found, sound-passed, sound-start}
+use Rattle.buffer.specs.Laws.Sound.{sound-reads, sound-below, sound-found, sound-start}
+use Rattle.buffer.specs.Laws.Ends.{sound-end, sound-first}
 use Rattle.buffer.specs.declared.reading.Found.the-variants.{Word, Bad as none-found}
-use Rattle.buffer.specs.declared.reading.Passed.the-variants.{At}
 use Rattle.buffer.proofs.range.unpack_sound.Statement.{statement}
 use Rattle.buffer.proofs.range.unpack_sound.Tie as tie
 
@@ -44,7 +44,7 @@ abbrev begun : tie.After-struct-known2 Inv-loop μ-loop → tie.Start Inv-loop �
 begun c = c .before .before .before .before .before .before .before
 
 abbrev entered : tie.At-loop Inv-loop μ-loop → tie.Start Inv-loop μ-loop
-entered c = begun (c .before .before .before .before .before)
+entered c = begun (c .before .before .before .before)
 
 abbrev rs : tie.Start Inv-loop μ-loop → List ℕ
 rs s = ranks (s .args .roll .table .code) (s .args .roll .table .sigma) (s .args .buf .now) (s .args .roll .h)
@@ -59,11 +59,13 @@ many s = s .pre .0 .count
 long : (s : tie.Start Inv-loop μ-loop) → length (text s) ≡ s .args .roll .n - s .args .start
 long s = length-drop (s .args .start) _ ∙ rw (length-map, many s)
 
-passed-is : (c : tie.After-pass-over Inv-loop μ-loop) → let s = begun (c .before) in c .pass-over .result ≡ At (startOf (s .args .roll .table .code) (rs s) (s .args .start))
+-- where character `start` starts
+first-is : (c : tie.After-pass-ends Inv-loop μ-loop) → let s = begun (c .before .before .before) in
+    c .pass-ends .result ≡ startOf (s .args .roll .table .code) (rs s) (s .args .start)
 unfolding reading
-passed-is c =
-    let s = begun (c .before) in
-    c .pass-over .ensures ∙ sound-passed (s .args .roll) (s .args .buf .now) (s .pre .0) (s .args .start) (omega (arith, s .pre .1, s .pre .2))
+first-is c =
+    let s = begun (c .before .before .before) in
+    c .pass-ends .ensures ∙ sound-end (s .args .roll) (s .args .buf .now) (s .pre .0) (s .args .start) (omega (arith, s .pre .1, s .pre .2))
 
 -- the codeword of character start + i
 inside : (c : tie.In-loop Inv-loop μ-loop) → let s = entered (c .before) in s .args .start + c .before .loop .i < s .args .roll .n
@@ -116,24 +118,19 @@ cast-sigma c = search needs
 cast-h : tie.Need-cast-h Inv-loop μ-loop
 cast-h c = search needs
 
-pass-over-requires : tie.Need-pass-over-requires Inv-loop μ-loop
-pass-over-requires c κs = let s = begun c in sound-reads (s .args .roll) (s .args .buf .now) (s .pre .0) 0 (omega arith)
+stops-by-byte-requires : tie.Need-stops-by-byte-requires Inv-loop μ-loop
+stops-by-byte-requires c κs = let s = begun c in table-code (s .args .roll .table) (s .pre .0 .table)
 
-enum-known-passed : tie.Need-enum-known-passed Inv-loop μ-loop
-enum-known-passed c = search needs
+slice-aggregate-pass-ends : tie.Need-slice-aggregate-pass-ends Inv-loop μ-loop
+slice-aggregate-pass-ends c = search needs
 
-enum-told : tie.Need-enum-told Inv-loop μ-loop
-enum-told c = search needs
-
-returns : tie.Need-returns Inv-loop μ-loop
-returns c =
-    let z : _≡_ {A = ℕ} 0 1 = cc (c .enum-told .given .1, passed-is (c .before .before)) in
-    absurd (omega arith)
+pass-ends-requires : tie.Need-pass-ends-requires Inv-loop μ-loop
+pass-ends-requires c κs =
+    let s = begun (c .before .before) in
+    (sound-first (s .args .roll) (s .args .buf .now) (s .pre .0) (s .args .start) (omega (arith, s .pre .1, s .pre .2)), c .before .stops-by-byte .ensures)
 
 loop-holds : tie.Need-loop-holds Inv-loop μ-loop
-loop-holds c =
-    let e = sym (c .before .passed .given .1) ∙ passed-is (c .before .before .before) in
-    (omega arith, rw add-zero (cc), refl)
+loop-holds c = (omega arith, rw add-zero (first-is c), refl)
 
 sub-loop : tie.Need-sub-loop Inv-loop μ-loop
 sub-loop c = entered c .pre .1
@@ -149,15 +146,15 @@ codeword-at-requires c κs =
 enum-known-found : tie.Need-enum-known-found Inv-loop μ-loop
 enum-known-found c = search needs
 
-enum-told-2 : tie.Need-enum-told-2 Inv-loop μ-loop
-enum-told-2 c = search needs
+enum-told : tie.Need-enum-told Inv-loop μ-loop
+enum-told c = search needs
 
 same-length : tie.Need-same-length Inv-loop μ-loop
 same-length c = same (c .before .before .before .before)
 
-returns-2 : tie.Need-returns-2 Inv-loop μ-loop
-returns-2 c =
-    let z : _≡_ {A = ℕ} 0 1 = cc (c .enum-told2 .given .1, found-is (c .before .before)) in
+returns : tie.Need-returns Inv-loop μ-loop
+returns c =
+    let z : _≡_ {A = ℕ} 0 1 = cc (c .enum-told .given .1, found-is (c .before .before)) in
     absurd (omega arith)
 
 cast-out : tie.Need-cast-out Inv-loop μ-loop
@@ -193,9 +190,9 @@ loop-again c =
 same-length-2 : tie.Need-same-length-2 Inv-loop μ-loop
 same-length-2 c = same (c .before)
 
-returns-3 : tie.Need-returns-3 Inv-loop μ-loop
+returns-2 : tie.Need-returns-2 Inv-loop μ-loop
 unfolding textOf reading
-returns-3 c =
+returns-2 c =
     let l = c .before in
     let s = entered l in
     let e : l .loop .i ≡ s .args .end - s .args .start = omega (arith, l .loop .inv .0, c .loop-test .left) in
@@ -209,17 +206,16 @@ unpack-sound-spec =
     μ-loop
     cast-sigma
     cast-h
-    pass-over-requires
-    enum-known-passed
-    enum-told
-    returns
+    stops-by-byte-requires
+    slice-aggregate-pass-ends
+    pass-ends-requires
     loop-holds
     sub-loop
     codeword-at-requires
     enum-known-found
-    enum-told-2
+    enum-told
     same-length
-    returns-2
+    returns
     cast-out
     array-read-out
     slice-write-out
@@ -227,4 +223,4 @@ unpack-sound-spec =
     loop-less
     loop-again
     same-length-2
-    returns-3)
+    returns-2)
