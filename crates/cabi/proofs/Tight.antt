@@ -7,8 +7,8 @@ use Prim.Native.Nat.{ℕ}
 use contract.Lifetimes.{Lfts}
 use borrow.Fn.Kinds.{Dens, resT, endedOf}
 use denote.Triple.Clauses.{AtExit}
-use Rattle.ground.specs.Refusals.{Row}
-use Rattle.cabi.specs.Taken.{Told}
+use Rattle.ground.specs.Paper.Refusals.{Row}
+use Rattle.cabi.specs.Paper.Taken.{Told}
 use Rattle.cabi.proofs.monterculo_count.Kinds as count-kinds
 use Rattle.cabi.proofs.monterculo_count.Reads as count-reads
 use Rattle.cabi.proofs.monterculo_choose.Kinds as choose-kinds

@@ -1,3 +1,3 @@
--- What the exported functions answer, in numbers. Laws needs no belief: it is proved.
-pub mod Taken
+-- What the exported functions answer, in numbers.
+pub mod Paper
 pub mod Laws

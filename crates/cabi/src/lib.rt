@@ -3,6 +3,7 @@
 // Each function takes its arguments apart and calls the operation. It answers the refusal's number, 0 for accepted work; `value` takes the
 // refusal's value, or the number that is answered. What else is lent changes only if the work is accepted. A table is k, s, sigma and a
 // pointer to 256 places; a roll is a table with n and h.
+
 mod taken;
 
 use ground::answers::Done;
@@ -16,18 +17,20 @@ ghost use mathlib.Core.Path.{_≡_};
 ghost use mathlib.Core.List.{_++_};
 ghost use Prim.Native.Nat.{_-_};
 ghost use lib.ListN.{length, drop, getD};
-ghost use Rattle.ground.specs.Refusals.{kept};
-ghost use Rattle.ground.specs.Rows.{padded};
-ghost use Rattle.stopper.specs.Choosing.{countsOf, counted, total, chosen, chosenTable};
-ghost use Rattle.stopper.specs.Operations.{countRows, chooseRows, codewordRows, characterRows, characterAt, symbols};
-ghost use Rattle.symbols.specs.Runs.{run};
-ghost use Rattle.buffer.specs.Roll.{textOf, symbolsFor, recordOf, packedInto};
-ghost use Rattle.buffer.specs.Codewords.{oneRank};
-ghost use Rattle.buffer.specs.Directory.{entries, directoryOf, lengthsOf};
-ghost use Rattle.buffer.specs.Hits.{hits, listed};
-ghost use Rattle.buffer.specs.Editing.{edited, bytesAfter, directoryAfter};
-ghost use Rattle.roll.specs.Operations.{checkRows, unpackRows, packRows, makeRows, readRows, oneRead, searchRows, editRows};
-ghost use Rattle.cabi.specs.Taken.{Told, tableAt, rollAt, wordAt};
+ghost use Rattle.ground.specs.Paper.Refusals.{kept};
+ghost use Rattle.ground.specs.Paper.Rows.{padded};
+ghost use Rattle.ground.specs.Paper.Runs.{run};
+ghost use Rattle.stopper.specs.Paper.Choosing.{countsOf, counted, total, chosen, chosenTable};
+ghost use Rattle.stopper.specs.Paper.Operations.{countRows, chooseRows, codewordRows, characterRows, characterAt, symbols};
+ghost use Rattle.texts.specs.Paper.Directory.{entries, directoryOf};
+ghost use Rattle.texts.specs.Paper.Hits.{hits, listed};
+ghost use Rattle.texts.specs.Paper.Edited.{edited};
+ghost use Rattle.sound.specs.Paper.Roll.{textOf, symbolsFor, recordOf};
+ghost use Rattle.sound.specs.Paper.Codewords.{oneRank};
+ghost use Rattle.sound.specs.Paper.Lengths.{lengthsOf};
+ghost use Rattle.store.specs.Paper.Stored.{packedInto, bytesAfter, directoryAfter};
+ghost use Rattle.roll.specs.Paper.Operations.{checkRows, unpackRows, packRows, makeRows, readRows, oneRead, searchRows, editRows};
+ghost use Rattle.cabi.specs.Paper.Taken.{Told, tableAt, rollAt, wordAt};
 
 #[no_mangle]
 pub extern "C" fn monterculo_count(text: &[u8], counts: &mut [u32], value: &mut u64) -> u32

@@ -1,12 +1,12 @@
 // Arguments taken together, and answers taken apart.
-use buffer::roll::Roll;
 use ground::answers::Answer;
 use ground::answers::Done;
+use sound::records::Roll;
 use stopper::code::Code;
 use stopper::table::Table;
 ghost use mathlib.Core.Path.{_≡_};
-ghost use Rattle.ground.specs.Answers.{answerSays};
-ghost use Rattle.cabi.specs.Taken.{numberOf, valueOf, doneNumber, doneValue, tableAt, rollAt};
+ghost use Rattle.ground.specs.Paper.Answers.{answerSays};
+ghost use Rattle.cabi.specs.Paper.Taken.{numberOf, valueOf, doneNumber, doneValue, tableAt, rollAt};
 
 pub fn table_of(k: u8, s: u8, sigma: u16, places: &[u8; 256]) -> Table
     ensures { λ r. ⌜ r ≡ tableAt k s sigma (now (places .entry)) ⌝ }

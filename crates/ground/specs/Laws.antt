@@ -1,6 +1,7 @@
--- The laws, by subject: the limit's two facts, tests decided, refusals and what they keep, answers, rows of numbers.
+-- What is proved of the definitions, by subject: it needs no belief, and crates above may cite it.
 pub mod Limit
 pub mod Tests
 pub mod Refusals
 pub mod Answers
 pub mod Rows
+pub mod Runs

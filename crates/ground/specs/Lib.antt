@@ -1,7 +1,4 @@
--- What every crate stands on: the limit, the refusals in their order, what an answer says, and rows of numbers.
--- Laws needs no belief: it is proved, and crates above may cite it.
-pub mod Limit
-pub mod Refusals
-pub mod Answers
-pub mod Rows
+-- What every crate stands on: the limit, the refusals in their order, what an answer says, rows of numbers and their runs.
+pub mod Paper
+pub mod Helpers
 pub mod Laws

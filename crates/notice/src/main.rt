@@ -1,6 +1,6 @@
 // The program: standard input to the report to standard output, and nothing else.
 // The answer on any input is the answer on its first 16,450 bytes (the law first-bytes of the crate report), so no more are read.
-use report::report::report;
+use report::program::report;
 
 fn main() {
     let mut input = [0u8; 16450];

@@ -4,8 +4,8 @@ use mathlib.Core.Path.{_≡_, _∙_, sym}
 use contract.Lifetimes.{Lfts}
 use borrow.Fn.Kinds.{Dens, resT, endedOf}
 use denote.Triple.Clauses.{AtExit}
-use Rattle.report.proofs.report.report.Kinds as report-kinds
-use Rattle.report.proofs.report.report.Reads as report-reads
+use Rattle.report.proofs.program.report.Kinds as report-kinds
+use Rattle.report.proofs.program.report.Reads as report-reads
 
 -- the second parameter, the array, is lent
 pub report-tight : (κs : Lfts 2) (a : Dens κs report-kinds.ps) (r₁ r₂ : resT report-kinds.r κs .Denot) (s₁ s₂ : AtExit (endedOf 2 report-kinds.ps report-kinds.r) κs)

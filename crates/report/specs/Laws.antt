@@ -1,6 +1,6 @@
--- The laws: the input at its first byte 10 and cut to its first bytes, the answer row by row, what is written and how long it is.
+-- What is proved of the definitions, by subject: it needs no belief, and crates above may cite it.
 pub mod Split
 pub mod Given
 pub mod Answer
-pub mod Written
 pub mod Answering
+pub mod Written

@@ -1,5 +1,4 @@
--- What the program answers. Report is what a buyer must believe, line by line beside the paper's "The program"; Worked has the paper's
--- example, computed. Laws needs no belief: it is proved.
-pub mod Report
-pub mod Worked
+-- What the program answers, line by line beside the paper's part on the program.
+pub mod Paper
+pub mod Helpers
 pub mod Laws

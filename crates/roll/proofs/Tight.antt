@@ -7,8 +7,9 @@ use borrow.Fn.Kinds.{Dens, resT, endedOf}
 use denote.Triple.Clauses.{AtExit}
 use Rattle.ground.specs.Laws.Answers.{done-one, answer-one, total-one}
 use Rattle.ground.specs.declared.answers.Done.{Done}
-use Rattle.buffer.specs.declared.roll.Roll.{Roll}
+use Rattle.sound.specs.declared.records.Roll.{Roll}
 use Rattle.roll.specs.declared.pack.Packed.{Packed}
+use Rattle.roll.specs.declared.edit.Edited.{Edited}
 use Rattle.roll.proofs.pack.pack.Kinds as pack-kinds
 use Rattle.roll.proofs.pack.pack.Reads as pack-reads
 use Rattle.roll.proofs.check.check.Kinds as check-kinds
@@ -19,7 +20,6 @@ use Rattle.roll.proofs.make_directory.make_directory.Kinds as make-dire
 use Rattle.roll.proofs.make_directory.make_directory.Reads as make-directory-reads
 use Rattle.roll.proofs.read_one.read_one.Kinds as read-one-kinds
 use Rattle.roll.proofs.read_one.read_one.Reads as read-one-reads
-use Rattle.roll.specs.declared.edit.Edited.{Edited}
 use Rattle.roll.proofs.edit.edit.Kinds as edit-kinds
 use Rattle.roll.proofs.edit.edit.Reads as edit-reads
 use Rattle.roll.proofs.search.search.Kinds as search-kinds

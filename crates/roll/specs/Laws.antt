@@ -1,5 +1,4 @@
--- The laws of the operations: what is accepted, what packing, checking and unpacking mean together, what counting and choosing mean for
--- packing, what a directory that is made means for reading one; and a law for each refusal, which this crate's functions cite.
+-- What is proved of the definitions, by subject: it needs no belief, and crates above may cite it.
 pub mod Accepting
 pub mod Meaning
 pub mod Counted

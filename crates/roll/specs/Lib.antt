@@ -1,5 +1,4 @@
--- The packed roll, as the paper says it: Operations (refusals and promises), Worked (the paper's cases, computed). What they speak of is
--- in the specs of the crate buffer. Laws needs no belief: it is proved, and crates above may cite it.
-pub mod Operations
-pub mod Worked
+-- The packed roll: the refusals of each operation and its promise.
+pub mod Paper
+pub mod Helpers
 pub mod Laws

@@ -1,22 +1,23 @@
 // Editing a roll in place: any run of characters replaced by any text of the table that fits.
 use crate::check::check;
-use buffer::directory::entries_for;
-use buffer::directory::first_wrong;
-use buffer::directory::start_of;
-use buffer::replace::Run;
-use buffer::replace::first_over;
-use buffer::replace::replace;
-use buffer::roll::Roll;
-use buffer::words::first_foreign;
-use buffer::words::fitting;
-use buffer::words::spell_all;
 use ground::answers::Done;
+use sound::lookup::first_wrong;
+use sound::lookup::start_of;
+use sound::records::Roll;
+use store::replace::Run;
+use store::replace::first_over;
+use store::replace::replace;
+use store::words::first_foreign;
+use store::words::fitting;
+use store::words::spell_all;
 use symbols::size::room_of;
+use texts::entries::entries_for;
 ghost use mathlib.Core.Path.{_≡_};
 ghost use Prim.Native.Nat.{_≤_};
-ghost use Rattle.buffer.specs.Directory.{Right};
-ghost use Rattle.buffer.specs.Roll.{Sound};
-ghost use Rattle.roll.specs.Operations.{DirectoryChecked, Editing, refusedEdit};
+ghost use Rattle.sound.specs.Paper.Lengths.{Right};
+ghost use Rattle.sound.specs.Paper.Roll.{Sound};
+ghost use Rattle.roll.specs.Paper.Operations.{DirectoryChecked, Editing};
+ghost use Rattle.roll.specs.Helpers.Refused.{refusedEdit};
 
 pub struct Edited {
     pub answer: Done,

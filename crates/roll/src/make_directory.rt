@@ -1,10 +1,10 @@
 // Making a directory.
 use crate::check::check;
-use buffer::directory::entries_for;
-use buffer::directory::make_sound;
-use buffer::roll::Roll;
 use ground::answers::Done;
-ghost use Rattle.roll.specs.Operations.{Making};
+use sound::records::Roll;
+use store::mending::make_sound;
+use texts::entries::entries_for;
+ghost use Rattle.roll.specs.Paper.Operations.{Making};
 
 pub fn make_directory(roll: Roll, buf: &[u8], dir: &mut [u32]) -> Done
     ensures { λ r. ⌜ Making roll (now (buf .entry)) (now (dir .entry)) r (now (dir .exit)) ⌝ }

@@ -1,17 +1,18 @@
 // Packing a text under a table.
-use buffer::roll::Roll;
-use buffer::words::first_foreign;
-use buffer::words::fitting;
-use buffer::words::spell_all;
-use buffer::words::write_text;
 use ground::answers::Done;
+use sound::records::Roll;
 use stopper::table::Table;
 use stopper::table::good_table;
+use store::words::first_foreign;
+use store::words::fitting;
+use store::words::spell_all;
+use store::words::write_text;
 use symbols::run::clear;
 use symbols::size::room_of;
 use symbols::size::unused;
 ghost use mathlib.Core.Path.{_≡_};
-ghost use Rattle.roll.specs.Operations.{Packing, refusedPack};
+ghost use Rattle.roll.specs.Paper.Operations.{Packing};
+ghost use Rattle.roll.specs.Helpers.Refused.{refusedPack};
 
 pub struct Packed {
     pub answer: Done,

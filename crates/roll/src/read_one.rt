@@ -1,13 +1,13 @@
 // Reading one character.
-use buffer::reading::Found;
-use buffer::reading::Passed;
-use buffer::reading::codeword_at;
-use buffer::reading::pass_over;
-use buffer::roll::Roll;
 use ground::answers::Answer;
+use sound::reading::Found;
+use sound::reading::Passed;
+use sound::reading::codeword_at;
+use sound::reading::pass_over;
+use sound::records::Roll;
 use stopper::table::good_table;
 use symbols::size::room_of;
-ghost use Rattle.roll.specs.Operations.{ReadingOne};
+ghost use Rattle.roll.specs.Paper.Operations.{ReadingOne};
 
 // It does not check the whole roll: it goes by the entry for place div 32, and judges the codewords from there on.
 pub fn read_one(roll: Roll, buf: &[u8], dir: &[u32], place: usize) -> Answer

@@ -1,10 +1,10 @@
 // Searching a roll for a pattern, where it lies.
 use crate::check::check;
-use buffer::finding::search_sound;
-use buffer::roll::Roll;
+use find::finding::search_sound;
 use ground::answers::Done;
 use ground::answers::Total;
-ghost use Rattle.roll.specs.Operations.{Searching};
+use sound::records::Roll;
+ghost use Rattle.roll.specs.Paper.Operations.{Searching};
 
 pub fn search(roll: Roll, buf: &[u8], pattern: &[u8], slice: &mut [u32]) -> Total
     ensures { λ r. ⌜ Searching roll (now (buf .entry)) (now (pattern .entry)) (now (slice .entry)) r (now (slice .exit)) ⌝ }

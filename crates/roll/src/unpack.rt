@@ -1,9 +1,9 @@
 // Unpacking a range of characters.
 use crate::check::check;
-use buffer::range::unpack_sound;
-use buffer::roll::Roll;
 use ground::answers::Done;
-ghost use Rattle.roll.specs.Operations.{Unpacking};
+use sound::range::unpack_sound;
+use sound::records::Roll;
+ghost use Rattle.roll.specs.Paper.Operations.{Unpacking};
 
 pub fn unpack(roll: Roll, buf: &[u8], start: usize, end: usize, out: &mut [u8]) -> Done
     ensures { λ r. ⌜ Unpacking roll (now (buf .entry)) start end (now (out .entry)) r (now (out .exit)) ⌝ }

@@ -5,12 +5,12 @@ use mathlib.Core.List.{[], _∷_, _++_}
 use Prim.Native.Nat.{ℕ}
 use native.Mathlib.Omega.{arith}
 use lib.ListN.{replicate}
-use Rattle.ground.specs.Refusals.{Outcome, accepted, refused}
-use Rattle.ground.specs.Rows.{zeros, padded}
+use Rattle.ground.specs.Paper.Refusals.{Outcome, accepted, refused}
+use Rattle.ground.specs.Paper.Rows.{zeros, padded}
 use Rattle.ground.specs.declared.answers.Answer.the-variants.{Read}
-use Rattle.stopper.specs.Code.{opens, shorter, rankAt, rankFrom, rankOf, isWord}
-use Rattle.stopper.specs.Table.{stoppers, goodWidth, goodCode, goodCharacters, goodTable, has, repeats, tableOf}
-use Rattle.stopper.specs.Operations.{isOne, codewordFor, Decoding}
+use Rattle.stopper.specs.Paper.Code.{opens, shorter, rankAt, rankFrom, rankOf, isWord}
+use Rattle.stopper.specs.Paper.Table.{stoppers, goodWidth, goodCode, goodCharacters, goodTable, has, repeats, tableOf}
+use Rattle.stopper.specs.Paper.Operations.{isOne, codewordFor, Decoding}
 
 -- a rank worked out in a number that wraps: with k 2 and s 2, thirty times 2, then 3 and the stopper 0 is rank 2 ^ 32, which 32 bits take
 -- for rank 0

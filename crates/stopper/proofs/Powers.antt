@@ -5,7 +5,7 @@ use Prim.Native.Nat.{ℕ, _+_, _-_, _*_, _≤_, _<_}
 use native.Mathlib.Nat.{mul-pos, mul-le-mul, le-mul-of-pos-right}
 use native.Mathlib.Numerals.{add-one}
 use native.Mathlib.Omega.{arith}
-use Rattle.stopper.specs.Code.{Good, opens, shorter, place}
+use Rattle.stopper.specs.Paper.Code.{Good, opens, shorter, place}
 use Rattle.stopper.specs.Laws.Code.{place-is}
 
 pub record At (m : ℕ) (st : ℕ → ℕ) (r s i base rows : ℕ) : Type 0 where

@@ -9,8 +9,9 @@ use native.Mathlib.Numerals.{add-one}
 use lib.Dec.{T}
 use lib.ListN.{length, drop, set}
 use lib.Seq.{drop-cons, drop-set-add}
-use Rattle.stopper.specs.Code.{spell, codeword}
-use Rattle.stopper.specs.Table.{base, stoppers, goodCode, placeOf, wordOf, lengthOf}
+use Rattle.stopper.specs.Paper.Code.{spell, codeword}
+use Rattle.stopper.specs.Paper.Table.{base, stoppers, goodCode, wordOf, lengthOf}
+use Rattle.stopper.specs.Helpers.Answers.{placeOf}
 use Rattle.stopper.specs.Laws.Code.{spell-append}
 use Rattle.stopper.specs.Laws.Table.{length-place}
 use Rattle.stopper.specs.declared.code.Place.{Place}

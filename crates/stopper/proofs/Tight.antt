@@ -2,10 +2,10 @@
 -- states them.
 -- Assumes nothing.
 use mathlib.Core.Path.{_≡_, _∙_, sym, ap, ap₂}
+use Prim.Native.Nat.{ℕ}
 use contract.Lifetimes.{Lfts}
 use borrow.Fn.Kinds.{Dens, resT, endedOf}
 use denote.Triple.Clauses.{AtExit}
-use Prim.Native.Nat.{ℕ}
 use Rattle.ground.specs.Laws.Answers.{done-one, answer-one}
 use Rattle.ground.specs.declared.answers.Done.{Done}
 use Rattle.stopper.specs.declared.table.Table.{Table}

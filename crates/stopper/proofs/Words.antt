@@ -12,10 +12,11 @@ use lib.Arith.{digits-lt}
 use lib.Dec.{T, ltb}
 use lib.ListN.{length, drop, getD}
 use lib.Seq.{drop-cons, drop-length}
-use Rattle.stopper.specs.Code.{opens, rankAt, rankFrom, rankOf, isWord}
-use Rattle.stopper.specs.Table.{base, stoppers, goodCode}
-use Rattle.stopper.specs.State.{opened, stateAt, stepped}
-use Rattle.stopper.specs.Operations.{isOne, rankedAs, ifLast}
+use Rattle.stopper.specs.Paper.Code.{opens, rankAt, rankFrom, rankOf, isWord}
+use Rattle.stopper.specs.Paper.Table.{base, stoppers, goodCode}
+use Rattle.stopper.specs.Paper.Operations.{isOne}
+use Rattle.stopper.specs.Helpers.State.{opened, stateAt, stepped}
+use Rattle.stopper.specs.Helpers.Answers.{rankedAs, ifLast}
 use Rattle.stopper.specs.Laws.Code.{rank-stop, rank-more, word-stop, word-last, word-more, word-big}
 use Rattle.stopper.specs.Laws.Table.{code-good}
 use Rattle.stopper.specs.Laws.State.{Turn, stops, stuck, goes, turn, state-opened}

@@ -12,8 +12,9 @@ ghost use mathlib.Core.Path.{_≡_};
 ghost use Prim.Native.Nat.{_≤_};
 ghost use lib.Dec.{T};
 ghost use lib.ListN.{take};
-ghost use Rattle.stopper.specs.Table.{goodCode};
-ghost use Rattle.stopper.specs.Operations.{Decoding, rankedAs, ifLast};
+ghost use Rattle.stopper.specs.Paper.Table.{goodCode};
+ghost use Rattle.stopper.specs.Paper.Operations.{Decoding};
+ghost use Rattle.stopper.specs.Helpers.Answers.{rankedAs, ifLast};
 
 // The rank of a row of symbols that is one codeword of a rank below sigma.
 pub enum Ranked {

@@ -6,7 +6,8 @@ use crate::ranking::ranking_of;
 use crate::table::Table;
 use ground::answers::Done;
 ghost use mathlib.Core.Path.{_≡_};
-ghost use Rattle.stopper.specs.Operations.{Choosing, refusedChoice};
+ghost use Rattle.stopper.specs.Paper.Operations.{Choosing};
+ghost use Rattle.stopper.specs.Helpers.Answers.{refusedChoice};
 
 // The table, and the symbols that the counted characters take under it.
 pub struct Choice {

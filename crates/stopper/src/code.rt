@@ -2,7 +2,8 @@
 ghost use mathlib.Core.Path.{_≡_};
 ghost use Prim.Native.Nat.{_<_};
 ghost use lib.Dec.{T};
-ghost use Rattle.stopper.specs.Table.{base, stoppers, goodWidth, goodCode, placeOf, lengthOf};
+ghost use Rattle.stopper.specs.Paper.Table.{base, stoppers, goodWidth, goodCode, lengthOf};
+ghost use Rattle.stopper.specs.Helpers.Answers.{placeOf};
 
 pub struct Code {
     pub k: u8,

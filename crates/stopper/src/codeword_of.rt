@@ -5,7 +5,8 @@ use crate::table::rank_of;
 use crate::word::symbols_of;
 use ground::answers::Done;
 ghost use mathlib.Core.Path.{_≡_};
-ghost use Rattle.stopper.specs.Operations.{Coding, refusedWord};
+ghost use Rattle.stopper.specs.Paper.Operations.{Coding};
+ghost use Rattle.stopper.specs.Helpers.Answers.{refusedWord};
 
 // Symbols, one to a byte, 0 past the length.
 pub struct Codeword {

@@ -3,10 +3,10 @@ use ground::answers::Done;
 ghost use mathlib.Core.Path.{_≡_};
 ghost use Prim.Native.Nat.{_≤_};
 ghost use lib.ListN.{length};
-ghost use Rattle.ground.specs.Limit.{limit};
-ghost use Rattle.ground.specs.Rows.{zeros};
-ghost use Rattle.stopper.specs.Choosing.{countsOf};
-ghost use Rattle.stopper.specs.Operations.{Counting};
+ghost use Rattle.ground.specs.Paper.Limit.{limit};
+ghost use Rattle.ground.specs.Paper.Rows.{zeros};
+ghost use Rattle.stopper.specs.Paper.Choosing.{countsOf};
+ghost use Rattle.stopper.specs.Paper.Operations.{Counting};
 
 fn clear(counts: &mut [u32])
     ensures { λ _. ⌜ now (counts .exit) ≡ zeros (length (now (counts .entry))) ⌝ }

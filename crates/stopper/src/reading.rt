@@ -5,8 +5,8 @@ use crate::code::stoppers_at;
 ghost use mathlib.Core.Path.{_≡_};
 ghost use Prim.Native.Nat.{_≤_};
 ghost use lib.Dec.{T};
-ghost use Rattle.stopper.specs.Table.{goodCode};
-ghost use Rattle.stopper.specs.State.{Small, opened, nearer, pastAt, stepped};
+ghost use Rattle.stopper.specs.Paper.Table.{goodCode};
+ghost use Rattle.stopper.specs.Helpers.State.{Small, opened, nearer, pastAt, stepped};
 
 // An open codeword: the place of the next symbol (counted as far as 2, from where all places are alike), the number of shorter
 // codewords, the rows of so many continuers, and the value of those read.

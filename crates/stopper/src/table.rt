@@ -4,7 +4,8 @@ use crate::code::good_code;
 ghost use mathlib.Core.Path.{_≡_};
 ghost use Prim.Native.Nat.{_≤_, _<_};
 ghost use lib.ListN.{take};
-ghost use Rattle.stopper.specs.Table.{goodCharacters, goodTable, rankIn, ranksOf, characters};
+ghost use Rattle.stopper.specs.Paper.Table.{goodCharacters, goodTable, rankIn, characters};
+ghost use Rattle.stopper.specs.Helpers.Answers.{ranksOf};
 
 pub struct Table {
     pub code: Code,

@@ -8,8 +8,8 @@ ghost use mathlib.Core.List.{_++_};
 ghost use Prim.Native.Nat.{_≤_, _<_};
 ghost use lib.Dec.{T};
 ghost use lib.ListN.{length, drop};
-ghost use Rattle.stopper.specs.Code.{spell};
-ghost use Rattle.stopper.specs.Table.{base, stoppers, goodCode, lengthOf, wordOf};
+ghost use Rattle.stopper.specs.Paper.Code.{spell};
+ghost use Rattle.stopper.specs.Paper.Table.{base, stoppers, goodCode, lengthOf, wordOf};
 
 // The continuers of a codeword, the last first: i digits of x.
 fn emit(code: Code, x: u32, i: u32, out: &mut [u8])

@@ -5,9 +5,11 @@ use mathlib.Core.List.{List, [], _∷_}
 use Prim.Native.Nat.{ℕ, _+_, _*_, _-_, _<_}
 use native.Mathlib.Omega.{arith}
 use lib.ListN.{length, set}
-use Rattle.symbols.specs.Symbols.{Width, per, symbolsOf}
-use Rattle.symbols.specs.Runs.{over, run, movedUp, movedDown}
-use Rattle.symbols.specs.Laws.Runs.{set-over, symbols-over}
+use Rattle.ground.specs.Paper.Runs.{over, run}
+use Rattle.ground.specs.Helpers.Moved.{movedUp, movedDown}
+use Rattle.ground.specs.Laws.Runs.{set-over}
+use Rattle.symbols.specs.Paper.Symbols.{Width, per, symbolsOf}
+use Rattle.symbols.specs.Laws.Whole.{symbols-over}
 
 module _ {k : ℕ} (w : Width k) (bs : List ℕ) where
   byte-stored : (j b : ℕ) → j < length bs → symbolsOf k (set bs j b) ≡ over (symbolsOf k bs) (j * per k) (symbolsOf k (b ∷ [])) ((j + 1) * per k)

@@ -10,7 +10,7 @@ use native.Mathlib.Nat.{mod-eq-of-lt, mod-lt, one-mul, mul-assoc, mul-mod-left, 
 use native.Mathlib.Omega.{arith}
 use lib.Pow.{pow-pos, pow-add, shl-exact, shr-lt, split, mod-mod-pow, ones-split, ones-lt, mod-pow-add, shl-shr}
 use lib.Bits.{bitAnd, bitOr, and-mask, and-block, or-block, or-shifted, or-zero-r}
-use Rattle.symbols.specs.Bits.{cutOut, laidIn, joined}
+use Rattle.symbols.specs.Helpers.Bits.{cutOut, laidIn, joined}
 
 pub one-shl : (w k : ℕ) → k < w → (1 * 2 ^ k) % 2 ^ w ≡ 2 ^ k
 one-shl w k h = shl-exact 1 k w (omega arith) (omega arith) ∙ one-mul (2 ^ k)

@@ -1,7 +1,7 @@
--- The laws, by subject: the two widths, sizes, the row of a buffer, packing and its way back, runs, and symbols on their way into bytes.
+-- What is proved of the definitions, by subject: it needs no belief, and crates above may cite it.
 pub mod Width
 pub mod Sizes
 pub mod Rows
 pub mod Packing
-pub mod Runs
 pub mod Gathered
+pub mod Whole

@@ -2,8 +2,8 @@
 -- Assumes nothing.
 use mathlib.Core.Path.{_≡_, refl}
 use mathlib.Core.List.{[], _∷_}
-use Rattle.ground.specs.Rows.{tab}
-use Rattle.symbols.specs.Symbols.{per, bytesFor, shift, symbolAt, symbolsOf, number, byteAt, bytesOf}
+use Rattle.ground.specs.Paper.Rows.{tab}
+use Rattle.symbols.specs.Paper.Symbols.{per, bytesFor, shift, symbolAt, symbolsOf, number, byteAt, bytesOf}
 
 abbrev Worked : Type 0
 Worked =

@@ -1,13 +1,16 @@
-// Runs of symbols cleared or moved: the ends symbol by symbol, what lies between them by whole bytes.
+// Runs of symbols cleared or moved: the ends symbol by symbol, what lies between them by whole bytes; and a run asked whether it is all 0.
 use crate::bits;
 use crate::each;
 use crate::size;
+use crate::symbol::get;
 use crate::whole;
 ghost use mathlib.Core.Path.{_≡_};
 ghost use Prim.Native.Nat.{_+_, _^_, _≤_, _<_};
 ghost use lib.ListN.{length};
-ghost use Rattle.symbols.specs.Symbols.{Width, symbolsOf};
-ghost use Rattle.symbols.specs.Runs.{cleared, movedUp, movedDown};
+ghost use Rattle.ground.specs.Paper.Runs.{run};
+ghost use Rattle.ground.specs.Paper.Rows.{allZero};
+ghost use Rattle.ground.specs.Helpers.Moved.{cleared, movedUp, movedDown};
+ghost use Rattle.symbols.specs.Paper.Symbols.{Width, symbolsOf};
 
 pub fn clear(k: u8, buf: &mut [u8], from: usize, to: usize)
     requires { ⌜ (Width k) × (from ≤ to) × (to ≤ length (symbolsOf k (now buf))) ⌝ }
@@ -57,4 +60,19 @@ pub fn down(k: u8, buf: &mut [u8], from: usize, to: usize, by: usize)
     each::down(k, buf, from, first * per + by, by);
     whole::down(k, buf, first, last, by);
     each::down(k, buf, last * per + by, to, by);
+}
+
+// Whether the symbols from `from` up to `to` are all 0.
+pub fn all_zero(k: u8, buf: &[u8], from: usize, to: usize) -> bool
+    requires { ⌜ (Width k) × (from ≤ to) × (to ≤ length (symbolsOf k (now buf))) ⌝ }
+    ensures { λ r. ⌜ r ≡ allZero (run (symbolsOf k (now (buf .entry))) from to) ⌝ }
+{
+    let mut i = from;
+    while i < to {
+        if get(k, buf, i) != 0 {
+            return false;
+        }
+        i += 1;
+    }
+    true
 }

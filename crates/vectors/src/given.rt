@@ -1,5 +1,5 @@
 // What a case is given: numbers, rows of bytes, tables, rolls.
-use buffer::roll::Roll;
+use sound::records::Roll;
 use stopper::code::Code;
 use stopper::table::Table;
 ghost use Prim.Native.Nat.{_≤_};

@@ -3,10 +3,10 @@
 // Standard input is decimal numbers, with comments from `#` to the end of the line. Each case is the number of an operation
 // and its arguments; 0 ends. A row of bytes is the number of its runs and then, for each, how many, the first byte and the
 // step by which they rise; a table is k, s, sigma and its row of places; a roll is a table, n and h. Rows are printed as runs of equal bytes.
+
 mod given;
 mod printed;
 
-use buffer::roll::Roll;
 use given::bytes;
 use given::number;
 use given::numbers;
@@ -22,6 +22,7 @@ use printed::refused;
 use printed::roll_out;
 use printed::runs;
 use printed::table_out;
+use sound::records::Roll;
 use stopper::codeword_of::Codeword;
 use stopper::table::Table;
 
@@ -248,7 +249,7 @@ fn report_case(s: &[u8], at: usize) -> usize {
 
 fn reported(input: &[u8]) {
     let mut out = [0u8; 147456];
-    let long = report::report::report(input, &mut out);
+    let long = report::program::report(input, &mut out);
     io::write_all(1, &out[..long]);
 }
 

@@ -1,7 +1,7 @@
 // What is printed of an outcome.
-use buffer::roll::Roll;
 use ground::answers::Answer;
 use ground::answers::Done;
+use sound::records::Roll;
 use stopper::table::Table;
 
 pub fn number_out(n: usize) {

@@ -1,19 +1,10 @@
 -- `cabi::monterculo_character_of` meets its contract.
 -- Assumes nothing.
-use Rattle.ground.specs.Answers.{answerSays}
-use Rattle.cabi.specs.Laws.{told-says}
 use borrow.Author.Needs.{needs}
+use Rattle.ground.specs.Paper.Answers.{answerSays}
+use Rattle.cabi.specs.Laws.Taken.{told-says}
 use Rattle.cabi.proofs.monterculo_character_of.Statement.{statement}
 use Rattle.cabi.proofs.monterculo_character_of.Tie as tie
-
-table-of-requires : tie.Need-table-of-requires
-table-of-requires c κs = search needs
-
-character-of-requires : tie.Need-character-of-requires
-character-of-requires c κs = search needs
-
-read-requires : tie.Need-read-requires
-read-requires c κs = search needs
 
 returns : tie.Need-returns
 returns c =
@@ -23,4 +14,4 @@ returns c =
 
 pub monterculo-character-of-spec : {M : Type 1} → statement M
 monterculo-character-of-spec =
-    tie.close (tie.spec table-of-requires character-of-requires read-requires returns)
+    tie.close (tie.spec (λ c κs. search needs) (λ c κs. search needs) (λ c κs. search needs) returns)

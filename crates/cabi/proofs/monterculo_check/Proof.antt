@@ -1,18 +1,9 @@
 -- `cabi::monterculo_check` meets its contract.
 -- Assumes nothing.
-use Rattle.cabi.specs.Laws.{told-done}
 use borrow.Author.Needs.{needs}
+use Rattle.cabi.specs.Laws.Taken.{told-done}
 use Rattle.cabi.proofs.monterculo_check.Statement.{statement}
 use Rattle.cabi.proofs.monterculo_check.Tie as tie
-
-roll-of-requires : tie.Need-roll-of-requires
-roll-of-requires c κs = search needs
-
-check-requires : tie.Need-check-requires
-check-requires c κs = search needs
-
-told-requires : tie.Need-told-requires
-told-requires c κs = search needs
 
 returns : tie.Need-returns
 returns c =
@@ -21,4 +12,4 @@ returns c =
     told-done _ (w .check .result) 0 (p .says) (c .told .ensures .0) (c .told .ensures .1)
 
 pub monterculo-check-spec : {M : Type 1} → statement M
-monterculo-check-spec = tie.close (tie.spec roll-of-requires check-requires told-requires returns)
+monterculo-check-spec = tie.close (tie.spec (λ c κs. search needs) (λ c κs. search needs) (λ c κs. search needs) returns)

@@ -1,27 +1,15 @@
 -- `cabi::monterculo_choose` meets its contract.
 -- Assumes nothing.
 use mathlib.Core.Path.{sym, ap, _∙_}
-use Rattle.ground.specs.Answers.{doneSays}
-use Rattle.ground.specs.Laws.Refusals.{refused-keeps, accepted-leaves}
-use Rattle.stopper.specs.Choosing.{counted, chosenTable}
-use Rattle.stopper.specs.Operations.{chooseRows, noTable}
-use Rattle.stopper.specs.declared.table.Table.{Table}
-use Rattle.cabi.specs.Laws.{told-yes, told-no}
 use borrow.Author.Needs.{needs}
+use Rattle.ground.specs.Paper.Answers.{doneSays}
+use Rattle.ground.specs.Laws.Refusals.{refused-keeps, accepted-leaves}
+use Rattle.stopper.specs.Paper.Choosing.{counted, chosenTable}
+use Rattle.stopper.specs.Paper.Operations.{chooseRows, noTable}
+use Rattle.stopper.specs.declared.table.Table.{Table}
+use Rattle.cabi.specs.Laws.Taken.{told-yes, told-no}
 use Rattle.cabi.proofs.monterculo_choose.Statement.{statement}
 use Rattle.cabi.proofs.monterculo_choose.Tie as tie
-
-choose-requires : tie.Need-choose-requires
-choose-requires c κs = search needs
-
-enum-told : tie.Need-enum-told
-enum-told c = search needs
-
-enum-known-answer : tie.Need-enum-known-answer
-enum-known-answer c = search needs
-
-cast-result : tie.Need-cast-result
-cast-result c = search needs
 
 returns : tie.Need-returns
 returns c =
@@ -58,4 +46,4 @@ returns-2 c =
 
 pub monterculo-choose-spec : {M : Type 1} → statement M
 monterculo-choose-spec =
-    tie.close (tie.spec choose-requires enum-told enum-known-answer cast-result returns returns-2)
+    tie.close (tie.spec (λ c κs. search needs) (λ c. search needs) (λ c. search needs) (λ c. search needs) returns returns-2)

@@ -2,31 +2,16 @@
 -- Assumes nothing.
 use mathlib.Core.Path.{sym, ap, _∙_}
 use mathlib.Core.List.{[]}
-use Rattle.ground.specs.Answers.{doneSays}
-use Rattle.ground.specs.Rows.{padded}
-use Rattle.ground.specs.Laws.Refusals.{refused-keeps, accepted-leaves}
-use Rattle.stopper.specs.Operations.{codewordRows, codewordFor}
-use Rattle.stopper.specs.declared.codeword_of.Codeword.{Codeword}
-use Rattle.cabi.specs.Taken.{tableAt, wordAt}
-use Rattle.cabi.specs.Laws.{told-yes, told-no}
 use borrow.Author.Needs.{needs}
+use Rattle.ground.specs.Paper.Answers.{doneSays}
+use Rattle.ground.specs.Paper.Rows.{padded}
+use Rattle.ground.specs.Laws.Refusals.{refused-keeps, accepted-leaves}
+use Rattle.stopper.specs.Paper.Operations.{codewordRows, codewordFor}
+use Rattle.stopper.specs.declared.codeword_of.Codeword.{Codeword}
+use Rattle.cabi.specs.Paper.Taken.{tableAt, wordAt}
+use Rattle.cabi.specs.Laws.Taken.{told-yes, told-no}
 use Rattle.cabi.proofs.monterculo_codeword_of.Statement.{statement}
 use Rattle.cabi.proofs.monterculo_codeword_of.Tie as tie
-
-table-of-requires : tie.Need-table-of-requires
-table-of-requires c κs = search needs
-
-codeword-of-requires : tie.Need-codeword-of-requires
-codeword-of-requires c κs = search needs
-
-enum-told : tie.Need-enum-told
-enum-told c = search needs
-
-enum-known-answer : tie.Need-enum-known-answer
-enum-known-answer c = search needs
-
-cast-result : tie.Need-cast-result
-cast-result c = search needs
 
 returns : tie.Need-returns
 returns c =
@@ -58,10 +43,10 @@ pub monterculo-codeword-of-spec : {M : Type 1} → statement M
 monterculo-codeword-of-spec =
     tie.close
     (tie.spec
-    table-of-requires
-    codeword-of-requires
-    enum-told
-    enum-known-answer
-    cast-result
+    (λ c κs. search needs)
+    (λ c κs. search needs)
+    (λ c. search needs)
+    (λ c. search needs)
+    (λ c. search needs)
     returns
     returns-2)

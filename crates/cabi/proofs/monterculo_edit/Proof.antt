@@ -2,29 +2,14 @@
 -- Assumes nothing.
 use mathlib.Core.Path.{ap, _∙_}
 use borrow.Author.Needs.{needs}
-use Rattle.buffer.specs.Roll.{recordOf, textOf}
-use Rattle.buffer.specs.Editing.{edited}
-use Rattle.buffer.specs.declared.roll.Roll.{Roll}
-use Rattle.roll.specs.Operations.{editRows}
-use Rattle.cabi.specs.Taken.{rollAt}
-use Rattle.cabi.specs.Laws.{told-done, kept-part}
+use Rattle.texts.specs.Paper.Edited.{edited}
+use Rattle.sound.specs.Paper.Roll.{recordOf, textOf}
+use Rattle.sound.specs.declared.records.Roll.{Roll}
+use Rattle.roll.specs.Paper.Operations.{editRows}
+use Rattle.cabi.specs.Paper.Taken.{rollAt}
+use Rattle.cabi.specs.Laws.Taken.{told-done, kept-part}
 use Rattle.cabi.proofs.monterculo_edit.Statement.{statement}
 use Rattle.cabi.proofs.monterculo_edit.Tie as tie
-
-roll-of-requires : tie.Need-roll-of-requires
-roll-of-requires c κs = search needs
-
-edit-requires : tie.Need-edit-requires
-edit-requires c κs = search needs
-
-told-requires : tie.Need-told-requires
-told-requires c κs = search needs
-
-same-length : tie.Need-same-length
-same-length c = search needs
-
-same-length-2 : tie.Need-same-length-2
-same-length-2 c = search needs
 
 returns : tie.Need-returns
 returns c =
@@ -42,4 +27,4 @@ returns c =
 pub monterculo-edit-spec : {M : Type 1} → statement M
 monterculo-edit-spec =
     tie.close
-    (tie.spec roll-of-requires edit-requires told-requires same-length same-length-2 returns)
+    (tie.spec (λ c κs. search needs) (λ c κs. search needs) (λ c κs. search needs) (λ c. search needs) (λ c. search needs) returns)

@@ -1,21 +1,9 @@
 -- `cabi::monterculo_make_directory` meets its contract.
 -- Assumes nothing.
-use Rattle.cabi.specs.Laws.{told-done}
 use borrow.Author.Needs.{needs}
+use Rattle.cabi.specs.Laws.Taken.{told-done}
 use Rattle.cabi.proofs.monterculo_make_directory.Statement.{statement}
 use Rattle.cabi.proofs.monterculo_make_directory.Tie as tie
-
-roll-of-requires : tie.Need-roll-of-requires
-roll-of-requires c κs = search needs
-
-make-directory-requires : tie.Need-make-directory-requires
-make-directory-requires c κs = search needs
-
-told-requires : tie.Need-told-requires
-told-requires c κs = search needs
-
-same-length : tie.Need-same-length
-same-length c = search needs
 
 returns : tie.Need-returns
 returns c =
@@ -25,4 +13,4 @@ returns c =
 
 pub monterculo-make-directory-spec : {M : Type 1} → statement M
 monterculo-make-directory-spec =
-    tie.close (tie.spec roll-of-requires make-directory-requires told-requires same-length returns)
+    tie.close (tie.spec (λ c κs. search needs) (λ c κs. search needs) (λ c κs. search needs) (λ c. search needs) returns)

@@ -1,34 +1,16 @@
 -- `cabi::monterculo_pack` meets its contract.
 -- Assumes nothing.
 use mathlib.Core.Path.{refl, sym, ap, _∙_}
-use Rattle.ground.specs.Answers.{doneSays}
-use Rattle.ground.specs.Laws.Refusals.{refused-keeps, accepted-leaves}
-use Rattle.buffer.specs.Roll.{recordOf}
-use Rattle.roll.specs.Operations.{packRows, unpacked}
-use Rattle.buffer.specs.declared.roll.Roll.{Roll}
-use Rattle.cabi.specs.Taken.{tableAt}
-use Rattle.cabi.specs.Laws.{told-yes, told-no}
 use borrow.Author.Needs.{needs}
+use Rattle.ground.specs.Paper.Answers.{doneSays}
+use Rattle.ground.specs.Laws.Refusals.{refused-keeps, accepted-leaves}
+use Rattle.sound.specs.Paper.Roll.{recordOf}
+use Rattle.sound.specs.declared.records.Roll.{Roll}
+use Rattle.roll.specs.Paper.Operations.{packRows, unpacked}
+use Rattle.cabi.specs.Paper.Taken.{tableAt}
+use Rattle.cabi.specs.Laws.Taken.{told-yes, told-no}
 use Rattle.cabi.proofs.monterculo_pack.Statement.{statement}
 use Rattle.cabi.proofs.monterculo_pack.Tie as tie
-
-table-of-requires : tie.Need-table-of-requires
-table-of-requires c κs = search needs
-
-pack-requires : tie.Need-pack-requires
-pack-requires c κs = search needs
-
-enum-told : tie.Need-enum-told
-enum-told c = search needs
-
-enum-known-answer : tie.Need-enum-known-answer
-enum-known-answer c = search needs
-
-cast-result : tie.Need-cast-result
-cast-result c = search needs
-
-same-length : tie.Need-same-length
-same-length c = search needs
 
 returns : tie.Need-returns
 returns c =
@@ -51,9 +33,6 @@ returns c =
       ),
     )
 
-same-length-2 : tie.Need-same-length-2
-same-length-2 c = search needs
-
 returns-2 : tie.Need-returns-2
 returns-2 c =
     let w = c .before .before .before .before .before .before in
@@ -72,12 +51,12 @@ pub monterculo-pack-spec : {M : Type 1} → statement M
 monterculo-pack-spec =
     tie.close
     (tie.spec
-    table-of-requires
-    pack-requires
-    enum-told
-    enum-known-answer
-    cast-result
-    same-length
+    (λ c κs. search needs)
+    (λ c κs. search needs)
+    (λ c. search needs)
+    (λ c. search needs)
+    (λ c. search needs)
+    (λ c. search needs)
     returns
-    same-length-2
+    (λ c. search needs)
     returns-2)

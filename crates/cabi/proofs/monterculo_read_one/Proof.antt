@@ -1,19 +1,10 @@
 -- `cabi::monterculo_read_one` meets its contract.
 -- Assumes nothing.
-use Rattle.ground.specs.Answers.{answerSays}
-use Rattle.cabi.specs.Laws.{told-says}
 use borrow.Author.Needs.{needs}
+use Rattle.ground.specs.Paper.Answers.{answerSays}
+use Rattle.cabi.specs.Laws.Taken.{told-says}
 use Rattle.cabi.proofs.monterculo_read_one.Statement.{statement}
 use Rattle.cabi.proofs.monterculo_read_one.Tie as tie
-
-roll-of-requires : tie.Need-roll-of-requires
-roll-of-requires c κs = search needs
-
-read-one-requires : tie.Need-read-one-requires
-read-one-requires c κs = search needs
-
-read-requires : tie.Need-read-requires
-read-requires c κs = search needs
 
 returns : tie.Need-returns
 returns c =
@@ -23,4 +14,4 @@ returns c =
 
 pub monterculo-read-one-spec : {M : Type 1} → statement M
 monterculo-read-one-spec =
-    tie.close (tie.spec roll-of-requires read-one-requires read-requires returns)
+    tie.close (tie.spec (λ c κs. search needs) (λ c κs. search needs) (λ c κs. search needs) returns)

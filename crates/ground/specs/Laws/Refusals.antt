@@ -5,7 +5,7 @@ use mathlib.Core.Bool.{Bool, true, false, cond}
 use mathlib.Core.List.{List, [], _∷_, _++_}
 use Prim.Native.Nat.{ℕ}
 use native.Mathlib.Omega.{arith}
-use Rattle.ground.specs.Refusals.{Row, Outcome, accepted, refused, judged, kept}
+use Rattle.ground.specs.Paper.Refusals.{Row, Outcome, accepted, refused, judged, kept}
 
 pub refused-keeps : {A B : Type 0} (rows : List Row) (answer : A) (before after : B) {n v : ℕ}
     → judged rows answer ≡ refused n v → kept rows before after ≡ before

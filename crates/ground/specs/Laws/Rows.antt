@@ -7,9 +7,12 @@ use Prim.Native.Nat.{ℕ, zero, suc, _+_, _-_, _≤_, _<_}
 use native.Mathlib.Nat.{le-trans, add-zero, zero-add, add-suc, suc-add, not-suc-le-zero, le-of-suc-le-suc, sub-zero, zero-sub, suc-sub-suc}
 use native.Mathlib.Decide.{ℕ-discrete}
 use native.Mathlib.Omega.{arith}
+use mir.Facts.{and-yes, eqb-yes}
 use lib.ListN.{length, take, drop, getD, set, replicate, length-append, length-replicate, length-set, getD-replicate, List·getD-append, replicate-append-replicate}
 use lib.Seq.{take-at, ext-getD, getD-set-same, getD-set-other}
-use Rattle.ground.specs.Rows.{Below, none, also, tab, zeros, padded}
+use lib.Dec.{T, eqb}
+use Rattle.ground.specs.Paper.Rows.{tab, zeros, padded, allZero}
+use Rattle.ground.specs.Helpers.Below.{Below, none, also}
 
 -- ---- numbers below n
 
@@ -151,3 +154,34 @@ take-padded n row = take-at row (zeros (n - length row)) (length row) refl
 pub getD-padded : (n : ℕ) (row : List ℕ) (i : ℕ) → i < length row → getD (padded n row) i 0 ≡ getD row i 0
 unfolding padded
 getD-padded n row i h = List·getD-append row (zeros (n - length row)) 0 i h
+
+-- ---- the parts of a row through a function
+
+pub map-drop : (f : ℕ → ℕ) (i : ℕ) (t : List ℕ) → drop i (map f t) ≡ map f (drop i t)
+map-drop f zero t = refl
+map-drop f (suc i) [] = refl
+map-drop f (suc i) (x ∷ t) = map-drop f i t
+
+pub map-take : (f : ℕ → ℕ) (i : ℕ) (t : List ℕ) → take i (map f t) ≡ map f (take i t)
+map-take f zero t = refl
+map-take f (suc i) [] = refl
+map-take f (suc i) (x ∷ t) = ap {B = List ℕ} (λ l. f x ∷ l) (map-take f i t)
+
+-- ---- all 0
+
+pub zeros-zero : (n : ℕ) → T (allZero (zeros n))
+unfolding allZero zeros
+zeros-zero zero = tt
+zeros-zero (suc n) = zeros-zero n
+
+pub zero-zeros : (l : List ℕ) → T (allZero l) → l ≡ zeros (length l)
+unfolding allZero zeros
+zero-zeros [] t = refl
+zero-zeros (x ∷ l) t =
+    let p = and-yes (eqb x 0) (allZero l) t in
+    let q : x ≡ 0 = eqb-yes (p .0) in
+    rw q (ap (λ (r : List ℕ). 0 ∷ r) (zero-zeros l (p .1)))
+
+-- zeros are below any number but 0
+pub below-zeros : (n i : ℕ) → 0 < n → Below n (zeros i)
+below-zeros n i h = below-all n (zeros i) (λ j. rw (getD-zeros i j) h)

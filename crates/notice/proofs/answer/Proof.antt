@@ -5,7 +5,7 @@ use Prim.Native.Nat.{_≤_}
 use borrow.Author.Needs.{needs}
 use lib.ListN.{length}
 use lib.Seq.{length-take-le}
-use Rattle.report.specs.Report.{reportOf}
+use Rattle.report.specs.Paper.Report.{reportOf}
 use Rattle.report.specs.Laws.Answer.{written-within}
 use Rattle.notice.proofs.answer.Statement.{statement}
 use Rattle.notice.proofs.answer.Tie as tie
@@ -15,27 +15,18 @@ within c =
     let a = c .before .before .before .args in
     written-within (reportOf (a .input .now)) _ (c .report .ensures .0) (c .report .ensures .1)
 
-report-requires : tie.Need-report-requires
-report-requires c κs = search needs
-
 array-share-prefix-out : tie.Need-array-share-prefix-out
 array-share-prefix-out c = within c
 
 slice-aggregate-write-all : tie.Need-slice-aggregate-write-all
 slice-aggregate-write-all c = sym (length-take-le _ _ (within (c .before)))
 
-write-all-requires : tie.Need-write-all-requires
-write-all-requires c κs = search needs
-
-returns : tie.Need-returns
-returns c = search needs
-
 pub answer-spec : {M : Type 1} → statement M
 answer-spec =
     tie.close
     (tie.spec
-    report-requires
+    (λ c κs. search needs)
     array-share-prefix-out
     slice-aggregate-write-all
-    write-all-requires
-    returns)
+    (λ c κs. search needs)
+    (λ c. search needs))

@@ -7,12 +7,13 @@ use Prim.Native.Nat.{ℕ, _≤_, _<_}
 use native.Mathlib.Omega.{arith}
 use borrow.Author.Tests.{lt-ltb, le-ltb}
 use lib.ListN.{length, drop, length-append}
-use Rattle.ground.specs.Refusals.{Row, accepted, refused, judged}
-use Rattle.ground.specs.Rows.{zeros}
+use Rattle.ground.specs.Paper.Refusals.{Row, accepted, refused, judged}
+use Rattle.ground.specs.Paper.Rows.{zeros}
 use Rattle.ground.specs.Laws.Refusals.{refused-front, accepted-front}
-use Rattle.buffer.specs.Hits.{goodPattern}
-use Rattle.roll.specs.Operations.{packRows}
-use Rattle.report.specs.Report.{givenPattern, givenText, refusedLine, ownTable, reportLines, answered, reportOf, answerFor}
+use Rattle.texts.specs.Paper.Hits.{goodPattern}
+use Rattle.roll.specs.Paper.Operations.{packRows}
+use Rattle.report.specs.Paper.Report.{givenPattern, givenText, refusedLine, ownTable, reportLines, answered, reportOf}
+use Rattle.report.specs.Helpers.Answers.{answerFor}
 
 module _ (input : List ℕ) where
   -- the refusals of packing the text

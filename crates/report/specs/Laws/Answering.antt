@@ -9,10 +9,11 @@ use borrow.Author.Tests.{le-ltb, eq-eqb}
 use lib.Dec.{T}
 use lib.ListN.{length, take, drop, length-append}
 use lib.Seq.{take-at, take-all}
-use Rattle.ground.specs.Limit.{limit}
-use Rattle.ground.specs.Refusals.{Row, refused, judged, kept}
-use Rattle.ground.specs.Rows.{Below, zeros}
-use Rattle.ground.specs.Answers.{doneSays}
+use Rattle.ground.specs.Paper.Limit.{limit}
+use Rattle.ground.specs.Paper.Refusals.{Row, refused, judged, kept}
+use Rattle.ground.specs.Paper.Rows.{zeros}
+use Rattle.ground.specs.Paper.Answers.{doneSays}
+use Rattle.ground.specs.Helpers.Below.{Below}
 use Rattle.ground.specs.Laws.Answers.{total-one}
 use Rattle.ground.specs.Laws.Limit.{limit-least}
 use Rattle.ground.specs.Laws.Refusals.{Accepted, accepted-leaves, refused-front, accepted-front}
@@ -22,25 +23,26 @@ use Rattle.ground.specs.declared.answers.Done.{Done}
 use Rattle.ground.specs.declared.answers.Done.the-variants.{Yes}
 use Rattle.ground.specs.declared.answers.Total.{Total}
 use Rattle.ground.specs.declared.answers.Total.the-variants.{Of}
-use Rattle.stopper.specs.Table.{goodWidth}
-use Rattle.stopper.specs.Choosing.{countsOf, counted, chosenTable, chosen}
-use Rattle.stopper.specs.Operations.{countRows, Counting, chooseRows, noTable, Choosing}
+use Rattle.stopper.specs.Paper.Table.{goodWidth}
+use Rattle.stopper.specs.Paper.Choosing.{countsOf, counted, chosenTable, chosen}
+use Rattle.stopper.specs.Paper.Operations.{countRows, Counting, chooseRows, noTable, Choosing}
 use Rattle.stopper.specs.declared.table.Table.{Table}
 use Rattle.stopper.specs.declared.choose.Choice.{Choice}
-use Rattle.symbols.specs.Symbols.{Width, bytesFor, bytesOf}
+use Rattle.symbols.specs.Paper.Symbols.{Width, bytesFor, bytesOf}
 use Rattle.symbols.specs.Laws.Sizes.{room-bytes}
 use Rattle.symbols.specs.Laws.Packing.{bytes-length}
-use Rattle.buffer.specs.Roll.{symbolsFor, recordOf, textOf, Sound}
-use Rattle.buffer.specs.Hits.{hits, goodPattern, listed}
-use Rattle.buffer.specs.Laws.Hits.{hit-is, hits-length}
-use Rattle.buffer.specs.declared.roll.Roll.{Roll}
-use Rattle.roll.specs.Operations.{packRows, Packing, Searching}
+use Rattle.texts.specs.Paper.Hits.{hits, goodPattern, listed}
+use Rattle.texts.specs.Laws.Hits.{hit-is, hits-length}
+use Rattle.sound.specs.Paper.Roll.{symbolsFor, recordOf, textOf, Sound}
+use Rattle.sound.specs.declared.records.Roll.{Roll}
+use Rattle.roll.specs.Paper.Operations.{packRows, Packing, Searching}
 use Rattle.roll.specs.Laws.Accepting.{accepted-packs}
 use Rattle.roll.specs.Laws.Meaning.{packing-sound}
 use Rattle.roll.specs.Laws.Operations.{search-yes}
 use Rattle.roll.specs.declared.pack.Packed.{Packed}
-use Rattle.report.specs.Report.{bestWord, symbolsWord, hitsWord, bestLine, hitsLine, refusedLine, linesOf, ownTable, linesFor, answered, answerFor}
-use Rattle.report.specs.Laws.Written.{decimal-most, hex-length, numbers-few}
+use Rattle.writing.specs.Laws.Written.{decimal-most, hex-length, numbers-few}
+use Rattle.report.specs.Paper.Report.{bestWord, symbolsWord, hitsWord, bestLine, hitsLine, refusedLine, linesOf, ownTable, linesFor, answered}
+use Rattle.report.specs.Helpers.Answers.{answerFor}
 
 module _ (text : List ℕ) (short : length text ≤ 16384) where
   -- the counts are the text's

@@ -11,9 +11,9 @@ use lib.Dec.{leb, ltb, eqb, leb→le, nleb→lt, ltb→lt, nltb→le}
 use lib.ListN.{length, take, length-take}
 use lib.Seq.{take-all, take-nil}
 use Rattle.ground.specs.Laws.Tests.{by-test, true-yes}
-use Rattle.buffer.specs.Hits.{goodPattern}
-use Rattle.buffer.specs.Laws.Patterns.{pattern-bad, pattern-most}
-use Rattle.report.specs.Report.{givenPattern, givenText, reportOf}
+use Rattle.texts.specs.Paper.Hits.{goodPattern}
+use Rattle.texts.specs.Laws.Patterns.{pattern-bad, pattern-most}
+use Rattle.report.specs.Paper.Report.{givenPattern, givenText, reportOf}
 use Rattle.report.specs.Laws.Answer.{report-11, report-4}
 
 -- ---- how long they are

@@ -9,7 +9,8 @@ use native.Mathlib.Omega.{arith}
 use borrow.Author.Tests.{eq-eqb, ne-eqb, lt-ltb, le-ltb}
 use lib.ListN.{length, take, drop, getD, drop-of-length-le}
 use lib.Seq.{drop-cons}
-use Rattle.report.specs.Report.{givenPattern, givenText, startOfText}
+use Rattle.report.specs.Paper.Report.{givenPattern, givenText}
+use Rattle.report.specs.Helpers.Answers.{startOfText}
 
 -- ---- one byte more
 

@@ -10,22 +10,26 @@ use native.Mathlib.Omega.{arith}
 use borrow.Author.Tests.{le-ltb, ltb-false, eq-eqb, eqb-true, not-false}
 use lib.Dec.{T, ltb, eqb}
 use lib.ListN.{length}
-use Rattle.stopper.specs.Table.{goodTable, characters}
-use Rattle.stopper.specs.declared.table.Table.{Table}
-use Rattle.symbols.specs.Symbols.{room}
-use Rattle.buffer.specs.Roll.{firstForeign, firstOver, symbolsFor, reading, ranksRead, textOf, allZero, unusedOf, Sound}
-use Rattle.buffer.specs.Directory.{entries, directoryOf, lengthsOf, firstWrong, Right}
-use Rattle.buffer.specs.Editing.{edited}
-use Rattle.roll.specs.Operations.{packRows, checkRows, unpackRows, directoryRows, changeRows, editRows}
-use Rattle.buffer.specs.Laws.Edited.{Edits}
-use Rattle.buffer.specs.Laws.Directory.{sound-entries}
-use Rattle.buffer.specs.Laws.Mending.{wrong-within, right-none, none-right}
-use Rattle.buffer.specs.Laws.Characters.{InTable, known-foreign, foreign-known, foreign-within}
+use Rattle.ground.specs.Paper.Rows.{allZero}
+use Rattle.ground.specs.Paper.Refusals.{Row, refuse}
 use Rattle.ground.specs.Laws.Refusals.{Accepted, accepted-none, accepted-both, accepted-parts}
 use Rattle.ground.specs.Laws.Tests.{yes-true, true-yes}
-use Rattle.buffer.specs.Laws.Texts.{over-all, over-within}
-use Rattle.buffer.specs.declared.roll.Roll.{Roll}
-use Rattle.ground.specs.Refusals.{Row, refuse}
+use Rattle.stopper.specs.Paper.Table.{goodTable, characters}
+use Rattle.stopper.specs.declared.table.Table.{Table}
+use Rattle.symbols.specs.Paper.Symbols.{room}
+use Rattle.texts.specs.Paper.Characters.{firstForeign}
+use Rattle.texts.specs.Paper.Directory.{entries, directoryOf, firstWrong}
+use Rattle.texts.specs.Paper.Edited.{edited}
+use Rattle.texts.specs.Laws.Directory.{wrong-within}
+use Rattle.texts.specs.Laws.Characters.{InTable, known-foreign, foreign-known, foreign-within}
+use Rattle.sound.specs.Paper.Roll.{symbolsFor, reading, ranksRead, textOf, unusedOf, Sound}
+use Rattle.sound.specs.Paper.Lengths.{lengthsOf, Right}
+use Rattle.sound.specs.Laws.Directory.{sound-entries, right-none, none-right}
+use Rattle.sound.specs.declared.records.Roll.{Roll}
+use Rattle.store.specs.Paper.Fitting.{firstOver}
+use Rattle.store.specs.Laws.Edited.{Edits}
+use Rattle.store.specs.Laws.Fitting.{over-all, over-within}
+use Rattle.roll.specs.Paper.Operations.{packRows, checkRows, unpackRows, directoryRows, changeRows, editRows}
 
 neither : (a b : Bool) → (a || b) ≡ false → (a ≡ false) × (b ≡ false)
 neither true b e = let z : _≡_ {A = ℕ} 0 1 = cc in absurd (omega arith)

@@ -5,26 +5,27 @@ use mathlib.Core.Bool.{true}
 use mathlib.Core.List.{List, _++_}
 use Prim.Native.Nat.{ℕ, _≤_}
 use lib.ListN.{length, take, drop}
-use Rattle.ground.specs.Refusals.{accepted}
-use Rattle.ground.specs.Answers.{doneSays, totalSays}
+use Rattle.ground.specs.Paper.Refusals.{accepted}
+use Rattle.ground.specs.Paper.Answers.{doneSays, totalSays}
 use Rattle.ground.specs.Laws.Answers.{done-one}
 use Rattle.ground.specs.Laws.Refusals.{Accepted, accepted-leaves}
 use Rattle.ground.specs.declared.answers.Done.{Done}
 use Rattle.ground.specs.declared.answers.Done.the-variants.{Yes}
 use Rattle.ground.specs.declared.answers.Total.{Total}
-use Rattle.symbols.specs.Symbols.{bytesFor, room}
-use Rattle.buffer.specs.Roll.{symbolsFor, packedInto, textOf}
-use Rattle.buffer.specs.Directory.{entries, directoryOf, lengthsOf, lengthsFor, Right}
-use Rattle.buffer.specs.Hits.{hits, goodPattern, listed}
-use Rattle.buffer.specs.Editing.{bytesAfter, directoryAfter}
-use Rattle.roll.specs.Operations.{packRows, Packing, Making, Unpacking, Searching, editRows, Editing}
+use Rattle.symbols.specs.Paper.Symbols.{bytesFor, room}
+use Rattle.texts.specs.Paper.Directory.{entries, directoryOf}
+use Rattle.texts.specs.Paper.Hits.{hits, goodPattern, listed}
+use Rattle.sound.specs.Paper.Roll.{symbolsFor, textOf}
+use Rattle.sound.specs.Paper.Lengths.{lengthsOf, lengthsFor, Right}
+use Rattle.sound.specs.Laws.Lengths.{sound-lengths}
+use Rattle.sound.specs.declared.records.Roll.{Roll}
+use Rattle.store.specs.Paper.Stored.{packedInto, bytesAfter, directoryAfter}
+use Rattle.store.specs.Laws.Edited.{Edits, textAfter, rollAfter, edit-known, edit-holds, edit-sound, edit-text, edit-right}
+use Rattle.roll.specs.Paper.Operations.{packRows, Packing, Making, Unpacking, Searching, editRows, Editing}
 use Rattle.roll.specs.Laws.Accepting.{Packs, packs-accepted, edits-accepted, accepted-edits}
-use Rattle.buffer.specs.Laws.Edited.{Edits, textAfter, rollAfter, edit-known, edit-holds, edit-sound, edit-text, edit-right}
-use Rattle.buffer.specs.Laws.Editing.{sound-lengths}
 use Rattle.roll.specs.Laws.Meaning.{packed-holds, packing-sound, unpacks-text}
 use Rattle.roll.specs.Laws.Operations.{make-yes, search-yes}
 use Rattle.roll.specs.Laws.Made.{made-right}
-use Rattle.buffer.specs.declared.roll.Roll.{Roll}
 use Rattle.roll.specs.declared.pack.Packed.{Packed}
 use Rattle.roll.specs.declared.edit.Edited.{Edited}
 

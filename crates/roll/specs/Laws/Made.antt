@@ -6,23 +6,24 @@ use Prim.Native.Nat.{ℕ, _/_, _%_, _<_}
 use native.Mathlib.Omega.{arith}
 use lib.ListN.{take, drop, getD}
 use lib.Seq.{take-at}
-use Rattle.ground.specs.Refusals.{accepted, judged}
+use Rattle.ground.specs.Paper.Refusals.{accepted, judged}
 use Rattle.ground.specs.Laws.Answers.{answer-one}
 use Rattle.ground.specs.Laws.Rows.{map-at}
 use Rattle.ground.specs.Laws.Tests.{yes-true}
 use Rattle.ground.specs.declared.answers.Done.the-variants.{Yes}
 use Rattle.ground.specs.declared.answers.Answer.{Answer}
 use Rattle.ground.specs.declared.answers.Answer.the-variants.{Read}
-use Rattle.stopper.specs.Table.{goodTable}
-use Rattle.buffer.specs.Roll.{rowUpto, reading, ranksRead, textOf, Sound}
-use Rattle.buffer.specs.Codewords.{oneRank}
-use Rattle.buffer.specs.Directory.{entries, directoryOf, lengthsOf, Right}
-use Rattle.roll.specs.Operations.{Making, oneRead, readRows, ReadingOne}
-use Rattle.buffer.specs.Laws.Codewords.{one-word}
-use Rattle.buffer.specs.Laws.Sound.{sound-found}
-use Rattle.buffer.specs.Laws.Directory.{sound-entries, right-held, right-passed, right-before}
+use Rattle.stopper.specs.Paper.Table.{goodTable}
+use Rattle.texts.specs.Paper.Directory.{entries, directoryOf}
+use Rattle.sound.specs.Paper.Roll.{rowUpto, reading, ranksRead, textOf, Sound}
+use Rattle.sound.specs.Paper.Codewords.{oneRank}
+use Rattle.sound.specs.Paper.Lengths.{lengthsOf, Right}
+use Rattle.sound.specs.Laws.Codewords.{one-word}
+use Rattle.sound.specs.Laws.Sound.{sound-found}
+use Rattle.sound.specs.Laws.Directory.{sound-entries, right-held, right-passed, right-before}
+use Rattle.sound.specs.declared.records.Roll.{Roll}
+use Rattle.roll.specs.Paper.Operations.{Making, oneRead, readRows, ReadingOne}
 use Rattle.roll.specs.Laws.Operations.{made-sound, made-leaves, read-yes}
-use Rattle.buffer.specs.declared.roll.Roll.{Roll}
 
 -- what make_directory writes is right
 pub made-right : {r : Roll} {buf dir after : List ℕ} → Making r buf dir Yes after → Right r buf after

@@ -8,27 +8,27 @@ use native.Mathlib.Nat.{le-refl, le-of-eq, sub-zero}
 use native.Mathlib.Omega.{arith}
 use lib.ListN.{length, take, drop, length-append, length-drop, take-append-drop}
 use lib.Seq.{take-all, take-at}
-use Rattle.ground.specs.Answers.{doneSays}
-use Rattle.ground.specs.Rows.{Below}
+use Rattle.ground.specs.Paper.Answers.{doneSays}
+use Rattle.ground.specs.Paper.Runs.{run}
+use Rattle.ground.specs.Helpers.Below.{Below}
 use Rattle.ground.specs.Laws.Answers.{done-one}
-use Rattle.ground.specs.Laws.Refusals.{accepted-leaves}
+use Rattle.ground.specs.Laws.Refusals.{accepted-leaves, Accepted}
 use Rattle.ground.specs.declared.answers.Done.{Done}
 use Rattle.ground.specs.declared.answers.Done.the-variants.{Yes}
-use Rattle.stopper.specs.Table.{characters}
+use Rattle.stopper.specs.Paper.Table.{characters}
 use Rattle.stopper.specs.Laws.Table.{code-width, table-code}
 use Rattle.stopper.specs.declared.table.Table.{Table}
-use Rattle.symbols.specs.Symbols.{Width, bytesFor, room, symbolsOf, bytesOf}
+use Rattle.symbols.specs.Paper.Symbols.{Width, bytesFor, room, symbolsOf, bytesOf}
 use Rattle.symbols.specs.Laws.Sizes.{room-bytes}
 use Rattle.symbols.specs.Laws.Packing.{bytes-length}
-use Rattle.symbols.specs.Runs.{run}
-use Rattle.buffer.specs.Roll.{symbolsFor, recordOf, packedInto, textOf, Sound}
-use Rattle.roll.specs.Operations.{packRows, unpackRows, Packing, Unpacking}
-use Rattle.ground.specs.Laws.Refusals.{Accepted}
-use Rattle.buffer.specs.Laws.Characters.{InTable}
+use Rattle.texts.specs.Laws.Characters.{InTable}
+use Rattle.sound.specs.Paper.Roll.{symbolsFor, recordOf, textOf, Sound}
+use Rattle.sound.specs.Laws.Sound.{text-length}
+use Rattle.sound.specs.Laws.Holding.{widthOf, Holds, holds-sound, holds-text, sound-known, sound-record, sound-h, sound-symbols, sound-bytes, sound-holds}
+use Rattle.sound.specs.declared.records.Roll.{Roll}
+use Rattle.store.specs.Paper.Stored.{packedInto}
+use Rattle.roll.specs.Paper.Operations.{packRows, unpackRows, Packing, Unpacking}
 use Rattle.roll.specs.Laws.Accepting.{Packs, packs-accepted, accepted-packs, Unpacks, unpacks-accepted}
-use Rattle.buffer.specs.Laws.Sound.{text-length}
-use Rattle.buffer.specs.Laws.Holding.{widthOf, Holds, holds-sound, holds-text, sound-known, sound-record, sound-h, sound-symbols, sound-bytes, sound-holds}
-use Rattle.buffer.specs.declared.roll.Roll.{Roll}
 use Rattle.roll.specs.declared.pack.Packed.{Packed}
 
 -- ---- a packed text

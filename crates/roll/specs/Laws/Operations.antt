@@ -10,33 +10,40 @@ use native.Mathlib.Omega.{arith}
 use borrow.Author.Tests.{lt-ltb, le-ltb, lt-leb, le-leb, eq-eqb, ne-eqb}
 use lib.Dec.{ltb}
 use lib.ListN.{length, drop, getD}
-use Rattle.ground.specs.Refusals.{Row, refuse, accepted, refused, judged, kept}
-use Rattle.ground.specs.Answers.{doneSays, totalSays}
+use Rattle.ground.specs.Paper.Refusals.{Row, refuse, accepted, refused, judged, kept}
+use Rattle.ground.specs.Paper.Answers.{doneSays, totalSays}
+use Rattle.ground.specs.Paper.Runs.{over as laid-over, run}
+use Rattle.ground.specs.Paper.Rows.{allZero}
+use Rattle.ground.specs.Helpers.Moved.{cleared, laidFrom}
+use Rattle.ground.specs.Helpers.Below.{Below}
 use Rattle.ground.specs.Laws.Refusals.{refused-keeps, accepted-leaves, accepted-parts, refused-front, accepted-front, kept-front}
 use Rattle.ground.specs.declared.answers.Done.{Done}
 use Rattle.ground.specs.declared.answers.Done.the-variants.{Yes, Refused}
 use Rattle.ground.specs.declared.answers.Answer.the-variants.{Read, Refused as answer-refused}
-use Rattle.stopper.specs.Table.{goodTable, characters}
-use Rattle.stopper.specs.Reading.{Reading, done, bad}
-use Rattle.symbols.specs.Symbols.{room, Width, per, bytesFor, symbolsOf}
-use Rattle.symbols.specs.Runs.{over as laid-over, run, cleared}
-use Rattle.buffer.specs.Roll.{reading, isBad, firstBad, ranksRead, textOf, allZero, unusedOf, firstForeign, firstOver, symbolsFor, recordOf, packedInto, Sound}
-use Rattle.buffer.specs.Codewords.{scanned, one, lost, oneIsLost, oneLost, oneRank}
-use Rattle.buffer.specs.Directory.{entries, directoryOf, lengthsOf, firstWrong, Right}
-use Rattle.buffer.specs.Editing.{edited, bytesAfter, directoryAfter}
-use Rattle.roll.specs.Operations.{checkRows, Checking, unpackRows, Unpacking, Packing, refusedPack, makeRows, Making, oneRead, ReadingOne, searchRows, Searching, directoryRows, DirectoryChecked, changeRows, editRows, refusedEdit, Editing}
-use Rattle.buffer.specs.declared.roll.Roll.{Roll}
-use Rattle.buffer.specs.declared.reading.Scan.the-variants.{Whole, Bad}
-use Rattle.ground.specs.Rows.{Below}
-use Rattle.stopper.specs.declared.table.Table.{Table}
-use Rattle.symbols.specs.Laws.Packing.{packed-cleared}
-use Rattle.buffer.specs.Words.{laidFrom}
-use Rattle.roll.specs.declared.pack.Packed.{Packed}
-use Rattle.roll.specs.declared.edit.Edited.{Edited}
-use Rattle.roll.specs.Laws.Accepting.{sound-accepted, accepted-sound, right-accepted, accepted-right}
 use Rattle.ground.specs.declared.answers.Total.{Total}
 use Rattle.ground.specs.declared.answers.Total.the-variants.{Of, Refused as total-refused}
-use Rattle.buffer.specs.Hits.{hits, goodPattern, listed}
+use Rattle.stopper.specs.Paper.Table.{goodTable, characters}
+use Rattle.stopper.specs.Paper.Reading.{Reading, done, bad}
+use Rattle.stopper.specs.declared.table.Table.{Table}
+use Rattle.symbols.specs.Paper.Symbols.{room, Width, per, bytesFor, symbolsOf}
+use Rattle.symbols.specs.Laws.Packing.{packed-cleared}
+use Rattle.texts.specs.Paper.Characters.{firstForeign}
+use Rattle.texts.specs.Paper.Directory.{entries, directoryOf, firstWrong}
+use Rattle.texts.specs.Paper.Edited.{edited}
+use Rattle.texts.specs.Paper.Hits.{hits, goodPattern, listed}
+use Rattle.sound.specs.Paper.Roll.{reading, isBad, firstBad, ranksRead, textOf, unusedOf, symbolsFor, recordOf, Sound}
+use Rattle.sound.specs.Paper.Codewords.{one, lost, oneIsLost, oneLost, oneRank}
+use Rattle.sound.specs.Paper.Lengths.{lengthsOf, Right}
+use Rattle.sound.specs.Helpers.Codewords.{scanned}
+use Rattle.sound.specs.declared.records.Roll.{Roll}
+use Rattle.sound.specs.declared.reading.Scan.the-variants.{Whole, Bad}
+use Rattle.store.specs.Paper.Fitting.{firstOver}
+use Rattle.store.specs.Paper.Stored.{packedInto, bytesAfter, directoryAfter}
+use Rattle.roll.specs.Paper.Operations.{checkRows, Checking, unpackRows, Unpacking, Packing, makeRows, Making, oneRead, ReadingOne, searchRows, Searching, directoryRows, DirectoryChecked, changeRows, editRows, Editing}
+use Rattle.roll.specs.Helpers.Refused.{refusedPack, refusedEdit}
+use Rattle.roll.specs.Laws.Accepting.{sound-accepted, accepted-sound, right-accepted, accepted-right}
+use Rattle.roll.specs.declared.pack.Packed.{Packed}
+use Rattle.roll.specs.declared.edit.Edited.{Edited}
 
 -- ---- pack
 

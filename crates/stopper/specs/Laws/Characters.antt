@@ -7,11 +7,11 @@ use mathlib.Core.List.{List, [], _∷_, List·Memᴰ, List·Memᴰ·head, List·
 use Prim.Native.Nat.{ℕ, zero, suc, _<_}
 use native.Mathlib.Omega.{arith}
 use borrow.Author.Tests.{eq-eqb, ne-eqb, lt-ltb}
+use mir.Facts.{or-yes, eqb-yes, yes-eqb}
 use lib.Dec.{T, eqb, ltb, leb·suc-suc}
 use lib.ListN.{length, drop, getD}
 use lib.Seq.{drop-cons, drop-length}
-use mir.Facts.{or-yes, eqb-yes, yes-eqb}
-use Rattle.stopper.specs.Table.{has, repeats, rankIn}
+use Rattle.stopper.specs.Paper.Table.{has, repeats, rankIn}
 
 module _ (l : List ℕ) (i : ℕ) (h : i < length l) where
   pub rank-here : (b : ℕ) → getD l i 0 ≡ b → rankIn (drop i l) b ≡ 0

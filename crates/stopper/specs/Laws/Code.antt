@@ -1,20 +1,20 @@
 -- The laws of the code.
 -- Assumes nothing.
 use mathlib.Core.Path.{_≡_, refl, sym, ap, _∙_, subst}
+use mathlib.Core.Logic.{_↔_}
+use mathlib.Core.Bool.{true, false, _&&_}
+use mathlib.Core.List.{List, [], _∷_, _++_}
 use Prim.Native.Nat.{ℕ, zero, suc, _+_, _-_, _*_, _/_, _%_, _^_, _≤_, _<_, zero-le, suc-le-suc}
 use native.Mathlib.Nat.{pow-zero, pow-suc, le-trans, mul-zero, mul-suc, mul-add, le-of-lt, suc-inj, le-refl, le-antisymm, lt-of-not-le, add-sub-of-le, mul-pos, le-mul-of-pos-right, mod-lt, div-add-mod', div-lt-iff-lt-mul, add-zero, zero-add, add-suc, suc-add, add-sub-cancel-left}
 use native.Mathlib.Decide.{decLe}
 use native.Mathlib.Omega.{arith}
-use mathlib.Core.Logic.{_↔_}
-use mathlib.Core.Bool.{true, false, _&&_}
-use mathlib.Core.List.{List, [], _∷_, _++_}
+use borrow.Author.Tests.{lt-ltb, le-ltb, le-leb, lt-leb}
+use mir.Facts.{and-yes, yes-and, yes-leb, yes-ltb, no-ltb}
 use lib.Dec.{T, leb, leb→le, ltb, ltb→lt, nltb→le}
 use lib.Arith.{lt-one, digits-lt, digits-div, digits-mod}
 use lib.ListN.{length}
-use borrow.Author.Tests.{lt-ltb, le-ltb, le-leb, lt-leb}
-use mir.Facts.{and-yes, yes-and, yes-leb, yes-ltb, no-ltb}
 use Rattle.ground.specs.Laws.Tests.{cond-yes, cond-no, by-test}
-use Rattle.stopper.specs.Code.{Good, Within, IsCodeword, stop, more, opens, shorter, first, place, spell, codeword, rankAt, rankFrom, rankOf, isWord}
+use Rattle.stopper.specs.Paper.Code.{Good, Within, IsCodeword, stop, more, opens, shorter, first, place, spell, codeword, rankAt, rankFrom, rankOf, isWord}
 
 sum-le : (p q : ℕ) → 0 < p → 0 < q → p + q ≤ p * q + 1
 sum-le zero q hp hq = omega arith

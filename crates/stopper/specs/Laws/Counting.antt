@@ -10,7 +10,7 @@ use borrow.Author.Tests.{eq-eqb, ne-eqb}
 use lib.Dec.{eqb}
 use lib.ListN.{length, getD, take}
 use lib.Seq.{take-suc}
-use Rattle.stopper.specs.Choosing.{occurs}
+use Rattle.stopper.specs.Paper.Choosing.{occurs}
 
 pub occurs-none : (b : ℕ) → occurs [] b ≡ 0
 unfolding occurs

@@ -10,15 +10,16 @@ use borrow.Author.Tests.{le-leb, lt-leb, lt-ltb, le-ltb, eq-eqb, ne-eqb}
 use mir.Facts.{and-yes}
 use lib.Dec.{T, ltb→lt}
 use lib.ListN.{length, drop, getD}
-use Rattle.ground.specs.Limit.{limit}
-use Rattle.ground.specs.Rows.{zeros}
+use Rattle.ground.specs.Paper.Limit.{limit}
+use Rattle.ground.specs.Paper.Rows.{zeros}
 use Rattle.ground.specs.Laws.Rows.{padded-over}
 use Rattle.ground.specs.declared.answers.Done.the-variants.{Yes, Refused}
 use Rattle.ground.specs.declared.answers.Answer.the-variants.{Read, Refused as answer-refused}
-use Rattle.stopper.specs.Code.{isWord, rankOf}
-use Rattle.stopper.specs.Table.{base, stoppers, goodWidth, has, characters, goodTable, rankIn, wordOf, lengthOf}
-use Rattle.stopper.specs.Choosing.{countsOf, counted, total, chosenTable, rankingOf, bestOf}
-use Rattle.stopper.specs.Operations.{Counting, Choosing, refusedChoice, Coding, codewordFor, refusedWord, isOne, rankedAs, symbols, Decoding}
+use Rattle.stopper.specs.Paper.Code.{isWord, rankOf}
+use Rattle.stopper.specs.Paper.Table.{base, stoppers, goodWidth, has, characters, goodTable, rankIn, wordOf, lengthOf}
+use Rattle.stopper.specs.Paper.Choosing.{countsOf, counted, total, chosenTable}
+use Rattle.stopper.specs.Paper.Operations.{Counting, Choosing, Coding, codewordFor, isOne, symbols, Decoding}
+use Rattle.stopper.specs.Helpers.Answers.{rankingOf, bestOf, refusedChoice, refusedWord, rankedAs}
 use Rattle.stopper.specs.declared.code.Code.{Code}
 use Rattle.stopper.specs.declared.table.Table.{Table}
 use Rattle.stopper.specs.declared.choose.Choice.{Choice}

@@ -1,22 +1,23 @@
 -- The laws of reading.
 -- Assumes nothing.
 use mathlib.Core.Path.{_≡_, refl, sym, ap, ap₂, _∙_, subst}
+use mathlib.Core.List.{List, [], _∷_, _++_, append-assoc, append-nil}
 use Prim.Native.Nat.{ℕ, zero, suc, _+_, _-_, _*_, _/_, _≤_, _<_}
 use native.Mathlib.Nat.{le-trans, lt-trans, mul-le-mul, le-mul-of-pos-right, div-add-mod', div-lt-iff-lt-mul, add-sub-cancel-left, add-zero, add-assoc, sub-zero}
 use native.Mathlib.Numerals.{add-one}
 use native.Mathlib.Omega.{arith}
-use mathlib.Core.List.{List, [], _∷_, _++_, append-assoc, append-nil}
+use mir.Facts.{yes-ltb, no-ltb}
 use lib.Dec.{ltb, ltb→lt, nltb→le}
 use lib.Arith.{lt-one, digits-lt}
 use lib.ListN.{length, take, drop, length-append}
 use lib.Seq.{drop-append-add}
-use mir.Facts.{yes-ltb, no-ltb}
-use Rattle.ground.specs.Rows.{Below, none, also}
-use Rattle.stopper.specs.Code.{Good, IsCodeword, stop, more, opens, shorter, spell, codeword, rankAt}
+use Rattle.ground.specs.Helpers.Below.{Below, none, also}
 use Rattle.ground.specs.Laws.Rows.{below-append}
 use Rattle.ground.specs.Laws.Tests.{cond-yes, cond-no, by-test}
+use Rattle.stopper.specs.Paper.Code.{Good, IsCodeword, stop, more, opens, shorter, spell, codeword, rankAt}
+use Rattle.stopper.specs.Paper.Reading.{Reading, done, bad, ahead, readFrom, read, write}
+use Rattle.stopper.specs.Helpers.First.{whole, broken, firstFrom, firstWord}
 use Rattle.stopper.specs.Laws.Code.{conts-pos, by-parts, codeword-at, spell-append, length-spell, spell-more, codeword-word}
-use Rattle.stopper.specs.Reading.{Reading, done, bad, ahead, readFrom, read, whole, broken, firstFrom, firstWord, write}
 
 unfoldable pub aheads : List ℕ → Reading → Reading
 aheads [] o = o

@@ -9,9 +9,9 @@ use native.Mathlib.Omega.{arith}
 use borrow.Author.Tests.{lt-ltb, le-ltb, le-leb, lt-leb}
 use lib.Dec.{T, leb, leb→le, nleb→lt}
 use Rattle.ground.specs.Laws.Tests.{by-test}
-use Rattle.stopper.specs.Code.{opens, shorter, rankAt}
-use Rattle.stopper.specs.Table.{base, stoppers, goodCode}
-use Rattle.stopper.specs.State.{Small, near, nearer, openAt, pastAt, stateAt, opened, stepped}
+use Rattle.stopper.specs.Paper.Code.{opens, shorter, rankAt}
+use Rattle.stopper.specs.Paper.Table.{base, stoppers, goodCode}
+use Rattle.stopper.specs.Helpers.State.{Small, near, nearer, openAt, pastAt, stateAt, opened, stepped}
 use Rattle.stopper.specs.Laws.Table.{code-base, code-good}
 use Rattle.stopper.specs.Laws.Reading.{rank-least, least-grows, opens-le}
 use Rattle.stopper.specs.declared.code.Code.{Code}

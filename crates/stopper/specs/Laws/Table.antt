@@ -5,12 +5,13 @@ use mathlib.Core.Logic.{_⊎_, inl, inr, ⊎-elim}
 use mathlib.Core.Bool.{true, not, _&&_}
 use Prim.Native.Nat.{ℕ, suc, _+_, _-_, _*_, _^_, _≤_, _<_}
 use native.Mathlib.Omega.{arith}
-use lib.Dec.{T, leb, eqb}
-use mir.Facts.{and-yes, yes-and, or-yes, eqb-yes, leb-yes, yes-leb}
 use native.Mathlib.Numerals.{add-one}
-use Rattle.stopper.specs.Code.{Good, shorter}
+use mir.Facts.{and-yes, yes-and, or-yes, eqb-yes, leb-yes, yes-leb}
+use lib.Dec.{T, leb, eqb}
+use Rattle.stopper.specs.Paper.Code.{Good, shorter}
+use Rattle.stopper.specs.Paper.Table.{base, stoppers, goodWidth, goodCode, lengthOf, goodTable, goodCharacters, repeats, characters}
+use Rattle.stopper.specs.Helpers.Answers.{placeOf}
 use Rattle.stopper.specs.Laws.Code.{length-codeword, length-86, opens-const}
-use Rattle.stopper.specs.Table.{base, stoppers, goodWidth, goodCode, placeOf, lengthOf, goodTable, goodCharacters, repeats, characters}
 use Rattle.stopper.specs.declared.table.Table.{Table}
 use Rattle.stopper.specs.declared.code.Code.{Code}
 

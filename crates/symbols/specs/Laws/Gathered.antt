@@ -10,14 +10,14 @@ use lib.Arith.{digits-lt, digits-div, digits-mod}
 use lib.ListN.{length, take, drop, getD, set, length-append}
 use lib.Pow.{pow-pos, pow-add, shr-shr}
 use lib.Seq.{take-add, take-at, take-append-le, take-suc-set, drop-cons, drop-drop}
-use Rattle.ground.specs.Rows.{tab}
-use Rattle.symbols.specs.declared.gather.Gather.{Gather}
-use Rattle.symbols.specs.Symbols.{Width, per, shift, symbolAt, symbolsOf}
-use Rattle.symbols.specs.Runs.{over}
-use Rattle.symbols.specs.Gathered.{digits, gathered, upTo, Added}
+use Rattle.ground.specs.Paper.Rows.{tab}
+use Rattle.ground.specs.Paper.Runs.{over}
+use Rattle.symbols.specs.Paper.Symbols.{Width, per, shift, symbolAt, symbolsOf}
+use Rattle.symbols.specs.Helpers.Gathered.{digits, gathered, upTo, Added}
 use Rattle.symbols.specs.Laws.Packing.{pow-mul}
 use Rattle.symbols.specs.Laws.Rows.{symbols-length, symbols-append, symbols-take, symbols-drop}
 use Rattle.symbols.specs.Laws.Width.{by-width, fills}
+use Rattle.symbols.specs.declared.gather.Gather.{Gather}
 
 -- ---- digits
 

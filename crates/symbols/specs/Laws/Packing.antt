@@ -10,10 +10,12 @@ use lib.Arith.{mod-mul, digits-lt, digits-div, digits-mod}
 use lib.ListN.{length, drop, getD, length-append, List·getD-eq-default}
 use lib.Pow.{pow-pos, pow-add}
 use lib.Seq.{ext-getD, drop-append-add, drop-drop, take-append-seam}
-use Rattle.ground.specs.Rows.{Below, zeros}
+use Rattle.ground.specs.Paper.Rows.{zeros}
+use Rattle.ground.specs.Paper.Runs.{over}
+use Rattle.ground.specs.Helpers.Below.{Below}
+use Rattle.ground.specs.Helpers.Moved.{cleared}
 use Rattle.ground.specs.Laws.Rows.{length-tab, tab-at, tab-below, getD-below, getD-zeros-after, length-zeros, below-append, below-drop}
-use Rattle.symbols.specs.Symbols.{Width, per, bytesFor, shift, symbolAt, symbolsOf, number, byteAt, bytesOf}
-use Rattle.symbols.specs.Runs.{over, cleared}
+use Rattle.symbols.specs.Paper.Symbols.{Width, per, bytesFor, shift, symbolAt, symbolsOf, number, byteAt, bytesOf}
 use Rattle.symbols.specs.Laws.Width.{fills, per-pos}
 use Rattle.symbols.specs.Laws.Sizes.{bytesFor-enough, bytesFor-full}
 use Rattle.symbols.specs.Laws.Rows.{symbols-length, symbols-at, symbols-in, symbols-append, symbols-drop}

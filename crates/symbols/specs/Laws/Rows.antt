@@ -10,9 +10,10 @@ use lib.Arith.{digits-div, digits-mod}
 use lib.ListN.{length, take, drop, getD, length-append, take-append-drop, drop-of-length-le, List·getD-append, List·getD-eq-default}
 use lib.Pow.{pow-pos}
 use lib.Seq.{ext-getD, getD-append-add, take-at, drop-at, take-all, length-take-le}
-use Rattle.ground.specs.Rows.{Below, tab}
+use Rattle.ground.specs.Paper.Rows.{tab}
+use Rattle.ground.specs.Helpers.Below.{Below}
 use Rattle.ground.specs.Laws.Rows.{length-tab, tab-at, tab-below}
-use Rattle.symbols.specs.Symbols.{Width, per, bytesFor, room, shift, symbolAt, symbolsOf}
+use Rattle.symbols.specs.Paper.Symbols.{Width, per, bytesFor, room, shift, symbolAt, symbolsOf}
 use Rattle.symbols.specs.Laws.Width.{per-pos}
 use Rattle.symbols.specs.Laws.Sizes.{bytesFor-within, room-within}
 

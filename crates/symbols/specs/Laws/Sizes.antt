@@ -5,9 +5,9 @@ use Prim.Native.Nat.{ℕ, suc, _+_, _-_, _*_, _/_, _%_, _≤_, _<_}
 use native.Mathlib.Nat.{le-refl, le-of-lt, le-trans, lt-div-mul-add, div-mul-le-self, lt-of-mul-lt-mul-right, suc-mul, mod-lt, div-add-mod'}
 use native.Mathlib.Omega.{arith}
 use lib.Dec.{leb, leb→le, nleb→lt}
-use Rattle.ground.specs.Limit.{limit}
+use Rattle.ground.specs.Paper.Limit.{limit}
 use Rattle.ground.specs.Laws.Tests.{cond-yes, cond-no, by-test}
-use Rattle.symbols.specs.Symbols.{Width, per, bytesFor, room}
+use Rattle.symbols.specs.Paper.Symbols.{Width, per, bytesFor, room}
 use Rattle.symbols.specs.Laws.Width.{per-pos}
 
 module _ {k : ℕ} (w : Width k) where

@@ -7,18 +7,19 @@ use native.Mathlib.Omega.{arith}
 use borrow.Author.Needs.{needs}
 use borrow.Author.Tests.{not-true, not-false}
 use lib.ListN.{length}
-use Rattle.stopper.specs.Table.{goodTable}
+use Rattle.ground.specs.Paper.Runs.{run}
+use Rattle.ground.specs.Paper.Rows.{allZero}
+use Rattle.stopper.specs.Paper.Table.{goodTable}
 use Rattle.stopper.specs.Laws.Table.{is-good, table-code, code-width}
-use Rattle.symbols.specs.Symbols.{Width, per, bytesFor, room, symbolsOf}
-use Rattle.symbols.specs.Runs.{run}
+use Rattle.symbols.specs.Paper.Symbols.{Width, per, bytesFor, room, symbolsOf}
 use Rattle.symbols.specs.Laws.Width.{per-few}
 use Rattle.symbols.specs.Laws.Sizes.{bytesFor-enough, bytesFor-least}
 use Rattle.symbols.specs.Laws.Rows.{ends-inside}
-use Rattle.buffer.specs.Roll.{reading, allZero, unusedOf}
-use Rattle.buffer.specs.Codewords.{Reads, scanned}
-use Rattle.buffer.specs.Laws.Sound.{table-reads}
+use Rattle.sound.specs.Paper.Roll.{reading, unusedOf}
+use Rattle.sound.specs.Helpers.Codewords.{Reads, scanned}
+use Rattle.sound.specs.Laws.Sound.{table-reads}
+use Rattle.sound.specs.declared.reading.Scan.the-variants.{Whole}
 use Rattle.roll.specs.Laws.Operations.{check-1, check-5, check-6, check-7, check-8, check-yes}
-use Rattle.buffer.specs.declared.reading.Scan.the-variants.{Whole}
 use Rattle.roll.proofs.check.check.Statement.{statement}
 use Rattle.roll.proofs.check.check.Tie as tie
 
@@ -65,14 +66,8 @@ zero-is c =
     let a = start (tabled (fitted (c .before .before .before .before .before))) .args in
     c .all-zero .ensures ∙ ap (λ (to : ℕ). allZero (run (symbolsOf (a .roll .table .code .k) (a .buf .now)) (a .roll .h) to)) (end-is (c .before))
 
-good-table-requires : tie.Need-good-table-requires
-good-table-requires c κs = search needs
-
 returns : tie.Need-returns
 returns c = let a = c .before .before .before .before .args in check-1 (a .roll) (a .buf .now) (sym (c .before .good-table .ensures) ∙ not-true _ (c .if1 .taken))
-
-cast-h : tie.Need-cast-h
-cast-h c = search needs
 
 room-of-requires : tie.Need-room-of-requires
 room-of-requires c κs = width (c .before .before)
@@ -82,20 +77,8 @@ returns-2 c =
     let e = c .before .before .before .before in
     check-5 (start e .args .roll) (start e .args .buf .now) (good e) (omega (arith, c .if2 .taken, c .before .room-of .ensures))
 
-cast-sigma : tie.Need-cast-sigma
-cast-sigma c = search needs
-
 read-all-requires : tie.Need-read-all-requires
 read-all-requires c κs = reads (c .before)
-
-enum-known-read : tie.Need-enum-known-read
-enum-known-read c = search needs
-
-enum-known-read-2 : tie.Need-enum-known-read-2
-enum-known-read-2 c = search needs
-
-cast-if3 : tie.Need-cast-if3
-cast-if3 c = search needs
 
 returns-3 : tie.Need-returns-3
 returns-3 c =
@@ -147,16 +130,16 @@ pub check-spec : {M : Type 1} → statement M
 check-spec =
     tie.close
     (tie.spec
-    good-table-requires
+    (λ c κs. search needs)
     returns
-    cast-h
+    (λ c. search needs)
     room-of-requires
     returns-2
-    cast-sigma
+    (λ c. search needs)
     read-all-requires
-    enum-known-read
-    enum-known-read-2
-    cast-if3
+    (λ c. search needs)
+    (λ c. search needs)
+    (λ c. search needs)
     returns-3
     unused-requires
     add-all-zero

@@ -6,18 +6,19 @@ use Prim.Native.Nat.{ℕ, _-_, _≤_}
 use native.Mathlib.Omega.{arith}
 use borrow.Author.Needs.{needs}
 use lib.ListN.{length, length-replicate}
-use Rattle.ground.specs.Rows.{zeros}
+use Rattle.ground.specs.Paper.Rows.{zeros}
 use Rattle.ground.specs.Laws.Rows.{below-all}
-use Rattle.stopper.specs.Table.{characters}
+use Rattle.stopper.specs.Paper.Table.{characters}
 use Rattle.stopper.specs.Laws.Table.{table-code, table-few, code-width}
-use Rattle.buffer.specs.Roll.{firstForeign, textOf}
-use Rattle.buffer.specs.Directory.{entries}
-use Rattle.buffer.specs.Editing.{edited}
-use Rattle.buffer.specs.Words.{uptoOf, takenOf}
-use Rattle.buffer.specs.declared.words.Fit.{Fit}
+use Rattle.texts.specs.Paper.Characters.{firstForeign}
+use Rattle.texts.specs.Paper.Directory.{entries}
+use Rattle.texts.specs.Paper.Edited.{edited}
+use Rattle.sound.specs.Paper.Roll.{textOf}
+use Rattle.store.specs.Helpers.Words.{uptoOf, takenOf}
+use Rattle.store.specs.declared.words.Fit.{Fit}
 use Rattle.roll.specs.Laws.Operations.{edit-3, edit-4, edit-12, edit-yes}
-use Rattle.roll.proofs.Changing as changing
 use Rattle.roll.proofs.edit.change.Statement.{statement}
+use Rattle.store.specs.Laws.Measured as changing
 use Rattle.roll.proofs.edit.change.Tie as tie
 
 -- ---- up to the text's fit
@@ -70,24 +71,12 @@ upto-is f = ap (λ (x : Fit). x .upto) (f .fitting .ensures)
 taken-is : (f : tie.After-fitting) → f .fitting .result .taken ≡ takenOf (lengths f) (left f) (begun f .args .text .now)
 taken-is f = ap (λ (x : Fit). x .taken) (f .fitting .ensures)
 
-slice-aggregate-spell-all : tie.Need-slice-aggregate-spell-all
-slice-aggregate-spell-all c = search needs
-
-slice-aggregate-spell-all-2 : tie.Need-slice-aggregate-spell-all-2
-slice-aggregate-spell-all-2 c = search needs
-
 spell-all-requires : tie.Need-spell-all-requires
 unfolding zeros
 spell-all-requires c κs =
     let s = c .before .before .before .before .before .before .before .before in
     let t = s .args .roll .table in
     (table-code t (s .pre .0 .table), table-few t (s .pre .0 .table), refl, length-replicate {A = ℕ} 22016 0)
-
-start-of-requires : tie.Need-start-of-requires
-start-of-requires c κs = search needs
-
-start-of-requires-2 : tie.Need-start-of-requires-2
-start-of-requires-2 c κs = search needs
 
 room-of-requires : tie.Need-room-of-requires
 room-of-requires c κs =
@@ -100,28 +89,7 @@ sub-space c =
     let s = o .before .before .before .before .before .before .before .before .before .before .before .before .before .before in
     omega (arith, o .start-of .ensures, c .room-of .ensures, changing.start-room (s .args .roll) (s .args .buf .now) (long s) (s .pre .0) (s .args .start))
 
-slice-aggregate-fitting : tie.Need-slice-aggregate-fitting
-slice-aggregate-fitting c = search needs
-
-fitting-requires : tie.Need-fitting-requires
-fitting-requires c κs = search needs
-
 -- ---- refused for the text put in
-
-slice-aggregate-first-foreign : tie.Need-slice-aggregate-first-foreign
-slice-aggregate-first-foreign c = search needs
-
-first-foreign-requires : tie.Need-first-foreign-requires
-first-foreign-requires c κs = search needs
-
-refused-requires : tie.Need-refused-requires
-refused-requires c κs = search needs
-
-same-length : tie.Need-same-length
-same-length c = search needs
-
-same-length-2 : tie.Need-same-length-2
-same-length-2 c = search needs
 
 returns : tie.Need-returns
 returns c =
@@ -136,15 +104,6 @@ add-refused : tie.Need-add-refused
 add-refused c =
     let f = c .before .before .before .before in
     omega (arith, changing.upto-few (measured f) (upto-is f), changing.count-few (measured f), begun f .pre .2, begun f .pre .3)
-
-refused-requires-2 : tie.Need-refused-requires-2
-refused-requires-2 c κs = search needs
-
-same-length-3 : tie.Need-same-length-3
-same-length-3 c = search needs
-
-same-length-4 : tie.Need-same-length-4
-same-length-4 c = search needs
 
 returns-2 : tie.Need-returns-2
 returns-2 c =
@@ -170,35 +129,17 @@ ends c = c .before .if1 .left
 sub-left : tie.Need-sub-left
 sub-left c = let f = c .before in omega (arith, changing.taken-left (measured f) (upto-is f) (taken-is f) (c .if1 .left))
 
-cast-if3 : tie.Need-cast-if3
-cast-if3 c = search needs
-
 sub-if3 : tie.Need-sub-if3
 sub-if3 c = let f = fit c in omega (arith, changing.last-within (measured f) (upto-is f) (taken-is f) (ends c))
 
-first-over-requires : tie.Need-first-over-requires
-first-over-requires c κs = search needs
-
 add-refused-2 : tie.Need-add-refused-2
 add-refused-2 c = let d = c .before .before .before in let f = fit d in omega (arith, changing.text-few (measured f) (upto-is f) (taken-is f) (ends d))
-
-sub-refused : tie.Need-sub-refused
-sub-refused c = search needs
 
 add-refused-3 : tie.Need-add-refused-3
 add-refused-3 c =
     let d = c .before .before .before in
     let f = fit d in
     omega (arith, changing.over-tail-few (measured f) (upto-is f) (taken-is f) (ends d) (c .before .before .if3 .taken) (c .first-over .ensures))
-
-refused-requires-3 : tie.Need-refused-requires-3
-refused-requires-3 c κs = search needs
-
-same-length-5 : tie.Need-same-length-5
-same-length-5 c = search needs
-
-same-length-6 : tie.Need-same-length-6
-same-length-6 c = search needs
 
 returns-3 : tie.Need-returns-3
 returns-3 c =
@@ -217,9 +158,6 @@ returns-3 c =
 add-count : tie.Need-add-count
 add-count c = let d = c .before in let f = fit d in omega (arith, changing.text-few (measured f) (upto-is f) (taken-is f) (ends d))
 
-cast-count : tie.Need-cast-count
-cast-count c = search needs
-
 sub-count : tie.Need-sub-count
 sub-count c = begun (fit (c .before .before)) .pre .3
 
@@ -229,9 +167,6 @@ add-count-2 c = let d = c .before .before in let f = fit d in omega (arith, chan
 cast-entries-for : tie.Need-cast-entries-for
 cast-entries-for c = let d = c .before .before in let f = fit d in omega (arith, changing.count-least (measured f) (upto-is f) (taken-is f) (ends d))
 
-entries-for-requires : tie.Need-entries-for-requires
-entries-for-requires c κs = search needs
-
 -- the entries that the edited text needs
 needed : (n : tie.After-entries-for) → let f = fit (n .before .before .before) in let a = begun f .args in
     n .entries-for .result ≡ entries (length (edited (textOf (a .roll) (a .buf .now)) (a .start) (a .end) (a .text .now)))
@@ -239,15 +174,6 @@ needed n =
     let d = n .before .before .before in
     let f = fit d in
     n .entries-for .ensures ∙ ap entries (sym (changing.count-is (measured f) (upto-is f) (taken-is f) (ends d)))
-
-refused-requires-4 : tie.Need-refused-requires-4
-refused-requires-4 c κs = search needs
-
-same-length-7 : tie.Need-same-length-7
-same-length-7 c = search needs
-
-same-length-8 : tie.Need-same-length-8
-same-length-8 c = search needs
 
 returns-4 : tie.Need-returns-4
 returns-4 c =
@@ -264,12 +190,6 @@ returns-4 c =
     (c .before .if4 .taken)
     (c .refused4 .ensures)
 
-slice-aggregate-replace : tie.Need-slice-aggregate-replace
-slice-aggregate-replace c = search needs
-
-slice-aggregate-replace-2 : tie.Need-slice-aggregate-replace-2
-slice-aggregate-replace-2 c = search needs
-
 replace-requires : tie.Need-replace-requires
 replace-requires c κs =
     let o = c .before .before .before .before in
@@ -278,12 +198,6 @@ replace-requires c κs =
     let d = e .before in
     let f = fit d in
     changing.replaceable (measured f) (upto-is f) (taken-is f) (ends d) (e .if3 .left) (omega (arith, n .entries-for .ensures, o .if4 .left))
-
-same-length-9 : tie.Need-same-length-9
-same-length-9 c = search needs
-
-same-length-10 : tie.Need-same-length-10
-same-length-10 c = search needs
 
 returns-5 : tie.Need-returns-5
 returns-5 c =
@@ -308,50 +222,50 @@ pub change-spec : {M : Type 1} → statement M
 change-spec =
     tie.close
     (tie.spec
-    slice-aggregate-spell-all
-    slice-aggregate-spell-all-2
+    (λ c. search needs)
+    (λ c. search needs)
     spell-all-requires
-    start-of-requires
-    start-of-requires-2
+    (λ c κs. search needs)
+    (λ c κs. search needs)
     room-of-requires
     sub-space
-    slice-aggregate-fitting
-    fitting-requires
-    slice-aggregate-first-foreign
-    first-foreign-requires
-    refused-requires
-    same-length
-    same-length-2
+    (λ c. search needs)
+    (λ c κs. search needs)
+    (λ c. search needs)
+    (λ c κs. search needs)
+    (λ c κs. search needs)
+    (λ c. search needs)
+    (λ c. search needs)
     returns
     add-refused
-    refused-requires-2
-    same-length-3
-    same-length-4
+    (λ c κs. search needs)
+    (λ c. search needs)
+    (λ c. search needs)
     returns-2
     sub-left
-    cast-if3
+    (λ c. search needs)
     sub-if3
-    first-over-requires
+    (λ c κs. search needs)
     add-refused-2
-    sub-refused
+    (λ c. search needs)
     add-refused-3
-    refused-requires-3
-    same-length-5
-    same-length-6
+    (λ c κs. search needs)
+    (λ c. search needs)
+    (λ c. search needs)
     returns-3
     add-count
-    cast-count
+    (λ c. search needs)
     sub-count
     add-count-2
     cast-entries-for
-    entries-for-requires
-    refused-requires-4
-    same-length-7
-    same-length-8
+    (λ c κs. search needs)
+    (λ c κs. search needs)
+    (λ c. search needs)
+    (λ c. search needs)
     returns-4
-    slice-aggregate-replace
-    slice-aggregate-replace-2
+    (λ c. search needs)
+    (λ c. search needs)
     replace-requires
-    same-length-9
-    same-length-10
+    (λ c. search needs)
+    (λ c. search needs)
     returns-5)

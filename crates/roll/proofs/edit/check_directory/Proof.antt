@@ -2,7 +2,7 @@
 -- Assumes nothing.
 use native.Mathlib.Omega.{arith}
 use borrow.Author.Needs.{needs}
-use Rattle.buffer.specs.Roll.{Sound}
+use Rattle.sound.specs.Paper.Roll.{Sound}
 use Rattle.roll.specs.Laws.Operations.{check-sound, directory-check, directory-9, directory-yes}
 use Rattle.roll.proofs.edit.check_directory.Statement.{statement}
 use Rattle.roll.proofs.edit.check_directory.Tie as tie
@@ -17,15 +17,6 @@ checked c = c .before .before
 sound : (c : tie.After-enum-told) → let a = start (checked c) .args in Sound (a .roll) (a .buf .now)
 sound c = let a = start (checked c) .args in check-sound (a .roll) (a .buf .now) (checked c .check .ensures) (c .enum-told .given .1)
 
-check-requires : tie.Need-check-requires
-check-requires c κs = search needs
-
-enum-told : tie.Need-enum-told
-enum-told c = search needs
-
-enum-told-2 : tie.Need-enum-told-2
-enum-told-2 c = search needs
-
 returns : tie.Need-returns
 returns c =
     let k = c .before .before in
@@ -34,9 +25,6 @@ returns c =
 
 first-wrong-requires : tie.Need-first-wrong-requires
 first-wrong-requires c κs = sound c
-
-entries-for-requires : tie.Need-entries-for-requires
-entries-for-requires c κs = search needs
 
 returns-2 : tie.Need-returns-2
 returns-2 c =
@@ -56,11 +44,11 @@ pub check-directory-spec : {M : Type 1} → statement M
 check-directory-spec =
     tie.close
     (tie.spec
-    check-requires
-    enum-told
-    enum-told-2
+    (λ c κs. search needs)
+    (λ c. search needs)
+    (λ c. search needs)
     returns
     first-wrong-requires
-    entries-for-requires
+    (λ c κs. search needs)
     returns-2
     returns-3)

@@ -1,7 +1,7 @@
 -- `roll::edit::refused` meets its contract.
 -- Assumes nothing.
 use mathlib.Core.Path.{refl}
-use Rattle.roll.specs.Operations.{refusedEdit}
+use Rattle.roll.specs.Helpers.Refused.{refusedEdit}
 use Rattle.roll.proofs.edit.refused.Statement.{statement}
 use Rattle.roll.proofs.edit.refused.Tie as tie
 

@@ -2,7 +2,7 @@
 -- Assumes nothing.
 use native.Mathlib.Omega.{arith}
 use borrow.Author.Needs.{needs}
-use Rattle.buffer.specs.Roll.{Sound}
+use Rattle.sound.specs.Paper.Roll.{Sound}
 use Rattle.roll.specs.Laws.Operations.{check-sound, make-check, make-12, make-yes}
 use Rattle.roll.proofs.make_directory.make_directory.Statement.{statement}
 use Rattle.roll.proofs.make_directory.make_directory.Tie as tie
@@ -17,23 +17,11 @@ checked c = c .before .before
 sound : (c : tie.After-enum-told) → let a = start (checked c) .args in Sound (a .roll) (a .buf .now)
 sound c = let a = start (checked c) .args in check-sound (a .roll) (a .buf .now) (checked c .check .ensures) (c .enum-told .given .1)
 
-check-requires : tie.Need-check-requires
-check-requires c κs = search needs
-
-enum-told : tie.Need-enum-told
-enum-told c = search needs
-
-enum-told-2 : tie.Need-enum-told-2
-enum-told-2 c = search needs
-
 returns : tie.Need-returns
 returns c =
     let k = c .before .before in
     let a = start k .args in
     make-check (a .roll) (a .buf .now) (a .dir .now) (k .check .ensures) (c .enum-told2 .given .1)
-
-entries-for-requires : tie.Need-entries-for-requires
-entries-for-requires c κs = search needs
 
 returns-2 : tie.Need-returns-2
 returns-2 c =
@@ -45,9 +33,6 @@ make-sound-requires : tie.Need-make-sound-requires
 make-sound-requires c κs =
     let n = c .before .before in
     (sound (n .before), omega (arith, n .entries-for .ensures, c .before .if1 .left))
-
-same-length : tie.Need-same-length
-same-length c = search needs
 
 returns-3 : tie.Need-returns-3
 returns-3 c =
@@ -61,12 +46,12 @@ pub make-directory-spec : {M : Type 1} → statement M
 make-directory-spec =
     tie.close
     (tie.spec
-    check-requires
-    enum-told
-    enum-told-2
+    (λ c κs. search needs)
+    (λ c. search needs)
+    (λ c. search needs)
     returns
-    entries-for-requires
+    (λ c κs. search needs)
     returns-2
     make-sound-requires
-    same-length
+    (λ c. search needs)
     returns-3)

@@ -10,22 +10,24 @@ use borrow.Author.Tests.{not-true, not-false}
 use lib.Dec.{T}
 use lib.ListN.{length, length-replicate}
 use lib.Seq.{length-take-le}
-use Rattle.ground.specs.Limit.{limit}
-use Rattle.ground.specs.Rows.{Below, zeros}
+use Rattle.ground.specs.Paper.Limit.{limit}
+use Rattle.ground.specs.Paper.Rows.{zeros}
+use Rattle.ground.specs.Helpers.Below.{Below}
 use Rattle.ground.specs.Laws.Limit.{limit-fits}
 use Rattle.ground.specs.Laws.Rows.{below-all}
-use Rattle.stopper.specs.Table.{goodTable, goodCode, characters}
+use Rattle.stopper.specs.Paper.Table.{goodTable, goodCode, characters}
 use Rattle.stopper.specs.Laws.Table.{is-good, table-code, table-few, code-width}
 use Rattle.stopper.specs.declared.table.Table.{Table}
-use Rattle.symbols.specs.Symbols.{Width, per, bytesFor, room, symbolsOf}
+use Rattle.symbols.specs.Paper.Symbols.{Width, per, bytesFor, room, symbolsOf}
 use Rattle.symbols.specs.Laws.Rows.{room-row, symbols-even, ends-inside}
 use Rattle.symbols.specs.Laws.Sizes.{room-limit, bytesFor-enough, bytesFor-least}
 use Rattle.symbols.specs.Laws.Width.{per-few}
-use Rattle.buffer.specs.Roll.{firstForeign, symbolsFor}
-use Rattle.buffer.specs.Words.{uptoOf, takenOf, Spelt}
-use Rattle.buffer.specs.Laws.Words.{Fitted, foreign-found, over-found, all-fitted, laid, row-below}
+use Rattle.texts.specs.Paper.Characters.{firstForeign}
+use Rattle.sound.specs.Paper.Roll.{symbolsFor}
+use Rattle.store.specs.Helpers.Words.{uptoOf, takenOf, Spelt}
+use Rattle.store.specs.Laws.Words.{Fitted, foreign-found, over-found, all-fitted, laid, row-below}
+use Rattle.store.specs.declared.words.Fit.{Fit}
 use Rattle.roll.specs.Laws.Operations.{pack-1, pack-3, pack-4, pack-yes, packed-front}
-use Rattle.buffer.specs.declared.words.Fit.{Fit}
 use Rattle.roll.proofs.pack.pack.Statement.{statement}
 use Rattle.roll.proofs.pack.pack.Tie as tie
 
@@ -97,23 +99,11 @@ upto-is f = ap (λ (x : Fit). x .upto) (f .fitting .ensures) ∙ ap (λ (n : ℕ
 taken-is : (f : tie.After-fitting) → f .fitting .result .taken ≡ takenOf (lengths f) (holds f) (text f)
 taken-is f = ap (λ (x : Fit). x .taken) (f .fitting .ensures) ∙ ap (λ (n : ℕ). takenOf (lengths f) n (text f)) (f .before .room-of .ensures)
 
-good-table-requires : tie.Need-good-table-requires
-good-table-requires c κs = search needs
-
-refused-requires : tie.Need-refused-requires
-refused-requires c κs = search needs
-
 returns : tie.Need-returns
 returns c =
     let g = c .before .before in
     let a = g .before .before .before .args in
     pack-1 (a .table) (a .text .now) (a .buf .now) (sym (g .good-table .ensures) ∙ not-true _ (c .before .if1 .taken)) (c .refused .ensures)
-
-slice-aggregate-spell-all : tie.Need-slice-aggregate-spell-all
-slice-aggregate-spell-all c = search needs
-
-slice-aggregate-spell-all-2 : tie.Need-slice-aggregate-spell-all-2
-slice-aggregate-spell-all-2 c = search needs
 
 spell-all-requires : tie.Need-spell-all-requires
 unfolding zeros
@@ -122,20 +112,8 @@ spell-all-requires c κs =
     let t = e .before .before .before .before .args .table in
     (code e, table-few t (is-good t (good e)), refl, length-replicate {A = ℕ} 22016 0)
 
-slice-aggregate-fitting : tie.Need-slice-aggregate-fitting
-slice-aggregate-fitting c = search needs
-
 room-of-requires : tie.Need-room-of-requires
 room-of-requires c κs = width (c .before .before .before .before .before .before .before .before)
-
-fitting-requires : tie.Need-fitting-requires
-fitting-requires c κs = search needs
-
-slice-aggregate-first-foreign : tie.Need-slice-aggregate-first-foreign
-slice-aggregate-first-foreign c = search needs
-
-first-foreign-requires : tie.Need-first-foreign-requires
-first-foreign-requires c κs = search needs
 
 -- ---- refused
 
@@ -144,17 +122,11 @@ found q =
     let f = q .before .before .before in
     foreign-found (table f .code) (code (checked f)) (characters (table f)) (lengths f) (words f) (spelt f) (bytes f) (holds f) (upto-is f) (q .first-foreign .ensures)
 
-refused-requires-2 : tie.Need-refused-requires-2
-refused-requires-2 c κs = search needs
-
 returns-2 : tie.Need-returns-2
 returns-2 c =
     let q = c .before .before in
     let f = q .before .before .before in
     pack-3 (table f) (text f) (buf f) (good (checked f)) (found q) (c .before .if3 .taken) (c .refused2 .ensures)
-
-refused-requires-3 : tie.Need-refused-requires-3
-refused-requires-3 c κs = search needs
 
 returns-3 : tie.Need-returns-3
 returns-3 c =
@@ -177,12 +149,6 @@ h-few : (d : tie.Else2) → d .before .fitting .result .taken ≤ limit
 h-few d =
     let f = d .before in
     omega (arith, h-is d, fitted d .inside, room-limit (table f .code .k) (length (buf f)))
-
-slice-aggregate-write-text : tie.Need-slice-aggregate-write-text
-slice-aggregate-write-text c = search needs
-
-slice-aggregate-write-text-2 : tie.Need-slice-aggregate-write-text-2
-slice-aggregate-write-text-2 c = search needs
 
 write-text-requires : tie.Need-write-text-requires
 write-text-requires c κs =
@@ -230,9 +196,6 @@ cast-t38 c = let d = fits (c .before .before .before) in omega (arith, h-is d, h
 cast-t39 : tie.Need-cast-t39
 cast-t39 c = let d = fits (c .before .before .before) in omega (arith, h-few d, limit-fits)
 
-same-length : tie.Need-same-length
-same-length c = search needs
-
 returns-4 : tie.Need-returns-4
 returns-4 c =
     let u = c .before .before .before in
@@ -254,28 +217,28 @@ pub pack-spec : {M : Type 1} → statement M
 pack-spec =
     tie.close
     (tie.spec
-    good-table-requires
-    refused-requires
+    (λ c κs. search needs)
+    (λ c κs. search needs)
     returns
-    slice-aggregate-spell-all
-    slice-aggregate-spell-all-2
+    (λ c. search needs)
+    (λ c. search needs)
     spell-all-requires
-    slice-aggregate-fitting
+    (λ c. search needs)
     room-of-requires
-    fitting-requires
-    slice-aggregate-first-foreign
-    first-foreign-requires
-    refused-requires-2
+    (λ c κs. search needs)
+    (λ c. search needs)
+    (λ c κs. search needs)
+    (λ c κs. search needs)
     returns-2
-    refused-requires-3
+    (λ c κs. search needs)
     returns-3
-    slice-aggregate-write-text
-    slice-aggregate-write-text-2
+    (λ c. search needs)
+    (λ c. search needs)
     write-text-requires
     unused-requires
     add-clear
     clear-requires
     cast-t38
     cast-t39
-    same-length
+    (λ c. search needs)
     returns-4)

@@ -1,7 +1,7 @@
 -- `roll::pack::refused` meets its contract.
 -- Assumes nothing.
 use mathlib.Core.Path.{refl}
-use Rattle.roll.specs.Operations.{refusedPack}
+use Rattle.roll.specs.Helpers.Refused.{refusedPack}
 use Rattle.roll.proofs.pack.refused.Statement.{statement}
 use Rattle.roll.proofs.pack.refused.Tie as tie
 

@@ -9,17 +9,18 @@ use borrow.Author.Needs.{needs}
 use borrow.Author.Tests.{not-true, not-false}
 use lib.ListN.{length, getD}
 use Rattle.ground.specs.declared.answers.Answer.the-variants.{Refused}
-use Rattle.stopper.specs.Table.{goodTable}
+use Rattle.stopper.specs.Paper.Table.{goodTable}
 use Rattle.stopper.specs.Laws.Table.{is-good, table-code, code-width}
-use Rattle.symbols.specs.Symbols.{room}
-use Rattle.buffer.specs.Roll.{rowUpto}
-use Rattle.buffer.specs.Codewords.{Reads, foundAt, passedFrom, lost}
-use Rattle.roll.specs.Operations.{oneRead, ReadingOne}
-use Rattle.buffer.specs.Laws.Codewords.{found-word, passed-upto, one-passed, one-bad, one-word}
-use Rattle.buffer.specs.Laws.Sound.{row-length, table-reads}
+use Rattle.symbols.specs.Paper.Symbols.{room}
+use Rattle.sound.specs.Paper.Roll.{rowUpto}
+use Rattle.sound.specs.Paper.Codewords.{foundAt, passedFrom, lost}
+use Rattle.sound.specs.Helpers.Codewords.{Reads}
+use Rattle.sound.specs.Laws.Codewords.{found-word, passed-upto, one-passed, one-bad, one-word}
+use Rattle.sound.specs.Laws.Sound.{row-length, table-reads}
+use Rattle.sound.specs.declared.reading.Found.the-variants.{Word}
+use Rattle.sound.specs.declared.reading.Passed.the-variants.{At}
+use Rattle.roll.specs.Paper.Operations.{oneRead, ReadingOne}
 use Rattle.roll.specs.Laws.Operations.{read-1, read-5, read-10, read-9-missing, read-9-wrong, read-6, read-yes}
-use Rattle.buffer.specs.declared.reading.Found.the-variants.{Word}
-use Rattle.buffer.specs.declared.reading.Passed.the-variants.{At}
 use Rattle.roll.proofs.read_one.read_one.Statement.{statement}
 use Rattle.roll.proofs.read_one.read_one.Tie as tie
 
@@ -85,16 +86,10 @@ word-is : (c : tie.After-found) → let p = c .before .before .before .before in
     Word (c .found .given .0 .0) (c .found .given .0 .1 .0) ≡ foundAt (s .args .roll .table .code) (s .args .roll .table .sigma) (row s) (p .passed2 .given .0 .0)
 word-is c = sym (c .found .given .1) ∙ c .before .before .codeword-at .ensures
 
-good-table-requires : tie.Need-good-table-requires
-good-table-requires c κs = search needs
-
 returns : tie.Need-returns
 returns c =
     let a = c .before .before .before .before .before .args in
     read-1 (a .roll) (a .buf .now) (a .dir .now) (a .place) (sym (c .before .good-table .ensures) ∙ not-true _ (c .if1 .taken))
-
-cast-h : tie.Need-cast-h
-cast-h c = search needs
 
 room-of-requires : tie.Need-room-of-requires
 room-of-requires c κs =
@@ -108,9 +103,6 @@ returns-2 c =
     let a = start e .args in
     read-5 (a .roll) (a .buf .now) (a .dir .now) (a .place) (good e) (omega (arith, c .if2 .taken, c .before .room-of .ensures))
 
-cast-if3 : tie.Need-cast-if3
-cast-if3 c = search needs
-
 returns-3 : tie.Need-returns-3
 returns-3 c =
     let f = c .before .before in
@@ -123,12 +115,6 @@ returns-4 c =
     let a = start (tabled f) .args in
     read-9-missing (a .roll) (a .buf .now) (a .dir .now) (a .place) (good (tabled f)) (fits f) (c .before .if3 .left) (c .if4 .taken)
 
-mul-first : tie.Need-mul-first
-mul-first c = search needs
-
-shared-slice-read-first : tie.Need-shared-slice-read-first
-shared-slice-read-first c = search needs
-
 cast-first : tie.Need-cast-first
 cast-first c = let a = start (tabled (fitted (c .before .before))) .args in omega (arith, c .shared-slice-known3 .given (a .place / 32))
 
@@ -139,29 +125,14 @@ returns-5 c =
     let a = start (tabled f) .args in
     read-9-wrong (a .roll) (a .buf .now) (a .dir .now) (a .place) (good (tabled f)) (fits f) (e .before .if3 .left) (e .if4 .left) (c .if5 .taken)
 
-cast-sigma : tie.Need-cast-sigma
-cast-sigma c = search needs
-
 pass-over-requires : tie.Need-pass-over-requires
 pass-over-requires c κs = let e = c .before .before in reads (fitted (placed e)) _ (omega (arith, e .if5 .left))
-
-enum-known-passed : tie.Need-enum-known-passed
-enum-known-passed c = search needs
-
-enum-known-passed-2 : tie.Need-enum-known-passed-2
-enum-known-passed-2 c = search needs
 
 codeword-at-requires : tie.Need-codeword-at-requires
 codeword-at-requires c κs =
     let p = c .before in
     let y = p .before .before in
     reads (fitted (placed (entered y))) (p .passed2 .given .0 .0) (omega (arith, at-upto p, long y))
-
-enum-known-found : tie.Need-enum-known-found
-enum-known-found c = search needs
-
-cast-t30 : tie.Need-cast-t30
-cast-t30 c = search needs
 
 array-read-t33 : tie.Need-array-read-t33
 array-read-t33 c =
@@ -171,9 +142,6 @@ array-read-t33 c =
     let g = reads (fitted (placed (entered y))) 0 (omega arith) in
     let w = found-word (a .roll .table .code) (g .good) (a .roll .table .sigma) (row (begun y)) (word-is (c .before)) (at-upto p) in
     omega (arith, w .rank, g .few)
-
-enum-told : tie.Need-enum-told
-enum-told c = search needs
 
 returns-6 : tie.Need-returns-6
 returns-6 c =
@@ -207,27 +175,27 @@ pub read-one-spec : {M : Type 1} → statement M
 read-one-spec =
     tie.close
     (tie.spec
-    good-table-requires
+    (λ c κs. search needs)
     returns
-    cast-h
+    (λ c. search needs)
     room-of-requires
     returns-2
-    cast-if3
+    (λ c. search needs)
     returns-3
     returns-4
-    mul-first
-    shared-slice-read-first
+    (λ c. search needs)
+    (λ c. search needs)
     cast-first
     returns-5
-    cast-sigma
+    (λ c. search needs)
     pass-over-requires
-    enum-known-passed
-    enum-known-passed-2
+    (λ c. search needs)
+    (λ c. search needs)
     codeword-at-requires
-    enum-known-found
-    cast-t30
+    (λ c. search needs)
+    (λ c. search needs)
     array-read-t33
-    enum-told
+    (λ c. search needs)
     returns-6
     returns-7
     returns-8)

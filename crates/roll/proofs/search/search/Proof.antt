@@ -6,9 +6,9 @@ use mathlib.Core.Bool.{true}
 use borrow.Author.Needs.{needs}
 use borrow.Author.Tests.{ltb-true, ltb-false}
 use Rattle.ground.specs.Laws.Tests.{true-yes}
-use Rattle.buffer.specs.Hits.{goodPattern}
-use Rattle.buffer.specs.Roll.{Sound}
-use Rattle.buffer.specs.Laws.Patterns.{pattern-bad, pattern-good}
+use Rattle.texts.specs.Paper.Hits.{goodPattern}
+use Rattle.texts.specs.Laws.Patterns.{pattern-bad, pattern-good}
+use Rattle.sound.specs.Paper.Roll.{Sound}
 use Rattle.roll.specs.Laws.Operations.{check-sound, search-check, search-11, search-yes}
 use Rattle.roll.proofs.search.search.Statement.{statement}
 use Rattle.roll.proofs.search.search.Tie as tie
@@ -26,20 +26,11 @@ sound c = let a = start (checked c) .args in check-sound (a .roll) (a .buf .now)
 good : (c : tie.Else2) → goodPattern (start (checked (c .before .before)) .args .pattern .now) ≡ true
 good c = pattern-good _ (c .before .if1 .left) (ltb-false _ _ (c .if2 .left))
 
-check-requires : tie.Need-check-requires
-check-requires c κs = search needs
-
-enum-known-checked : tie.Need-enum-known-checked
-enum-known-checked c = search needs
-
 returns : tie.Need-returns
 returns c =
     let k = c .before .before .before in
     let a = start k .args in
     search-check (a .roll) (a .buf .now) (a .pattern .now) (a .slice .now) (k .check .ensures) (c .before .checked .given .1)
-
-enum-told : tie.Need-enum-told
-enum-told c = search needs
 
 returns-2 : tie.Need-returns-2
 returns-2 c =
@@ -49,9 +40,6 @@ returns-2 c =
 
 search-sound-requires : tie.Need-search-sound-requires
 search-sound-requires c κs = (sound (c .before .before .before), true-yes _ (good (c .before)))
-
-same-length : tie.Need-same-length
-same-length c = search needs
 
 returns-3 : tie.Need-returns-3
 returns-3 c =
@@ -64,11 +52,11 @@ pub search-spec : {M : Type 1} → statement M
 search-spec =
     tie.close
     (tie.spec
-    check-requires
-    enum-known-checked
+    (λ c κs. search needs)
+    (λ c. search needs)
     returns
-    enum-told
+    (λ c. search needs)
     returns-2
     search-sound-requires
-    same-length
+    (λ c. search needs)
     returns-3)

@@ -1,7 +1,7 @@
 -- `roll::unpack::unpack` meets its contract.
 -- Assumes nothing.
 use borrow.Author.Needs.{needs}
-use Rattle.buffer.specs.Roll.{Sound}
+use Rattle.sound.specs.Paper.Roll.{Sound}
 use Rattle.roll.specs.Laws.Operations.{check-sound, unpack-check, unpack-10-start, unpack-10-end, unpack-13, unpack-yes}
 use Rattle.roll.proofs.unpack.unpack.Statement.{statement}
 use Rattle.roll.proofs.unpack.unpack.Tie as tie
@@ -16,15 +16,6 @@ checked c = c .before .before
 sound : (c : tie.After-enum-told) → let a = start (checked c) .args in Sound (a .roll) (a .buf .now)
 sound c = let a = start (checked c) .args in check-sound (a .roll) (a .buf .now) (checked c .check .ensures) (c .enum-told .given .1)
 
-check-requires : tie.Need-check-requires
-check-requires c κs = search needs
-
-enum-told : tie.Need-enum-told
-enum-told c = search needs
-
-enum-told-2 : tie.Need-enum-told-2
-enum-told-2 c = search needs
-
 returns : tie.Need-returns
 returns c =
     let k = c .before .before in
@@ -35,9 +26,6 @@ returns-2 : tie.Need-returns-2
 returns-2 c =
     let a = start (checked (c .before)) .args in
     unpack-10-start (a .roll) (a .buf .now) (a .start) (a .end) (a .out .now) (sound (c .before)) (c .if1 .taken)
-
-cast-n : tie.Need-cast-n
-cast-n c = search needs
 
 returns-3 : tie.Need-returns-3
 returns-3 c =
@@ -57,9 +45,6 @@ unpack-sound-requires c κs =
     let e = l .before .before .before in
     (sound (e .before), e .if1 .left, l .before .if2 .left, l .if3 .left)
 
-same-length : tie.Need-same-length
-same-length c = search needs
-
 returns-5 : tie.Need-returns-5
 returns-5 c =
     let u = c .before .before in
@@ -72,14 +57,14 @@ pub unpack-spec : {M : Type 1} → statement M
 unpack-spec =
     tie.close
     (tie.spec
-    check-requires
-    enum-told
-    enum-told-2
+    (λ c κs. search needs)
+    (λ c. search needs)
+    (λ c. search needs)
     returns
     returns-2
-    cast-n
+    (λ c. search needs)
     returns-3
     returns-4
     unpack-sound-requires
-    same-length
+    (λ c. search needs)
     returns-5)

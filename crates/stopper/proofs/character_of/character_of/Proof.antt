@@ -5,8 +5,8 @@ use mathlib.Core.Bool.{true}
 use native.Mathlib.Omega.{arith}
 use borrow.Author.Needs.{needs}
 use borrow.Author.Tests.{not-true, not-false}
-use Rattle.stopper.specs.Table.{goodTable}
-use Rattle.stopper.specs.Operations.{symbols}
+use Rattle.stopper.specs.Paper.Table.{goodTable}
+use Rattle.stopper.specs.Paper.Operations.{symbols}
 use Rattle.stopper.specs.Laws.Table.{is-good, table-code, table-few}
 use Rattle.stopper.specs.Laws.Operations.{rank-below, character-1, character-long, character-none, character-read}
 use Rattle.stopper.proofs.character_of.character_of.Statement.{statement}
@@ -15,17 +15,11 @@ use Rattle.stopper.proofs.character_of.character_of.Tie as tie
 good : (c : tie.Else1) → goodTable (c .before .before .args .table) ≡ true
 good c = sym (c .before .good-table .ensures) ∙ not-false _ (c .if1 .left)
 
-good-table-requires : tie.Need-good-table-requires
-good-table-requires c κs = search needs
-
 returns : tie.Need-returns
 returns c = character-1 (c .before .before .args .table) (c .before .before .args .word) (sym (c .before .good-table .ensures) ∙ not-true _ (c .if1 .taken))
 
 returns-2 : tie.Need-returns-2
 returns-2 c = let a = c .before .before .before .args in character-long (a .table) (a .word) (good (c .before)) (c .if2 .taken)
-
-cast-sigma : tie.Need-cast-sigma
-cast-sigma c = search needs
 
 rank-of-word-requires : tie.Need-rank-of-word-requires
 rank-of-word-requires c κs =
@@ -34,12 +28,6 @@ rank-of-word-requires c κs =
     let g = is-good t (good (e .before)) in
     (table-code t g, table-few t g, e .if2 .left)
 
-enum-known-found : tie.Need-enum-known-found
-enum-known-found c = search needs
-
-cast-t13 : tie.Need-cast-t13
-cast-t13 c = search needs
-
 array-read-t16 : tie.Need-array-read-t16
 array-read-t16 c =
     let r = c .before .before .before in
@@ -47,9 +35,6 @@ array-read-t16 c =
     let a = e .before .before .before .args in
     let g = is-good (a .table) (good (e .before)) in
     omega (arith, table-few (a .table) g, rank-below (a .table .code) (a .table .sigma) (symbols (a .word)) (sym (c .before .found .given .1) ∙ r .rank-of-word .ensures))
-
-enum-told : tie.Need-enum-told
-enum-told c = search needs
 
 returns-3 : tie.Need-returns-3
 returns-3 c =
@@ -68,4 +53,4 @@ returns-4 c =
 pub character-of-spec : {M : Type 1} → statement M
 character-of-spec =
     tie.close
-    (tie.spec good-table-requires returns returns-2 cast-sigma rank-of-word-requires enum-known-found cast-t13 array-read-t16 enum-told returns-3 returns-4)
+    (tie.spec (λ c κs. search needs) returns returns-2 (λ c. search needs) rank-of-word-requires (λ c. search needs) (λ c. search needs) array-read-t16 (λ c. search needs) returns-3 returns-4)

@@ -41,12 +41,6 @@ here c = let s = c .before .before .before .before in getD-take (s .args .length
 inside : (c : tie.In-loop Inv-loop μ-loop) → c .before .loop .i < lib.ListN.length (word (c .before .before .before .before))
 inside c = omega (arith, c .before .loop .inv .long, c .loop-test .taken)
 
-base-of-requires : tie.Need-base-of-requires Inv-loop μ-loop
-base-of-requires c κs = search needs
-
-opening-requires : tie.Need-opening-requires Inv-loop μ-loop
-opening-requires c κs = search needs
-
 loop-holds : tie.Need-loop-holds Inv-loop μ-loop
 loop-holds c =
     let s = c .before .before in
@@ -57,12 +51,6 @@ loop-holds c =
       seen = rw (c .opening .ensures) (start (s .args .code) (s .args .sigma) (word s));
     }
 
-array-read-y : tie.Need-array-read-y Inv-loop μ-loop
-array-read-y c = omega arith
-
-wide-requires : tie.Need-wide-requires Inv-loop μ-loop
-wide-requires c κs = search needs
-
 returns : tie.Need-returns Inv-loop μ-loop
 returns c =
     let n = c .before .before in
@@ -70,21 +58,12 @@ returns c =
     too-big (s .args .code) (s .pre .0) (s .args .sigma) (word s) (n .before .loop .inv .seen) (inside n) (here n)
     (omega (arith, c .before .wide .ensures, n .before .before .before .base-of .ensures, c .if1 .taken))
 
-add-i : tie.Need-add-i Inv-loop μ-loop
-add-i c = omega arith
-
 read-symbol-requires : tie.Need-read-symbol-requires Inv-loop μ-loop
 read-symbol-requires c κs =
     let l = c .before .before .before in
     let s = l .before .before .before in
     let v = l .loop .inv .seen in
     (s .pre .0, s .pre .1, rw (v .state) (state-small (s .args .code) (s .pre .0) (s .args .sigma) (s .pre .1) (l .loop .i) (v .x) (v .value)))
-
-enum-known-next : tie.Need-enum-known-next Inv-loop μ-loop
-enum-known-next c = search needs
-
-if-last-requires : tie.Need-if-last-requires Inv-loop μ-loop
-if-last-requires c κs = search needs
 
 returns-2 : tie.Need-returns-2 Inv-loop μ-loop
 returns-2 c =
@@ -95,21 +74,12 @@ returns-2 c =
     c .if-last .ensures
     ∙ is-rank (s .args .code) (s .pre .0) (s .args .sigma) (word s) (n .before .loop .inv .seen) (inside n) (here n) (sym (x .next .given .1) ∙ y .read-symbol .ensures) _ (sym (long s))
 
-enum-told : tie.Need-enum-told Inv-loop μ-loop
-enum-told c = search needs
-
 returns-3 : tie.Need-returns-3 Inv-loop μ-loop
 returns-3 c =
     let y = c .before .before in
     let n = y .before .before .before in
     let s = n .before .before .before .before in
     is-bad (s .args .code) (s .pre .0) (s .args .sigma) (word s) (n .before .loop .inv .seen) (inside n) (here n) (sym (c .enum-told .given .1) ∙ y .read-symbol .ensures)
-
-enum-known-next-2 : tie.Need-enum-known-next-2 Inv-loop μ-loop
-enum-known-next-2 c = search needs
-
-loop-less : tie.Need-loop-less Inv-loop μ-loop
-loop-less c = omega arith
 
 loop-again : tie.Need-loop-again Inv-loop μ-loop
 loop-again c =
@@ -138,20 +108,20 @@ rank-of-word-spec =
     (tie.spec
     Inv-loop
     μ-loop
-    base-of-requires
-    opening-requires
+    (λ c κs. search needs)
+    (λ c κs. search needs)
     loop-holds
-    array-read-y
-    wide-requires
+    (λ c. omega arith)
+    (λ c κs. search needs)
     returns
-    add-i
+    (λ c. omega arith)
     read-symbol-requires
-    enum-known-next
-    if-last-requires
+    (λ c. search needs)
+    (λ c κs. search needs)
     returns-2
-    enum-told
+    (λ c. search needs)
     returns-3
-    enum-known-next-2
-    loop-less
+    (λ c. search needs)
+    (λ c. omega arith)
     loop-again
     returns-4)

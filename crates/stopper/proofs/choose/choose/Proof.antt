@@ -6,19 +6,13 @@ use native.Mathlib.Omega.{arith}
 use borrow.Author.Needs.{needs}
 use borrow.Author.Tests.{not-true, not-false}
 use lib.Dec.{T}
-use Rattle.stopper.specs.Table.{goodWidth}
-use Rattle.stopper.specs.Choosing.{counted}
+use Rattle.stopper.specs.Paper.Table.{goodWidth}
+use Rattle.stopper.specs.Paper.Choosing.{counted}
 use Rattle.stopper.specs.Laws.Ranking.{length-ranked}
 use Rattle.stopper.specs.Laws.Operations.{choose-1, choose-2, choose-yes}
 use Rattle.stopper.specs.declared.ranking.Ranking.{Ranking}
 use Rattle.stopper.proofs.choose.choose.Statement.{statement}
 use Rattle.stopper.proofs.choose.choose.Tie as tie
-
-good-width-requires : tie.Need-good-width-requires
-good-width-requires c κs = search needs
-
-refused-requires : tie.Need-refused-requires
-refused-requires c κs = search needs
 
 returns : tie.Need-returns
 returns c = choose-1 _ _ (sym (c .before .before .good-width .ensures) ∙ not-true _ (c .before .if1 .taken)) (c .refused .ensures)
@@ -27,14 +21,8 @@ returns c = choose-1 _ _ (sym (c .before .before .good-width .ensures) ∙ not-t
 width : (c : tie.Else1) → goodWidth (c .before .before .before .args .k) ≡ true
 width c = sym (c .before .good-width .ensures) ∙ not-false _ (c .if1 .left)
 
-refused-requires-2 : tie.Need-refused-requires-2
-refused-requires-2 c κs = search needs
-
 returns-2 : tie.Need-returns-2
 returns-2 c = choose-2 _ _ (width (c .before .before)) (c .before .if2 .taken) (c .refused2 .ensures)
-
-ranking-of-requires : tie.Need-ranking-of-requires
-ranking-of-requires c κs = search needs
 
 best-of-requires : tie.Need-best-of-requires
 best-of-requires c κs = (subst T (sym (width (c .before .before))) tt, c .before .if2 .left, c .ranking-of .ensures)
@@ -53,12 +41,12 @@ pub choose-spec : {M : Type 1} → statement M
 choose-spec =
     tie.close
     (tie.spec
-    good-width-requires
-    refused-requires
+    (λ c κs. search needs)
+    (λ c κs. search needs)
     returns
-    refused-requires-2
+    (λ c κs. search needs)
     returns-2
-    ranking-of-requires
+    (λ c κs. search needs)
     best-of-requires
     cast-t13
     returns-3)

@@ -1,8 +1,8 @@
 -- `stopper::choose::refused` meets its contract.
 -- Assumes nothing.
 use mathlib.Core.Path.{refl}
-use Rattle.ground.specs.Rows.{zeros, padded}
-use Rattle.stopper.specs.Operations.{refusedChoice}
+use Rattle.ground.specs.Paper.Rows.{zeros, padded}
+use Rattle.stopper.specs.Helpers.Answers.{refusedChoice}
 use Rattle.stopper.proofs.choose.refused.Statement.{statement}
 use Rattle.stopper.proofs.choose.refused.Tie as tie
 

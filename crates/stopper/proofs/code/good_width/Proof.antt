@@ -1,7 +1,7 @@
 -- `stopper::code::good_width` meets its contract.
 -- Assumes nothing.
 use borrow.Author.Tests.{eq-eqb, ne-eqb}
-use Rattle.stopper.specs.Table.{goodWidth}
+use Rattle.stopper.specs.Paper.Table.{goodWidth}
 use Rattle.stopper.proofs.code.good_width.Statement.{statement}
 use Rattle.stopper.proofs.code.good_width.Tie as tie
 

@@ -6,8 +6,9 @@ use native.Mathlib.Nat.{mul-pos}
 use native.Mathlib.Omega.{arith}
 use borrow.Author.Needs.{needs}
 use lib.Dec.{T}
-use Rattle.stopper.specs.Code.{place, shorter}
-use Rattle.stopper.specs.Table.{base, stoppers, goodCode, placeOf}
+use Rattle.stopper.specs.Paper.Code.{place, shorter}
+use Rattle.stopper.specs.Paper.Table.{base, stoppers, goodCode}
+use Rattle.stopper.specs.Helpers.Answers.{placeOf}
 use Rattle.stopper.specs.Laws.Table.{code-base, code-good}
 use Rattle.stopper.specs.declared.code.Code.{Code}
 use Rattle.stopper.specs.declared.code.Place.{Place}
@@ -34,9 +35,6 @@ ended c rank s i short rows g a h =
 base-of-requires : tie.Need-base-of-requires Inv-loop μ-loop
 base-of-requires c κs = c .pre .0
 
-stoppers-at-requires : tie.Need-stoppers-at-requires Inv-loop μ-loop
-stoppers-at-requires c κs = search needs
-
 loop-holds : tie.Need-loop-holds Inv-loop μ-loop
 loop-holds c =
     let a = c .before .before in
@@ -48,23 +46,8 @@ mul-loop c = omega (arith, big {b = c .loop .s} (c .loop .inv .2 .small) (omega 
 add-loop : tie.Need-add-loop Inv-loop μ-loop
 add-loop c = omega (arith, c .loop .inv .2 .low, big {b = c .loop .s} (c .loop .inv .2 .small) (omega arith))
 
-mul-shorter : tie.Need-mul-shorter Inv-loop μ-loop
-mul-shorter c = omega arith
-
-add-shorter : tie.Need-add-shorter Inv-loop μ-loop
-add-shorter c = omega arith
-
-sub-rows : tie.Need-sub-rows Inv-loop μ-loop
-sub-rows c = omega arith
-
 mul-rows : tie.Need-mul-rows Inv-loop μ-loop
 mul-rows c = omega (arith, big {b = c .before .before .before .base-of .result - c .before .loop .s} (c .before .loop .inv .2 .small) (omega arith))
-
-add-at : tie.Need-add-at Inv-loop μ-loop
-add-at c = omega arith
-
-stoppers-at-requires-2 : tie.Need-stoppers-at-requires-2 Inv-loop μ-loop
-stoppers-at-requires-2 c κs = search needs
 
 loop-less : tie.Need-loop-less Inv-loop μ-loop
 loop-less c =
@@ -92,16 +75,16 @@ place-of-spec =
     Inv-loop
     μ-loop
     base-of-requires
-    stoppers-at-requires
+    (λ c κs. search needs)
     loop-holds
     mul-loop
     add-loop
-    mul-shorter
-    add-shorter
-    sub-rows
+    (λ c. omega arith)
+    (λ c. omega arith)
+    (λ c. omega arith)
     mul-rows
-    add-at
-    stoppers-at-requires-2
+    (λ c. omega arith)
+    (λ c κs. search needs)
     loop-less
     loop-again
     sub-t11

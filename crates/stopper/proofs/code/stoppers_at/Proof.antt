@@ -2,16 +2,13 @@
 -- Assumes nothing.
 use mathlib.Core.Path.{refl}
 use borrow.Author.Needs.{needs}
-use Rattle.stopper.specs.Table.{stoppers}
+use Rattle.stopper.specs.Paper.Table.{stoppers}
 use Rattle.stopper.proofs.code.stoppers_at.Statement.{statement}
 use Rattle.stopper.proofs.code.stoppers_at.Tie as tie
-
-cast-result : tie.Need-cast-result
-cast-result c = search needs
 
 returns : tie.Need-returns
 unfolding stoppers
 returns c = refl
 
 pub stoppers-at-spec : {M : Type 1} → statement M
-stoppers-at-spec = tie.close (tie.spec cast-result returns)
+stoppers-at-spec = tie.close (tie.spec (λ c. search needs) returns)

@@ -9,8 +9,8 @@ use borrow.Author.Tests.{lt-ltb, le-ltb, not-true, not-false}
 use lib.Dec.{ltb}
 use lib.ListN.{length}
 use lib.Seq.{length-take-le}
-use Rattle.ground.specs.Rows.{zeros}
-use Rattle.stopper.specs.Table.{goodTable, characters, has}
+use Rattle.ground.specs.Paper.Rows.{zeros}
+use Rattle.stopper.specs.Paper.Table.{goodTable, characters, has}
 use Rattle.stopper.specs.Laws.Table.{is-good, table-code, table-few, length-small}
 use Rattle.stopper.specs.Laws.Characters.{has-rank}
 use Rattle.stopper.specs.Laws.Operations.{codeword-1, codeword-3, codeword-yes}
@@ -33,25 +33,13 @@ there c q =
     has-rank (characters t) (s .args .character)
     ∙ ap₂ ltb (sym (c .rank-of .ensures)) (length-take-le (t .sigma) (t .places) (omega (arith, long s, table-few t (is-good t (good e))))) ∙ q
 
-good-table-requires : tie.Need-good-table-requires
-good-table-requires c κs = search needs
-
-refused-requires : tie.Need-refused-requires
-refused-requires c κs = search needs
-
 returns : tie.Need-returns
 returns c =
     let s = c .before .before .before in
     rw (c .refused .ensures) (codeword-1 (s .args .table) (s .args .character) (sym (c .before .before .good-table .ensures) ∙ not-true _ (c .before .if1 .taken)))
 
-cast-sigma : tie.Need-cast-sigma
-cast-sigma c = search needs
-
 rank-of-requires : tie.Need-rank-of-requires
 rank-of-requires c κs = let e = c .before .before in let t = e .before .before .args .table in table-few t (is-good t (good e))
-
-refused-requires-2 : tie.Need-refused-requires-2
-refused-requires-2 c κs = search needs
 
 returns-2 : tie.Need-returns-2
 returns-2 c =
@@ -59,12 +47,6 @@ returns-2 c =
     let e = r .before .before .before in
     let a = e .before .before .args in
     rw (c .refused2 .ensures) (codeword-3 (a .table) (a .character) (good e) (there r (le-ltb _ _ (c .before .if2 .taken))))
-
-cast-symbols-of : tie.Need-cast-symbols-of
-cast-symbols-of c = search needs
-
-slice-aggregate-symbols-of : tie.Need-slice-aggregate-symbols-of
-slice-aggregate-symbols-of c = search needs
 
 symbols-of-requires : tie.Need-symbols-of-requires
 symbols-of-requires c κs =
@@ -88,14 +70,14 @@ pub codeword-of-spec : {M : Type 1} → statement M
 codeword-of-spec =
     tie.close
     (tie.spec
-    good-table-requires
-    refused-requires
+    (λ c κs. search needs)
+    (λ c κs. search needs)
     returns
-    cast-sigma
+    (λ c. search needs)
     rank-of-requires
-    refused-requires-2
+    (λ c κs. search needs)
     returns-2
-    cast-symbols-of
-    slice-aggregate-symbols-of
+    (λ c. search needs)
+    (λ c. search needs)
     symbols-of-requires
     returns-3)

@@ -1,8 +1,8 @@
 -- `stopper::codeword_of::refused` meets its contract.
 -- Assumes nothing.
 use mathlib.Core.Path.{refl}
-use Rattle.ground.specs.Rows.{zeros, padded}
-use Rattle.stopper.specs.Operations.{refusedWord}
+use Rattle.ground.specs.Paper.Rows.{zeros, padded}
+use Rattle.stopper.specs.Helpers.Answers.{refusedWord}
 use Rattle.stopper.proofs.codeword_of.refused.Statement.{statement}
 use Rattle.stopper.proofs.codeword_of.refused.Tie as tie
 

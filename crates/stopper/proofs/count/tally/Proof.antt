@@ -9,10 +9,10 @@ use native.Mathlib.Omega.{arith}
 use borrow.Author.Tests.{eq-eqb, ne-eqb}
 use lib.ListN.{length, getD, take, set, length-set}
 use lib.Seq.{take-length, length-take-le}
-use Rattle.ground.specs.Rows.{tab}
+use Rattle.ground.specs.Paper.Rows.{tab}
 use Rattle.ground.specs.Laws.Limit.{limit-fits}
 use Rattle.ground.specs.Laws.Rows.{length-zeros, tab-at, tab-zeros, tab-set}
-use Rattle.stopper.specs.Choosing.{occurs, countsOf}
+use Rattle.stopper.specs.Paper.Choosing.{occurs, countsOf}
 use Rattle.stopper.specs.Laws.Counting.{occurs-none, occurs-more, occurs-le}
 use Rattle.stopper.proofs.count.tally.Statement.{statement}
 use Rattle.stopper.proofs.count.tally.Tie as tie
@@ -35,9 +35,6 @@ small c = omega (arith, c .shared-slice-known .given (c .before .before .loop .i
 
 loop-holds : tie.Need-loop-holds Inv-loop μ-loop
 loop-holds c = (omega arith, c .pre .1 ∙ tab-zeros _ 256 occurs-none, ap length (c .pre .1) ∙ length-zeros 256)
-
-shared-slice-read-b : tie.Need-shared-slice-read-b Inv-loop μ-loop
-shared-slice-read-b c = omega arith
 
 cast-b : tie.Need-cast-b Inv-loop μ-loop
 cast-b c = omega (arith, small c)
@@ -64,12 +61,6 @@ mul-counts-2 c = omega (arith, small (c .before))
 
 slice-write-counts : tie.Need-slice-write-counts Inv-loop μ-loop
 slice-write-counts c = omega (arith, small (c .before))
-
-add-i : tie.Need-add-i Inv-loop μ-loop
-add-i c = omega arith
-
-loop-less : tie.Need-loop-less Inv-loop μ-loop
-loop-less c = omega arith
 
 loop-again : tie.Need-loop-again Inv-loop μ-loop
 loop-again c =
@@ -104,15 +95,15 @@ tally-spec =
     Inv-loop
     μ-loop
     loop-holds
-    shared-slice-read-b
+    (λ c. omega arith)
     cast-b
     mul-counts
     slice-read-counts
     add-counts
     mul-counts-2
     slice-write-counts
-    add-i
-    loop-less
+    (λ c. omega arith)
+    (λ c. omega arith)
     loop-again
     same-length
     returns)

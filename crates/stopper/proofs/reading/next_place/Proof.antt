@@ -2,12 +2,9 @@
 -- Assumes nothing.
 use borrow.Author.Needs.{needs}
 use borrow.Author.Tests.{lt-ltb, le-ltb}
-use Rattle.stopper.specs.State.{nearer}
+use Rattle.stopper.specs.Helpers.State.{nearer}
 use Rattle.stopper.proofs.reading.next_place.Statement.{statement}
 use Rattle.stopper.proofs.reading.next_place.Tie as tie
-
-add-result : tie.Need-add-result
-add-result c = search needs
 
 returns : tie.Need-returns
 unfolding nearer
@@ -18,4 +15,4 @@ unfolding nearer
 returns-2 c = simp (le-ltb _ _ (c .if1 .left))
 
 pub next-place-spec : {M : Type 1} → statement M
-next-place-spec = tie.close (tie.spec add-result returns returns-2)
+next-place-spec = tie.close (tie.spec (λ c. search needs) returns returns-2)

@@ -4,8 +4,8 @@ use mathlib.Core.Path.{_≡_, refl, sym, ap, _∙_}
 use Prim.Native.Nat.{ℕ}
 use native.Mathlib.Omega.{arith}
 use borrow.Author.Needs.{needs}
-use Rattle.stopper.specs.Table.{base}
-use Rattle.stopper.specs.State.{pastAt}
+use Rattle.stopper.specs.Paper.Table.{base}
+use Rattle.stopper.specs.Helpers.State.{pastAt}
 use Rattle.stopper.specs.Laws.State.{Sizes, sizes, step-past-stop, step-bad, step-rank, step-past-on, step-reach, step-on}
 use Rattle.stopper.specs.declared.reading.Reader.{Reader}
 use Rattle.stopper.specs.declared.reading.Step.{Step}
@@ -22,9 +22,6 @@ rank-small c = small (c .before) _ refl
 
 next-small : (c : tie.After-base-of) → Sizes (c .base-of .result) (c .before .before .before .before .stoppers-at .result) (c .before .before .before .before .before .args .r)
 next-small c = small (c .before .before .before .before) _ (c .base-of .ensures)
-
-stoppers-at-requires : tie.Need-stoppers-at-requires
-stoppers-at-requires c κs = search needs
 
 mul-rank : tie.Need-mul-rank
 mul-rank c = let z = rank-small c in omega arith
@@ -53,12 +50,6 @@ returns-3 c =
     let a = s .before .args in
     sym (step-rank (a .code) (a .sigma) (a .r) (a .symbol) _ (s .stoppers-at .ensures) (c .before .before .if1 .taken) (c .before .if2 .left) (c .if3 .left))
 
-next-place-requires : tie.Need-next-place-requires
-next-place-requires c κs = search needs
-
-past-at-requires : tie.Need-past-at-requires
-past-at-requires c κs = search needs
-
 returns-4 : tie.Need-returns-4
 returns-4 c =
     let n = c .before .before in
@@ -66,9 +57,6 @@ returns-4 c =
     let a = s .before .args in
     ap {B = Step} (λ (x : Reader). Open x) (c .past-at .ensures ∙ ap pastAt (n .next-place .ensures))
     ∙ sym (step-past-on (a .code) (a .sigma) (a .r) (a .symbol) _ (s .stoppers-at .ensures) (n .before .if1 .left) (c .before .if4 .taken))
-
-base-of-requires : tie.Need-base-of-requires
-base-of-requires c κs = search needs
 
 sub-c : tie.Need-sub-c
 sub-c c = let z = next-small c in omega arith
@@ -87,9 +75,6 @@ add-next c = let z = next-small c in omega arith
 
 add-if5 : tie.Need-add-if5
 add-if5 c = let z = next-small c in omega arith
-
-past-at-requires-2 : tie.Need-past-at-requires-2
-past-at-requires-2 c κs = search needs
 
 returns-5 : tie.Need-returns-5
 returns-5 c =
@@ -116,24 +101,24 @@ pub read-symbol-spec : {M : Type 1} → statement M
 read-symbol-spec =
     tie.close
     (tie.spec
-    stoppers-at-requires
+    (λ c κs. search needs)
     mul-rank
     add-rank
     add-rank-2
     returns
     returns-2
     returns-3
-    next-place-requires
-    past-at-requires
+    (λ c κs. search needs)
+    (λ c κs. search needs)
     returns-4
-    base-of-requires
+    (λ c κs. search needs)
     sub-c
     mul-least
     add-least
     mul-next
     add-next
     add-if5
-    past-at-requires-2
+    (λ c κs. search needs)
     returns-5
     mul-t21
     returns-6)

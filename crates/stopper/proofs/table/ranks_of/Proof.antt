@@ -8,9 +8,10 @@ use native.Mathlib.Omega.{arith}
 use borrow.Author.Needs.{needs}
 use lib.ListN.{length, take, drop, getD, set, replicate, length-replicate, getD-replicate}
 use lib.Seq.{length-take-le, getD-take}
-use Rattle.ground.specs.Rows.{tab}
+use Rattle.ground.specs.Paper.Rows.{tab}
 use Rattle.ground.specs.Laws.Rows.{length-tab, tab-at, tab-ext, tab-set}
-use Rattle.stopper.specs.Table.{rankIn, ranksOf}
+use Rattle.stopper.specs.Paper.Table.{rankIn}
+use Rattle.stopper.specs.Helpers.Answers.{ranksOf}
 use Rattle.stopper.specs.Laws.Characters.{rank-here, rank-next, rank-end}
 use Rattle.stopper.proofs.table.ranks_of.Statement.{statement}
 use Rattle.stopper.proofs.table.ranks_of.Tie as tie
@@ -66,26 +67,11 @@ abbrev μ-loop : tie.MeasureT-loop
 loop-holds : tie.Need-loop-holds Inv-loop μ-loop
 loop-holds c = start (c .args .t2) (c .args .sigma) (search needs) (c .pre)
 
-sub-i : tie.Need-sub-i Inv-loop μ-loop
-sub-i c = omega arith
-
-cast-wide : tie.Need-cast-wide Inv-loop μ-loop
-cast-wide c = omega arith
-
-array-read-wide : tie.Need-array-read-wide Inv-loop μ-loop
-array-read-wide c = omega arith
-
-wide-requires : tie.Need-wide-requires Inv-loop μ-loop
-wide-requires c κs = search needs
-
 mul-ranks : tie.Need-mul-ranks Inv-loop μ-loop
 mul-ranks c = omega (arith, c .wide .ensures .1)
 
 array-write-ranks : tie.Need-array-write-ranks Inv-loop μ-loop
 array-write-ranks c = c .wide .ensures .1
-
-loop-less : tie.Need-loop-less Inv-loop μ-loop
-loop-less c = omega arith
 
 loop-again : tie.Need-loop-again Inv-loop μ-loop
 loop-again c =
@@ -99,4 +85,4 @@ returns c = whole (c .before .loop .inv) (c .loop-test .left)
 pub ranks-of-spec : {M : Type 1} → statement M
 ranks-of-spec =
     tie.close
-    (tie.spec Inv-loop μ-loop loop-holds sub-i cast-wide array-read-wide wide-requires mul-ranks array-write-ranks loop-less loop-again returns)
+    (tie.spec Inv-loop μ-loop loop-holds (λ c. omega arith) (λ c. omega arith) (λ c. omega arith) (λ c κs. search needs) mul-ranks array-write-ranks (λ c. omega arith) loop-again returns)

@@ -5,21 +5,21 @@ use Prim.Native.Nat.{ℕ, _-_, _%_, _≤_, _<_}
 use native.Mathlib.Nat.{mod-lt}
 use native.Mathlib.Omega.{arith}
 use borrow.Author.Needs.{needs}
+use borrow.Fn.Kinds.{In}
+use borrow.Fn.PlainCycle.{Measures, is, falls, and}
 use lib.Dec.{T}
 use lib.ListN.{length-set}
-use Rattle.stopper.specs.Table.{base, stoppers, goodCode}
+use Rattle.stopper.specs.Paper.Table.{base, stoppers, goodCode}
 use Rattle.stopper.specs.Laws.Table.{code-base, code-good}
 use Rattle.stopper.specs.declared.code.Code.{Code}
 use Rattle.stopper.proofs.Spelling.{spelt, none}
-use borrow.Fn.Kinds.{In}
-use borrow.Fn.PlainCycle.{Measures, is, falls, and}
+use Rattle.stopper.proofs.word.+emit.{statement}
+use Rattle.stopper.proofs.word.+emit.Tie.{close}
 use Rattle.stopper.proofs.word.emit.Reads as emit
 use Rattle.stopper.proofs.word.emit.Kinds as emit-kinds
 use Rattle.stopper.proofs.word.+emit.Lts-emit as emit-lts
 use Rattle.stopper.proofs.code.base_of.Reads as base-of-reads
 use Rattle.stopper.proofs.code.stoppers_at.Reads as stoppers-at-reads
-use Rattle.stopper.proofs.word.+emit.{statement}
-use Rattle.stopper.proofs.word.+emit.Tie.{close}
 
 abbrev μ-emit : Measures 1 emit-kinds.ps ℕ
 μ-emit κs a = a .1 .1 .0

@@ -26,20 +26,11 @@ inside c =
     let a = c .before .before .before in
     omega (arith, length-place (a .args .code) (a .pre .0) (a .args .rank), ap (λ (x : Place). x .at) (c .before .place-of .ensures), a .pre .2)
 
-place-of-requires : tie.Need-place-of-requires
-place-of-requires c κs = search needs
-
-stoppers-at-requires : tie.Need-stoppers-at-requires
-stoppers-at-requires c κs = search needs
-
 rem-out : tie.Need-rem-out
 rem-out c = some c .0
 
 cast-out : tie.Need-cast-out
 cast-out c = omega (arith, some c, mod-lt (c .before .place-of .result .q) (some c .0))
-
-cast-out-2 : tie.Need-cast-out-2
-cast-out-2 c = search needs
 
 slice-write-out : tie.Need-slice-write-out
 slice-write-out c = inside c
@@ -49,12 +40,6 @@ div-emit c = some c .0
 
 emit-requires : tie.Need-emit-requires
 emit-requires c κs = (c .before .before .before .before .pre .0, simp length-set (omega (arith, inside (c .before))))
-
-cast-result : tie.Need-cast-result
-cast-result c = search needs
-
-add-result : tie.Need-add-result
-add-result c = search needs
 
 same-length : tie.Need-same-length
 same-length c = simp length-set at (c .before .before .emit .kept .1 .1 .1 .0)
@@ -73,15 +58,15 @@ pub symbols-of-spec : {M : Type 1} → statement M
 symbols-of-spec =
     tie.close
     (tie.spec
-    place-of-requires
-    stoppers-at-requires
+    (λ c κs. search needs)
+    (λ c κs. search needs)
     rem-out
     cast-out
-    cast-out-2
+    (λ c. search needs)
     slice-write-out
     div-emit
     emit-requires
-    cast-result
-    add-result
+    (λ c. search needs)
+    (λ c. search needs)
     same-length
     returns)

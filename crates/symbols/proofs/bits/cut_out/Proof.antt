@@ -7,12 +7,6 @@ use Rattle.symbols.proofs.Shifted.{one-shl, got}
 use Rattle.symbols.proofs.bits.cut_out.Statement.{statement}
 use Rattle.symbols.proofs.bits.cut_out.Tie as tie
 
-shr-result : tie.Need-shr-result
-shr-result c = search needs
-
-shl-result : tie.Need-shl-result
-shl-result c = search needs
-
 sub-result : tie.Need-sub-result
 sub-result c = omega (arith, one-shl 8 (c .args .k) (c .pre .0), pow-pos (c .args .k))
 
@@ -20,4 +14,4 @@ returns : tie.Need-returns
 returns c = got 8 (c .args .k) (c .args .low) (c .args .b) (c .pre .0)
 
 pub cut-out-spec : {M : Type 1} → statement M
-cut-out-spec = tie.close (tie.spec shr-result shl-result sub-result returns)
+cut-out-spec = tie.close (tie.spec (λ c. search needs) (λ c. search needs) sub-result returns)

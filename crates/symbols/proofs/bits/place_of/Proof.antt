@@ -5,13 +5,10 @@ use Prim.Native.Nat.{_-_, _%_}
 use native.Mathlib.Omega.{arith}
 use borrow.Author.Needs.{needs}
 use lib.Bits.{bitAnd, and-mask}
-use Rattle.symbols.specs.Symbols.{per}
+use Rattle.symbols.specs.Paper.Symbols.{per}
 use Rattle.symbols.specs.Laws.Width.{by-width, per-pos}
 use Rattle.symbols.proofs.bits.place_of.Statement.{statement}
 use Rattle.symbols.proofs.bits.place_of.Tie as tie
-
-per-byte-requires : tie.Need-per-byte-requires
-per-byte-requires c κs = search needs
 
 sub-result : tie.Need-sub-result
 sub-result c = omega (arith, c .per-byte .ensures, per-pos (c .before .pre))
@@ -23,4 +20,4 @@ returns c =
     rw (c .per-byte .ensures) (by-width (λ k. bitAnd i (per k - 1) ≡ i % per k) (c .before .pre) (and-mask i 2) (and-mask i 1))
 
 pub place-of-spec : {M : Type 1} → statement M
-place-of-spec = tie.close (tie.spec per-byte-requires sub-result returns)
+place-of-spec = tie.close (tie.spec (λ c κs. search needs) sub-result returns)

@@ -4,7 +4,7 @@ use Prim.Native.Nat.{suc, _*_, _≤_}
 use native.Mathlib.Nat.{mod-lt}
 use native.Mathlib.Omega.{arith}
 use borrow.Author.Needs.{needs}
-use Rattle.symbols.specs.Symbols.{shift}
+use Rattle.symbols.specs.Paper.Symbols.{shift}
 use Rattle.symbols.specs.Laws.Width.{per-pos, per-few, narrow, ends-within}
 use Rattle.symbols.proofs.bits.shift_of.Statement.{statement}
 use Rattle.symbols.proofs.bits.shift_of.Tie as tie
@@ -15,9 +15,6 @@ ends c = rw (c .place-of .ensures) (ends-within (c .before .pre) (mod-lt (c .bef
 
 sub-result : tie.Need-sub-result
 sub-result c = omega (arith, narrow (c .pre))
-
-place-of-requires : tie.Need-place-of-requires
-place-of-requires c κs = search needs
 
 cast-result : tie.Need-cast-result
 cast-result c = omega (arith, c .place-of .ensures, mod-lt (c .before .args .i) (per-pos (c .before .pre)), per-few (c .before .pre))
@@ -34,4 +31,4 @@ returns c = rw (c .place-of .ensures) (omega arith)
 
 pub shift-of-spec : {M : Type 1} → statement M
 shift-of-spec =
-    tie.close (tie.spec sub-result place-of-requires cast-result mul-result sub-result-2 returns)
+    tie.close (tie.spec sub-result (λ c κs. search needs) cast-result mul-result sub-result-2 returns)

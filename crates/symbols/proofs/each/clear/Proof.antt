@@ -5,10 +5,10 @@ use Prim.Native.Nat.{_+_, _-_, _≤_}
 use native.Mathlib.Omega.{arith}
 use lib.Pow.{pow-pos}
 use lib.ListN.{length}
-use Rattle.symbols.specs.Laws.Runs.{cleared-none, cleared-one, cleared-more}
+use Rattle.ground.specs.Helpers.Moved.{cleared}
+use Rattle.ground.specs.Laws.Runs.{cleared-none, cleared-one, cleared-more}
+use Rattle.symbols.specs.Paper.Symbols.{symbolsOf}
 use Rattle.symbols.specs.Laws.Rows.{symbols-even}
-use Rattle.symbols.specs.Runs.{cleared}
-use Rattle.symbols.specs.Symbols.{symbolsOf}
 use Rattle.symbols.proofs.each.clear.Statement.{statement}
 use Rattle.symbols.proofs.each.clear.Tie as tie
 
@@ -30,12 +30,6 @@ put-requires c κs =
     let s = l .before .before in
     let w = s .pre .0 in
     (w, omega (arith, symbols-even (s .args .k) (l .loop .buf) (s .args .buf .now) (l .loop .inv .2)), pow-pos (s .args .k))
-
-add-i : tie.Need-add-i Inv-loop μ-loop
-add-i c = omega arith
-
-loop-less : tie.Need-loop-less Inv-loop μ-loop
-loop-less c = omega arith
 
 loop-again : tie.Need-loop-again Inv-loop μ-loop
 loop-again c =
@@ -68,8 +62,8 @@ clear-spec =
     μ-loop
     loop-holds
     put-requires
-    add-i
-    loop-less
+    (λ c. omega arith)
+    (λ c. omega arith)
     loop-again
     same-length
     returns)

@@ -5,11 +5,11 @@ use Prim.Native.Nat.{_+_, _-_, _≤_}
 use native.Mathlib.Omega.{arith}
 use lib.Pow.{pow-pos}
 use lib.ListN.{length, set}
+use Rattle.ground.specs.Helpers.Moved.{movedDown}
 use Rattle.ground.specs.Laws.Rows.{getD-below}
-use Rattle.symbols.specs.Laws.Runs.{down-none, down-one, down-more}
+use Rattle.ground.specs.Laws.Runs.{down-none, down-one, down-more}
+use Rattle.symbols.specs.Paper.Symbols.{symbolsOf}
 use Rattle.symbols.specs.Laws.Rows.{symbols-even, symbols-below}
-use Rattle.symbols.specs.Runs.{movedDown}
-use Rattle.symbols.specs.Symbols.{symbolsOf}
 use Rattle.symbols.proofs.each.down.Statement.{statement}
 use Rattle.symbols.proofs.each.down.Tie as tie
 
@@ -31,9 +31,6 @@ get-requires c κs =
     let s = l .before .before in
     (s .pre .0, omega (arith, symbols-even (s .args .k) (l .loop .buf) (s .args .buf .now) (l .loop .inv .2)))
 
-sub-put : tie.Need-sub-put Inv-loop μ-loop
-sub-put c = omega arith
-
 put-requires : tie.Need-put-requires Inv-loop μ-loop
 put-requires c κs =
     let l = c .before .before .before .before in
@@ -43,12 +40,6 @@ put-requires c κs =
       omega (arith, symbols-even k (l .loop .buf) (s .args .buf .now) (l .loop .inv .2)),
       rw (c .before .get .ensures) (getD-below (symbols-below k (l .loop .buf)) (pow-pos k) (l .loop .i)),
     )
-
-add-i : tie.Need-add-i Inv-loop μ-loop
-add-i c = omega arith
-
-loop-less : tie.Need-loop-less Inv-loop μ-loop
-loop-less c = omega arith
 
 loop-again : tie.Need-loop-again Inv-loop μ-loop
 loop-again c =
@@ -86,10 +77,10 @@ down-spec =
     μ-loop
     loop-holds
     get-requires
-    sub-put
+    (λ c. omega arith)
     put-requires
-    add-i
-    loop-less
+    (λ c. omega arith)
+    (λ c. omega arith)
     loop-again
     same-length
     returns)

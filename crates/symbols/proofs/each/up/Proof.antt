@@ -5,11 +5,11 @@ use Prim.Native.Nat.{ℕ, _+_, _-_, _≤_}
 use native.Mathlib.Omega.{arith}
 use lib.Pow.{pow-pos}
 use lib.ListN.{length, set}
+use Rattle.ground.specs.Helpers.Moved.{movedUp}
 use Rattle.ground.specs.Laws.Rows.{getD-below}
-use Rattle.symbols.specs.Laws.Runs.{up-none, up-one, up-more}
+use Rattle.ground.specs.Laws.Runs.{up-none, up-one, up-more}
+use Rattle.symbols.specs.Paper.Symbols.{symbolsOf}
 use Rattle.symbols.specs.Laws.Rows.{symbols-even, symbols-below}
-use Rattle.symbols.specs.Runs.{movedUp}
-use Rattle.symbols.specs.Symbols.{symbolsOf}
 use Rattle.symbols.proofs.each.up.Statement.{statement}
 use Rattle.symbols.proofs.each.up.Tie as tie
 
@@ -25,17 +25,11 @@ loop-holds c =
     let a = c .before .args in
     (omega arith, omega arith, refl, sym (up-none (symbolsOf (a .k) (a .buf .now)) (a .to) (a .by)))
 
-sub-i : tie.Need-sub-i Inv-loop μ-loop
-sub-i c = omega arith
-
 get-requires : tie.Need-get-requires Inv-loop μ-loop
 get-requires c κs =
     let l = c .before .before in
     let s = l .before .before in
     (s .pre .0, omega (arith, symbols-even (s .args .k) (l .loop .buf) (s .args .buf .now) (l .loop .inv .2)))
-
-add-put : tie.Need-add-put Inv-loop μ-loop
-add-put c = omega arith
 
 put-requires : tie.Need-put-requires Inv-loop μ-loop
 put-requires c κs =
@@ -46,9 +40,6 @@ put-requires c κs =
       omega (arith, symbols-even k (l .loop .buf) (s .args .buf .now) (l .loop .inv .2)),
       rw (c .before .get .ensures) (getD-below (symbols-below k (l .loop .buf)) (pow-pos k) (l .loop .i - 1)),
     )
-
-loop-less : tie.Need-loop-less Inv-loop μ-loop
-loop-less c = omega arith
 
 loop-again : tie.Need-loop-again Inv-loop μ-loop
 loop-again c =
@@ -87,11 +78,11 @@ up-spec =
     Inv-loop
     μ-loop
     loop-holds
-    sub-i
+    (λ c. omega arith)
     get-requires
-    add-put
+    (λ c. omega arith)
     put-requires
-    loop-less
+    (λ c. omega arith)
     loop-again
     same-length
     returns)

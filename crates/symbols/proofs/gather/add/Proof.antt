@@ -7,8 +7,8 @@ use native.Mathlib.Omega.{arith}
 use borrow.Author.Needs.{needs}
 use lib.ListN.{take}
 use lib.Pow.{pow-mono, shl-exact}
-use Rattle.symbols.specs.Symbols.{per, symbolsOf}
-use Rattle.symbols.specs.Gathered.{digits, gathered}
+use Rattle.symbols.specs.Paper.Symbols.{per, symbolsOf}
+use Rattle.symbols.specs.Helpers.Gathered.{digits, gathered}
 use Rattle.symbols.specs.Laws.Gathered.{digits-length, bits-under, joined-small, waiting-more}
 use Rattle.symbols.specs.Laws.Width.{by-width, per-few}
 use Rattle.symbols.proofs.gather.add.Statement.{statement}
@@ -45,12 +45,6 @@ add-t12 c =
     let h : s .args .k * (s .args .g .count + s .args .count) ≤ 64 = omega (arith, all-few s) in
     omega (arith, shifted s, small s, pow-mono h)
 
-add-if1 : tie.Need-add-if1
-add-if1 c = search needs
-
-per-byte-requires : tie.Need-per-byte-requires
-per-byte-requires c κs = search needs
-
 mul-if1 : tie.Need-mul-if1
 mul-if1 c = omega (arith, c .per-byte .ensures, per-few (c .before .before .before .before .pre .0))
 
@@ -78,9 +72,6 @@ store-requires c κs =
       rw (shifted s) (small s),
       omega (arith, s .pre .1 .within),
     )
-
-same-length : tie.Need-same-length
-same-length c = search needs
 
 returns-2 : tie.Need-returns-2
 unfolding gathered
@@ -111,10 +102,10 @@ add-spec =
     mul-t8
     shl-t10
     add-t12
-    add-if1
-    per-byte-requires
+    (λ c. search needs)
+    (λ c κs. search needs)
     mul-if1
     returns
     store-requires
-    same-length
+    (λ c. search needs)
     returns-2)

@@ -8,7 +8,7 @@ use native.Mathlib.Omega.{arith}
 use lib.ListN.{length, take, getD}
 use lib.Seq.{take-suc, take-length, length-take-le}
 use Rattle.ground.specs.Laws.Rows.{below-at}
-use Rattle.symbols.specs.Gathered.{Added, Waiting}
+use Rattle.symbols.specs.Helpers.Gathered.{Added, Waiting}
 use Rattle.symbols.specs.Laws.Gathered.{digits-one, added-none, added-more}
 use Rattle.symbols.specs.Laws.Rows.{symbols-even}
 use Rattle.symbols.proofs.gather.add_each.Statement.{statement}
@@ -24,9 +24,6 @@ loop-holds : tie.Need-loop-holds Inv-loop μ-loop
 loop-holds c =
     let s = c .before .before in
     (omega arith, refl, added-none (s .args .k) (s .args .g) (s .args .buf .now) (s .pre .1 .few) (s .pre .1 .small))
-
-shared-slice-read-add : tie.Need-shared-slice-read-add Inv-loop μ-loop
-shared-slice-read-add c = omega arith
 
 cast-add : tie.Need-cast-add Inv-loop μ-loop
 cast-add c = omega (arith, c .shared-slice-known2 .given (c .before .before .before .loop .i))
@@ -46,12 +43,6 @@ add-requires c κs =
       counts = omega (arith, l .loop .inv .2 .upto, s .pre .1 .counts);
     } in
     (s .pre .0, waits, omega arith, rw (mul-one k) (below-at (s .pre .2) i (omega arith)))
-
-add-i : tie.Need-add-i Inv-loop μ-loop
-add-i c = omega arith
-
-loop-less : tie.Need-loop-less Inv-loop μ-loop
-loop-less c = omega arith
 
 loop-again : tie.Need-loop-again Inv-loop μ-loop
 loop-again c =
@@ -85,11 +76,11 @@ add-each-spec =
     Inv-loop
     μ-loop
     loop-holds
-    shared-slice-read-add
+    (λ c. omega arith)
     cast-add
     add-requires
-    add-i
-    loop-less
+    (λ c. omega arith)
+    (λ c. omega arith)
     loop-again
     same-length
     returns)

@@ -8,8 +8,8 @@ use native.Mathlib.Omega.{arith}
 use borrow.Author.Needs.{needs}
 use lib.ListN.{length, take, getD}
 use lib.Pow.{pow-pos, shr-le, shr-lt}
-use Rattle.symbols.specs.Symbols.{per, symbolsOf}
-use Rattle.symbols.specs.Gathered.{digits, gathered}
+use Rattle.symbols.specs.Paper.Symbols.{per, symbolsOf}
+use Rattle.symbols.specs.Helpers.Gathered.{digits, gathered}
 use Rattle.symbols.specs.Laws.Gathered.{bits-under, begun}
 use Rattle.symbols.specs.Laws.Rows.{starts-within, symbols-take}
 use Rattle.symbols.specs.Laws.Width.{per-pos, per-few, wide}
@@ -39,12 +39,6 @@ there c =
     let p = c .before in
     let s = p .before .before .before in
     starts-within (s .pre .0) (s .args .buf .now) (p .before .byte-of .result) (omega (arith, at p, c .if1 .left))
-
-byte-of-requires : tie.Need-byte-of-requires
-byte-of-requires c κs = search needs
-
-place-of-requires : tie.Need-place-of-requires
-place-of-requires c κs = search needs
 
 returns : tie.Need-returns
 unfolding gathered digits
@@ -110,8 +104,8 @@ pub begin-spec : {M : Type 1} → statement M
 begin-spec =
     tie.close
     (tie.spec
-    byte-of-requires
-    place-of-requires
+    (λ c κs. search needs)
+    (λ c κs. search needs)
     returns
     cast-low
     mul-low

@@ -7,12 +7,12 @@ use native.Mathlib.Nat.{add-zero, sub-self, mul-zero, pow-zero, div-one, mod-lt}
 use native.Mathlib.Omega.{arith}
 use lib.ListN.{length}
 use lib.Pow.{pow-pos}
-use Rattle.symbols.specs.Symbols.{symbolsOf}
-use Rattle.symbols.specs.Runs.{over}
-use Rattle.symbols.specs.Gathered.{digits}
+use Rattle.ground.specs.Paper.Runs.{over}
+use Rattle.ground.specs.Laws.Runs.{over-none, over-more}
+use Rattle.symbols.specs.Paper.Symbols.{symbolsOf}
+use Rattle.symbols.specs.Helpers.Gathered.{digits}
 use Rattle.symbols.specs.Laws.Gathered.{digits-length, bits-under, laid-more}
 use Rattle.symbols.specs.Laws.Rows.{symbols-even}
-use Rattle.symbols.specs.Laws.Runs.{over-none, over-more}
 use Rattle.symbols.specs.Laws.Width.{narrow}
 use Rattle.symbols.proofs.gather.finish.Statement.{statement}
 use Rattle.symbols.proofs.gather.finish.Tie as tie
@@ -55,12 +55,6 @@ loop-holds c =
     let s = c .before .before .before in
     (omega arith, refl, sym (rw add-zero (over-none (symbolsOf (s .args .k) (s .args .buf .now)) (s .args .g .next * c .before .per-byte .result))))
 
-sub-piece : tie.Need-sub-piece Inv-loop μ-loop
-sub-piece c = omega arith
-
-sub-piece-2 : tie.Need-sub-piece-2 Inv-loop μ-loop
-sub-piece-2 c = omega arith
-
 mul-piece : tie.Need-mul-piece Inv-loop μ-loop
 mul-piece c =
     let s = c .before .before .before .before .before in
@@ -83,12 +77,6 @@ put-requires c κs =
       omega (arith, there (c .before .before) .1, symbols-even k (l .loop .buf) (s .args .buf .now) (l .loop .inv .1)),
       rw (c .before .piece .ensures) (mod-lt (s .args .g .bits / 2 ^ (k * (s .args .g .count - 1 - l .loop .i))) (pow-pos k)),
     )
-
-add-i : tie.Need-add-i Inv-loop μ-loop
-add-i c = omega arith
-
-loop-less : tie.Need-loop-less Inv-loop μ-loop
-loop-less c = omega arith
 
 loop-again : tie.Need-loop-again Inv-loop μ-loop
 loop-again c =
@@ -135,14 +123,14 @@ finish-spec =
     per-byte-requires
     mul-first
     loop-holds
-    sub-piece
-    sub-piece-2
+    (λ c. omega arith)
+    (λ c. omega arith)
     mul-piece
     piece-requires
     add-put
     put-requires
-    add-i
-    loop-less
+    (λ c. omega arith)
+    (λ c. omega arith)
     loop-again
     same-length
     returns)

@@ -10,7 +10,7 @@ use lib.ListN.{length, take, getD}
 use lib.Pow.{pow-mono, shl-exact}
 use lib.Seq.{take-suc, take-length}
 use Rattle.ground.specs.Laws.Rows.{below-at}
-use Rattle.symbols.specs.Gathered.{digits}
+use Rattle.symbols.specs.Helpers.Gathered.{digits}
 use Rattle.symbols.specs.Laws.Gathered.{digits-more, joined-small}
 use Rattle.symbols.specs.Laws.Width.{by-width}
 use Rattle.symbols.proofs.gather.join_all.Statement.{statement}
@@ -55,9 +55,6 @@ loop-holds c = (omega arith, rw (mul-zero, pow-zero) (omega arith), refl)
 shl-bits : tie.Need-shl-bits Inv-loop μ-loop
 shl-bits c = by-width (λ k. k < 32) (c .before .before .pre .0) (omega arith) (omega arith)
 
-shared-slice-read-bits : tie.Need-shared-slice-read-bits Inv-loop μ-loop
-shared-slice-read-bits c = omega arith
-
 cast-bits : tie.Need-cast-bits Inv-loop μ-loop
 cast-bits c = omega (arith, c .shared-slice-known .given (c .before .before .loop .i))
 
@@ -66,12 +63,6 @@ add-bits c =
     let k = c .before .before .before .args .k in
     let e : k * (c .before .before .loop .i + 1) ≤ 32 = omega (arith, more (c .before)) in
     omega (arith, shifted (c .before), small (c .before), pow-mono e)
-
-add-i : tie.Need-add-i Inv-loop μ-loop
-add-i c = omega arith
-
-loop-less : tie.Need-loop-less Inv-loop μ-loop
-loop-less c = omega arith
 
 loop-again : tie.Need-loop-again Inv-loop μ-loop
 loop-again c =
@@ -106,10 +97,10 @@ join-all-spec =
     μ-loop
     loop-holds
     shl-bits
-    shared-slice-read-bits
+    (λ c. omega arith)
     cast-bits
     add-bits
-    add-i
-    loop-less
+    (λ c. omega arith)
+    (λ c. omega arith)
     loop-again
     returns)

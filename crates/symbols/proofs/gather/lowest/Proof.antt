@@ -10,9 +10,6 @@ use Rattle.symbols.proofs.Shifted.{one-shl}
 use Rattle.symbols.proofs.gather.lowest.Statement.{statement}
 use Rattle.symbols.proofs.gather.lowest.Tie as tie
 
-shl-result : tie.Need-shl-result
-shl-result c = search needs
-
 sub-result : tie.Need-sub-result
 sub-result c = omega (arith, one-shl 64 (c .args .n) (c .pre), pow-pos (c .args .n))
 
@@ -21,4 +18,4 @@ returns c =
     ap (λ (m : ℕ). bitAnd (c .args .bits) (m - 1)) (one-shl 64 (c .args .n) (c .pre)) ∙ and-mask (c .args .bits) (c .args .n)
 
 pub lowest-spec : {M : Type 1} → statement M
-lowest-spec = tie.close (tie.spec shl-result sub-result returns)
+lowest-spec = tie.close (tie.spec (λ c. search needs) sub-result returns)

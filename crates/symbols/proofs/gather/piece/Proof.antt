@@ -8,19 +8,10 @@ use lib.Pow.{pow-pos, pow-mono}
 use Rattle.symbols.proofs.gather.piece.Statement.{statement}
 use Rattle.symbols.proofs.gather.piece.Tie as tie
 
-shr-lowest : tie.Need-shr-lowest
-shr-lowest c = search needs
-
-lowest-requires : tie.Need-lowest-requires
-lowest-requires c κs = search needs
-
 cast-result : tie.Need-cast-result
 cast-result c =
     let n = c .before .args .n in
     omega (arith, c .lowest .ensures, mod-lt (c .before .args .bits / 2 ^ c .before .args .low) (pow-pos n), pow-mono (c .before .pre .1))
 
-returns : tie.Need-returns
-returns c = search needs
-
 pub piece-spec : {M : Type 1} → statement M
-piece-spec = tie.close (tie.spec shr-lowest lowest-requires cast-result returns)
+piece-spec = tie.close (tie.spec (λ c. search needs) (λ c κs. search needs) cast-result (λ c. search needs))

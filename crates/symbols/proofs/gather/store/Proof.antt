@@ -8,8 +8,8 @@ use native.Mathlib.Omega.{arith}
 use lib.ListN.{length, take, drop, length-set}
 use lib.Pow.{pow-pos}
 use lib.Seq.{drop-drop, drop-set-lt}
-use Rattle.symbols.specs.Symbols.{per, symbolsOf}
-use Rattle.symbols.specs.Gathered.{digits, gathered}
+use Rattle.symbols.specs.Paper.Symbols.{per, symbolsOf}
+use Rattle.symbols.specs.Helpers.Gathered.{digits, gathered}
 use Rattle.symbols.specs.Laws.Gathered.{bits-under, stored-more, stored-all}
 use Rattle.symbols.specs.Laws.Rows.{symbols-length}
 use Rattle.symbols.specs.Laws.Width.{per-pos}

@@ -4,10 +4,11 @@ use mathlib.Core.Path.{_≡_, ap, _∙_}
 use Prim.Native.Nat.{_*_}
 use native.Mathlib.Omega.{arith}
 use borrow.Author.Needs.{needs}
-use Rattle.symbols.specs.Laws.Runs.{cleared-more, symbols-cleared}
+use Rattle.ground.specs.Helpers.Moved.{cleared}
+use Rattle.ground.specs.Laws.Runs.{cleared-more}
+use Rattle.symbols.specs.Paper.Symbols.{symbolsOf}
+use Rattle.symbols.specs.Laws.Whole.{symbols-cleared}
 use Rattle.symbols.specs.Laws.Rows.{symbols-even}
-use Rattle.symbols.specs.Runs.{cleared}
-use Rattle.symbols.specs.Symbols.{symbolsOf}
 use Rattle.symbols.proofs.Between.{Between, between}
 use Rattle.symbols.proofs.run.clear.Statement.{statement}
 use Rattle.symbols.proofs.run.clear.Tie as tie
@@ -26,24 +27,6 @@ known c =
     between (s .pre .0) (s .args .buf .now) _ _ _ _ _
     (c .per-byte .ensures) (c .before .before .before .bytes-for .ensures) (c .before .before .byte-of .ensures)
     (c .before .if1 .left) (s .pre .2)
-
-bytes-for-requires : tie.Need-bytes-for-requires
-bytes-for-requires c κs = search needs
-
-byte-of-requires : tie.Need-byte-of-requires
-byte-of-requires c κs = search needs
-
-clear-requires : tie.Need-clear-requires
-clear-requires c κs = search needs
-
-same-length : tie.Need-same-length
-same-length c = search needs
-
-returns : tie.Need-returns
-returns c = search needs
-
-per-byte-requires : tie.Need-per-byte-requires
-per-byte-requires c κs = search needs
 
 mul-clear : tie.Need-mul-clear
 mul-clear c = omega (arith, known (c .before))
@@ -69,9 +52,6 @@ clear-requires-4 c κs =
     (c .before .before .before .clear3 .kept .0 ∙ c .before .before .before .before .before .before .before .clear2 .kept .1 .0) in
     (s .pre .0, known p .ends, omega (arith, s .pre .2, even))
 
-same-length-2 : tie.Need-same-length-2
-same-length-2 c = search needs
-
 returns-2 : tie.Need-returns-2
 returns-2 c =
     let p = c .before .before .before .before .before .before .before .before .before .before .before .before in
@@ -94,16 +74,16 @@ pub clear-spec : {M : Type 1} → statement M
 clear-spec =
     tie.close
     (tie.spec
-    bytes-for-requires
-    byte-of-requires
-    clear-requires
-    same-length
-    returns
-    per-byte-requires
+    (λ c κs. search needs)
+    (λ c κs. search needs)
+    (λ c κs. search needs)
+    (λ c. search needs)
+    (λ c. search needs)
+    (λ c κs. search needs)
     mul-clear
     clear-requires-2
     clear-requires-3
     mul-clear-2
     clear-requires-4
-    same-length-2
+    (λ c. search needs)
     returns-2)

@@ -4,10 +4,10 @@ use mathlib.Core.Path.{_≡_, sym, _∙_}
 use Prim.Native.Nat.{_+_, _-_, _*_}
 use native.Mathlib.Omega.{arith}
 use borrow.Author.Needs.{needs}
-use Rattle.symbols.specs.Laws.Runs.{down-more}
-use Rattle.symbols.specs.Runs.{movedDown}
+use Rattle.ground.specs.Helpers.Moved.{movedDown}
+use Rattle.ground.specs.Laws.Runs.{down-more}
+use Rattle.symbols.specs.Paper.Symbols.{symbolsOf}
 use Rattle.symbols.specs.Laws.Rows.{symbols-even}
-use Rattle.symbols.specs.Symbols.{symbolsOf}
 use Rattle.symbols.proofs.Between.{Between, between}
 use Rattle.symbols.proofs.run.down.Statement.{statement}
 use Rattle.symbols.proofs.run.down.Tie as tie
@@ -26,30 +26,6 @@ known c =
     between (s .pre .0) (s .args .buf .now) _ _ _ _ _
     (c .per-byte .ensures) (c .before .before .before .bytes-for .ensures) (c .before .before .byte-of .ensures)
     (c .before .if1 .left) (omega arith)
-
-sub-bytes-for : tie.Need-sub-bytes-for
-sub-bytes-for c = search needs
-
-bytes-for-requires : tie.Need-bytes-for-requires
-bytes-for-requires c κs = search needs
-
-sub-byte-of : tie.Need-sub-byte-of
-sub-byte-of c = search needs
-
-byte-of-requires : tie.Need-byte-of-requires
-byte-of-requires c κs = search needs
-
-down-requires : tie.Need-down-requires
-down-requires c κs = search needs
-
-same-length : tie.Need-same-length
-same-length c = search needs
-
-returns : tie.Need-returns
-returns c = search needs
-
-per-byte-requires : tie.Need-per-byte-requires
-per-byte-requires c κs = search needs
 
 mul-down : tie.Need-mul-down
 mul-down c = omega (arith, known (c .before))
@@ -86,9 +62,6 @@ down-requires-4 c κs =
     (c .before .before .before .down3 .kept .1 .0 ∙ c .before .before .before .before .before .before .before .down2 .kept .1 .0) in
     (s .pre .0, omega arith, omega (arith, known p, s .pre .1, s .pre .2), omega (arith, s .pre .3, even))
 
-same-length-2 : tie.Need-same-length-2
-same-length-2 c = search needs
-
 returns-2 : tie.Need-returns-2
 returns-2 c =
     let p = c .before .before .before .before .before .before .before .before .before .before .before .before in
@@ -112,14 +85,14 @@ pub down-spec : {M : Type 1} → statement M
 down-spec =
     tie.close
     (tie.spec
-    sub-bytes-for
-    bytes-for-requires
-    sub-byte-of
-    byte-of-requires
-    down-requires
-    same-length
-    returns
-    per-byte-requires
+    (λ c. search needs)
+    (λ c κs. search needs)
+    (λ c. search needs)
+    (λ c κs. search needs)
+    (λ c κs. search needs)
+    (λ c. search needs)
+    (λ c. search needs)
+    (λ c κs. search needs)
     mul-down
     add-down
     down-requires-2
@@ -127,5 +100,5 @@ down-spec =
     mul-down-2
     add-down-2
     down-requires-4
-    same-length-2
+    (λ c. search needs)
     returns-2)

@@ -4,10 +4,10 @@ use mathlib.Core.Path.{_≡_, _∙_}
 use Prim.Native.Nat.{_+_, _-_, _*_, _≤_}
 use native.Mathlib.Omega.{arith}
 use borrow.Author.Needs.{needs}
-use Rattle.symbols.specs.Laws.Runs.{up-more}
-use Rattle.symbols.specs.Runs.{movedUp}
+use Rattle.ground.specs.Helpers.Moved.{movedUp}
+use Rattle.ground.specs.Laws.Runs.{up-more}
+use Rattle.symbols.specs.Paper.Symbols.{symbolsOf}
 use Rattle.symbols.specs.Laws.Rows.{symbols-even}
-use Rattle.symbols.specs.Symbols.{symbolsOf}
 use Rattle.symbols.proofs.Between.{Between, between}
 use Rattle.symbols.proofs.run.up.Statement.{statement}
 use Rattle.symbols.proofs.run.up.Tie as tie
@@ -26,30 +26,6 @@ known c =
     between (s .pre .0) (s .args .buf .now) _ _ _ _ _
     (c .per-byte .ensures) (c .before .before .before .bytes-for .ensures) (c .before .before .byte-of .ensures)
     (c .before .if1 .left) (s .pre .2)
-
-add-bytes-for : tie.Need-add-bytes-for
-add-bytes-for c = search needs
-
-bytes-for-requires : tie.Need-bytes-for-requires
-bytes-for-requires c κs = search needs
-
-add-byte-of : tie.Need-add-byte-of
-add-byte-of c = search needs
-
-byte-of-requires : tie.Need-byte-of-requires
-byte-of-requires c κs = search needs
-
-up-requires : tie.Need-up-requires
-up-requires c κs = search needs
-
-same-length : tie.Need-same-length
-same-length c = search needs
-
-returns : tie.Need-returns
-returns c = search needs
-
-per-byte-requires : tie.Need-per-byte-requires
-per-byte-requires c κs = search needs
 
 mul-up : tie.Need-mul-up
 mul-up c = omega (arith, known (c .before))
@@ -87,9 +63,6 @@ up-requires-4 c κs =
     (c .before .before .before .up3 .kept .1 .0 ∙ c .before .before .before .before .before .before .before .up2 .kept .1 .0) in
     (s .pre .0, omega (arith, known p), omega (arith, known p, s .pre .2, even), omega (arith, known p, s .pre .3))
 
-same-length-2 : tie.Need-same-length-2
-same-length-2 c = search needs
-
 returns-2 : tie.Need-returns-2
 returns-2 c =
     let p = c .before .before .before .before .before .before .before .before .before .before .before .before in
@@ -113,14 +86,14 @@ pub up-spec : {M : Type 1} → statement M
 up-spec =
     tie.close
     (tie.spec
-    add-bytes-for
-    bytes-for-requires
-    add-byte-of
-    byte-of-requires
-    up-requires
-    same-length
-    returns
-    per-byte-requires
+    (λ c. search needs)
+    (λ c κs. search needs)
+    (λ c. search needs)
+    (λ c κs. search needs)
+    (λ c κs. search needs)
+    (λ c. search needs)
+    (λ c. search needs)
+    (λ c κs. search needs)
     mul-up
     sub-up
     up-requires-2
@@ -128,5 +101,5 @@ up-spec =
     mul-up-2
     sub-up-2
     up-requires-4
-    same-length-2
+    (λ c. search needs)
     returns-2)

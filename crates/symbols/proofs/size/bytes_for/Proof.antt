@@ -5,17 +5,11 @@ use Prim.Native.Nat.{ℕ, _+_, _/_}
 use native.Mathlib.Nat.{div-add-mod', le-mul-of-pos-right}
 use native.Mathlib.Omega.{arith}
 use borrow.Author.Needs.{needs}
+use Rattle.symbols.specs.Paper.Symbols.{per}
 use Rattle.symbols.specs.Laws.Sizes.{bytesFor-even, bytesFor-odd}
 use Rattle.symbols.specs.Laws.Width.{per-pos}
-use Rattle.symbols.specs.Symbols.{per}
 use Rattle.symbols.proofs.size.bytes_for.Statement.{statement}
 use Rattle.symbols.proofs.size.bytes_for.Tie as tie
-
-byte-of-requires : tie.Need-byte-of-requires
-byte-of-requires c κs = search needs
-
-place-of-requires : tie.Need-place-of-requires
-place-of-requires c κs = search needs
 
 add-result : tie.Need-add-result
 add-result c =
@@ -40,4 +34,4 @@ returns-2 c =
 
 pub bytes-for-spec : {M : Type 1} → statement M
 bytes-for-spec =
-    tie.close (tie.spec byte-of-requires place-of-requires add-result returns returns-2)
+    tie.close (tie.spec (λ c κs. search needs) (λ c κs. search needs) add-result returns returns-2)

@@ -5,16 +5,13 @@ use Prim.Native.Nat.{ℕ, _*_, _≤_}
 use native.Mathlib.Nat.{le-mul-of-pos-right, mul-le-mul-left}
 use native.Mathlib.Omega.{arith}
 use borrow.Author.Needs.{needs}
+use Rattle.ground.specs.Paper.Limit.{limit}
 use Rattle.ground.specs.Laws.Limit.{limit-fits}
-use Rattle.ground.specs.Limit.{limit}
+use Rattle.symbols.specs.Paper.Symbols.{per}
 use Rattle.symbols.specs.Laws.Sizes.{room-full, room-all}
 use Rattle.symbols.specs.Laws.Width.{per-pos, per-few}
-use Rattle.symbols.specs.Symbols.{per}
 use Rattle.symbols.proofs.size.room_of.Statement.{statement}
 use Rattle.symbols.proofs.size.room_of.Tie as tie
-
-limit-requires : tie.Need-limit-requires
-limit-requires c κs = search needs
 
 returns : tie.Need-returns
 returns c =
@@ -22,9 +19,6 @@ returns c =
     let n = c .before .before .args .bytes in
     let e : c .before .limit .result ≡ limit = c .before .limit .ensures in
     e ∙ sym (room-full k n (omega (arith, c .if1 .taken, le-mul-of-pos-right n (per-pos (c .before .before .pre)))))
-
-per-byte-requires : tie.Need-per-byte-requires
-per-byte-requires c κs = search needs
 
 mul-all : tie.Need-mul-all
 mul-all c =
@@ -53,4 +47,4 @@ returns-3 c =
 
 pub room-of-spec : {M : Type 1} → statement M
 room-of-spec =
-    tie.close (tie.spec limit-requires returns per-byte-requires mul-all returns-2 returns-3)
+    tie.close (tie.spec (λ c κs. search needs) returns (λ c κs. search needs) mul-all returns-2 returns-3)

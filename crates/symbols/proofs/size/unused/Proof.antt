@@ -5,17 +5,11 @@ use Prim.Native.Nat.{_%_}
 use native.Mathlib.Nat.{mod-lt, div-add-mod'}
 use native.Mathlib.Omega.{arith}
 use borrow.Author.Needs.{needs}
+use Rattle.symbols.specs.Paper.Symbols.{per}
 use Rattle.symbols.specs.Laws.Sizes.{bytesFor-even, bytesFor-odd}
-use Rattle.symbols.specs.Symbols.{per}
 use Rattle.symbols.specs.Laws.Width.{per-pos}
 use Rattle.symbols.proofs.size.unused.Statement.{statement}
 use Rattle.symbols.proofs.size.unused.Tie as tie
-
-place-of-requires : tie.Need-place-of-requires
-place-of-requires c κs = search needs
-
-per-byte-requires : tie.Need-per-byte-requires
-per-byte-requires c κs = search needs
 
 sub-result : tie.Need-sub-result
 sub-result c = omega (arith, c .per-byte .ensures, c .before .before .place-of .ensures, mod-lt (c .before .before .before .args .h) (per-pos (c .before .before .before .pre)))
@@ -37,4 +31,4 @@ returns-2 c =
     rw (c .per-byte .ensures, c .before .before .place-of .ensures, bytesFor-odd (s .pre) h some) (omega (arith, div-add-mod' h (per k)))
 
 pub unused-spec : {M : Type 1} → statement M
-unused-spec = tie.close (tie.spec place-of-requires per-byte-requires sub-result returns returns-2)
+unused-spec = tie.close (tie.spec (λ c κs. search needs) (λ c κs. search needs) sub-result returns returns-2)

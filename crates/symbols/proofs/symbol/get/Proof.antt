@@ -4,20 +4,14 @@ use mathlib.Core.Path.{sym, _∙_}
 use native.Mathlib.Nat.{mod-lt}
 use native.Mathlib.Omega.{arith}
 use borrow.Author.Needs.{needs}
+use Rattle.symbols.specs.Paper.Symbols.{symbolAt}
 use Rattle.symbols.specs.Laws.Rows.{byte-within, symbols-at}
 use Rattle.symbols.specs.Laws.Width.{per-pos, narrow, wide, shift-within}
-use Rattle.symbols.specs.Symbols.{symbolAt}
 use Rattle.symbols.proofs.symbol.get.Statement.{statement}
 use Rattle.symbols.proofs.symbol.get.Tie as tie
 
-byte-of-requires : tie.Need-byte-of-requires
-byte-of-requires c κs = search needs
-
 shared-slice-read-cut-out : tie.Need-shared-slice-read-cut-out
 shared-slice-read-cut-out c = rw (c .before .byte-of .ensures) (byte-within (c .before .before .before .pre .0) _ _ (c .before .before .before .pre .1))
-
-shift-of-requires : tie.Need-shift-of-requires
-shift-of-requires c κs = search needs
 
 cut-out-requires : tie.Need-cut-out-requires
 cut-out-requires c κs =
@@ -35,8 +29,8 @@ pub get-spec : {M : Type 1} → statement M
 get-spec =
     tie.close
     (tie.spec
-    byte-of-requires
+    (λ c κs. search needs)
     shared-slice-read-cut-out
-    shift-of-requires
+    (λ c κs. search needs)
     cut-out-requires
     returns)

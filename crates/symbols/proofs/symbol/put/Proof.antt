@@ -10,12 +10,6 @@ use Rattle.symbols.proofs.Stored.{stored-row}
 use Rattle.symbols.proofs.symbol.put.Statement.{statement}
 use Rattle.symbols.proofs.symbol.put.Tie as tie
 
-byte-of-requires : tie.Need-byte-of-requires
-byte-of-requires c κs = search needs
-
-shift-of-requires : tie.Need-shift-of-requires
-shift-of-requires c κs = search needs
-
 slice-read-laid-in : tie.Need-slice-read-laid-in
 slice-read-laid-in c =
     let s = c .before .before .before .before in
@@ -33,9 +27,6 @@ slice-write-buf c =
     let s = c .before .before .before .before .before in
     rw (c .before .before .before .byte-of .ensures) (byte-within (s .pre .0) _ _ (s .pre .1))
 
-same-length : tie.Need-same-length
-same-length c = search needs
-
 returns : tie.Need-returns
 returns c =
     let s = c .before .before .before .before .before in
@@ -47,10 +38,10 @@ pub put-spec : {M : Type 1} → statement M
 put-spec =
     tie.close
     (tie.spec
-    byte-of-requires
-    shift-of-requires
+    (λ c κs. search needs)
+    (λ c κs. search needs)
     slice-read-laid-in
     laid-in-requires
     slice-write-buf
-    same-length
+    (λ c. search needs)
     returns)

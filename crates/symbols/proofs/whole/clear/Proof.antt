@@ -4,8 +4,8 @@ use mathlib.Core.Path.{_≡_, sym, ap, _∙_}
 use Prim.Native.Nat.{_+_, _-_, _≤_}
 use native.Mathlib.Omega.{arith}
 use lib.ListN.{length}
-use Rattle.symbols.specs.Laws.Runs.{cleared-none, cleared-one, cleared-more, cleared-length}
-use Rattle.symbols.specs.Runs.{cleared}
+use Rattle.ground.specs.Helpers.Moved.{cleared}
+use Rattle.ground.specs.Laws.Runs.{cleared-none, cleared-one, cleared-more, cleared-length}
 use Rattle.symbols.proofs.whole.clear.Statement.{statement}
 use Rattle.symbols.proofs.whole.clear.Tie as tie
 
@@ -25,12 +25,6 @@ loop-holds c = (omega arith, omega arith, sym (cleared-none (c .args .buf .now) 
 
 slice-write-buf : tie.Need-slice-write-buf Inv-loop μ-loop
 slice-write-buf c = omega (arith, kept-length (c .before))
-
-add-j : tie.Need-add-j Inv-loop μ-loop
-add-j c = omega arith
-
-loop-less : tie.Need-loop-less Inv-loop μ-loop
-loop-less c = omega arith
 
 loop-again : tie.Need-loop-again Inv-loop μ-loop
 loop-again c =
@@ -59,8 +53,8 @@ clear-spec =
     μ-loop
     loop-holds
     slice-write-buf
-    add-j
-    loop-less
+    (λ c. omega arith)
+    (λ c. omega arith)
     loop-again
     same-length
     returns)

@@ -5,11 +5,11 @@ use Prim.Native.Nat.{_+_, _-_, _*_, _≤_, _<_}
 use native.Mathlib.Nat.{mod-lt, div-add-mod', mul-le-mul-right}
 use native.Mathlib.Omega.{arith}
 use lib.ListN.{length, length-set}
-use Rattle.symbols.specs.Laws.Runs.{down-none, down-more}
+use Rattle.ground.specs.Helpers.Moved.{movedDown}
+use Rattle.ground.specs.Laws.Runs.{down-none, down-more}
+use Rattle.symbols.specs.Paper.Symbols.{per, symbolsOf}
 use Rattle.symbols.specs.Laws.Rows.{symbols-even, starts-within}
 use Rattle.symbols.specs.Laws.Width.{per-pos, per-few}
-use Rattle.symbols.specs.Runs.{movedDown}
-use Rattle.symbols.specs.Symbols.{per, symbolsOf}
 use Rattle.symbols.proofs.Moves.{byte-down}
 use Rattle.symbols.proofs.whole.down.Statement.{statement}
 use Rattle.symbols.proofs.whole.down.Tie as tie
@@ -78,12 +78,6 @@ window-requires c κs =
 slice-write-buf : tie.Need-slice-write-buf Inv-loop μ-loop
 slice-write-buf c = omega (arith, reach (c .before .before))
 
-add-j : tie.Need-add-j Inv-loop μ-loop
-add-j c = omega arith
-
-loop-less : tie.Need-loop-less Inv-loop μ-loop
-loop-less c = omega arith
-
 loop-again : tie.Need-loop-again Inv-loop μ-loop
 loop-again c =
     let l = c .before .before .before in
@@ -128,8 +122,8 @@ down-spec =
     add-window
     window-requires
     slice-write-buf
-    add-j
-    loop-less
+    (λ c. omega arith)
+    (λ c. omega arith)
     loop-again
     same-length
     returns)

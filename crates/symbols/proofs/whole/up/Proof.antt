@@ -5,12 +5,12 @@ use Prim.Native.Nat.{ℕ, _+_, _-_, _*_, _≤_, _<_}
 use native.Mathlib.Nat.{mul-le-mul-right}
 use native.Mathlib.Omega.{arith}
 use lib.ListN.{length, set, length-set}
-use Rattle.symbols.specs.Laws.Runs.{up-none, up-more}
+use Rattle.ground.specs.Helpers.Moved.{movedUp}
+use Rattle.ground.specs.Laws.Runs.{up-none, up-more}
+use Rattle.symbols.specs.Paper.Symbols.{per, symbolsOf}
 use Rattle.symbols.specs.Laws.Rows.{symbols-length}
 use Rattle.symbols.specs.Laws.Sizes.{bytesFor-enough, bytesFor-least, bytesFor-within}
 use Rattle.symbols.specs.Laws.Width.{per-pos, per-few}
-use Rattle.symbols.specs.Runs.{movedUp}
-use Rattle.symbols.specs.Symbols.{per, symbolsOf}
 use Rattle.symbols.proofs.Moves.{byte-up}
 use Rattle.symbols.proofs.whole.up.Statement.{statement}
 use Rattle.symbols.proofs.whole.up.Tie as tie
@@ -51,9 +51,6 @@ loop-holds c =
     let a = c .before .before .before .args in
     (omega arith, omega arith, refl, sym (up-none (symbolsOf (a .k) (a .buf .now)) (a .last * per (a .k) - a .by) (a .by)))
 
-sub-j : tie.Need-sub-j Inv-loop μ-loop
-sub-j c = omega arith
-
 sub-window : tie.Need-sub-window Inv-loop μ-loop
 sub-window c = omega (arith, known (c .before .before .before) .2)
 
@@ -74,9 +71,6 @@ window-requires c κs =
 
 slice-write-buf : tie.Need-slice-write-buf Inv-loop μ-loop
 slice-write-buf c = omega (arith, c .before .before .before .loop .inv .2)
-
-loop-less : tie.Need-loop-less Inv-loop μ-loop
-loop-less c = omega arith
 
 loop-again : tie.Need-loop-again Inv-loop μ-loop
 loop-again c =
@@ -125,11 +119,11 @@ up-spec =
     unused-requires
     cast-place
     loop-holds
-    sub-j
+    (λ c. omega arith)
     sub-window
     window-requires
     slice-write-buf
-    loop-less
+    (λ c. omega arith)
     loop-again
     same-length
     returns)

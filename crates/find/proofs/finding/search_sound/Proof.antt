@@ -1,0 +1,94 @@
+-- `find::finding::search_sound` meets its contract: a pattern with a character that is not in the table has no hits, and one without has
+-- them where its symbols stand.
+-- Assumes nothing.
+use mathlib.Core.Path.{_≡_, sym, ap, _∙_}
+use mathlib.Core.List.{List}
+use Prim.Native.Nat.{ℕ, _≤_}
+use native.Mathlib.Omega.{arith}
+use borrow.Author.Needs.{needs}
+use lib.Dec.{T}
+use lib.ListN.{length, take, length-take}
+use Rattle.stopper.specs.Paper.Table.{goodCode, characters}
+use Rattle.stopper.specs.Laws.Table.{table-code, table-few}
+use Rattle.texts.specs.Paper.Characters.{firstForeign}
+use Rattle.texts.specs.Paper.Hits.{hits, listed}
+use Rattle.texts.specs.Laws.Patterns.{pattern-most}
+use Rattle.texts.specs.Laws.Finding.{listed-none}
+use Rattle.sound.specs.Paper.Roll.{textOf}
+use Rattle.find.specs.Helpers.Finding.{wordHits}
+use Rattle.find.specs.Laws.Finding.{pattern-known, none-foreign, some-known, word-hits, no-hits}
+use Rattle.find.proofs.finding.search_sound.Statement.{statement}
+use Rattle.find.proofs.finding.search_sound.Tie as tie
+
+places-long : (s : tie.Start) → length (s .args .roll .table .places) ≡ 256
+places-long s = search needs
+
+code : (s : tie.Start) → T (goodCode (s .args .roll .table .code))
+code s = table-code (s .args .roll .table) (s .pre .0 .table)
+
+few : (s : tie.Start) → length (s .args .pattern .now) ≤ 64
+few s = pattern-most (s .args .pattern .now) (s .pre .1)
+
+abbrev begun : tie.After-spell-pattern → tie.Start
+begun p = p .before .before .before .before .before .before .before .before
+
+-- the symbols of the pattern, as many as there are
+abbrev symbols : tie.After-spell-pattern → List ℕ
+symbols p = take (p .spell-pattern .result) (p .spell-pattern .last .1 .1 .1 .1 .0)
+
+symbols-long : (p : tie.After-spell-pattern) → p .spell-pattern .result ≡ length (symbols p)
+symbols-long p = p .spell-pattern .ensures .0 ∙ sym (ap length (p .spell-pattern .ensures .1))
+
+spell-pattern-requires : tie.Need-spell-pattern-requires
+spell-pattern-requires c κs =
+    let s = c .before .before .before .before .before .before .before in
+    (code s, table-few (s .args .roll .table) (s .pre .0 .table), few s, omega arith)
+
+returns : tie.Need-returns
+returns c =
+    let p = c .before .before in
+    let s = begun p in
+    let a = s .args in
+    let e = no-hits (a .roll) (a .buf .now) (places-long s) (s .pre .0) (a .pattern .now)
+    (none-foreign (a .roll .table .code) (code s) (characters (a .roll .table)) (a .pattern .now) (s .pre .1) (sym (p .spell-pattern .ensures .0) ∙ c .if1 .taken)) in
+    (sym (ap length e), sym (ap (λ (found : List ℕ). listed found (a .slice .now)) e ∙ listed-none (a .slice .now)))
+
+array-share-prefix-symbols : tie.Need-array-share-prefix-symbols
+array-share-prefix-symbols c =
+    let p = c .before .before in
+    omega (arith, symbols-long p, length-take (p .spell-pattern .result) (p .spell-pattern .last .1 .1 .1 .1 .0))
+
+slice-aggregate-list-hits : tie.Need-slice-aggregate-list-hits
+slice-aggregate-list-hits c = symbols-long (c .before .before .before)
+
+-- the codewords at whose start they stand are the hits
+hits-are : (e : tie.Else1) → let p = e .before .before in let a = begun p .args in wordHits (a .roll) (a .buf .now) (symbols p) ≡ hits (a .pattern .now) (textOf (a .roll) (a .buf .now))
+hits-are e =
+    let p = e .before .before in
+    let s = begun p in
+    let a = s .args in
+    let l = characters (a .roll .table) in
+    let k : firstForeign l (a .pattern .now) ≡ length (a .pattern .now)
+    = some-known (a .roll .table .code) l (a .pattern .now) (λ z. e .if1 .left (p .spell-pattern .ensures .0 ∙ z)) in
+    ap (wordHits (a .roll) (a .buf .now)) (p .spell-pattern .ensures .1 ∙ pattern-known (a .roll .table .code) l (a .pattern .now) k)
+    ∙ word-hits (a .roll) (a .buf .now) (places-long s) (s .pre .0) (a .pattern .now) k
+
+returns-2 : tie.Need-returns-2
+returns-2 c =
+    let u = c .before .before in
+    let e = u .before .before .before in
+    let a = begun (e .before .before) .args in
+    (u .list-hits .ensures .0 ∙ ap length (hits-are e), u .list-hits .ensures .1 ∙ ap (λ (found : List ℕ). listed found (a .slice .now)) (hits-are e))
+
+pub search-sound-spec : {M : Type 1} → statement M
+search-sound-spec =
+    tie.close
+    (tie.spec
+    (λ c. search needs)
+    spell-pattern-requires
+    returns
+    array-share-prefix-symbols
+    slice-aggregate-list-hits
+    (λ c κs. search needs)
+    (λ c. search needs)
+    returns-2)

@@ -1,0 +1,2 @@
+// A sound roll searched where it lies.
+pub mod finding;

@@ -1,0 +1,28 @@
+-- Refusals: a list in the paper's order, each row with its test, its number and its value. The first row that applies is the
+-- outcome; if none applies the work is accepted.
+-- Assumes nothing.
+use mathlib.Core.Bool.{Bool, cond}
+use mathlib.Core.List.{List, [], _∷_}
+use Prim.Native.Nat.{ℕ}
+
+pub record Row : Type 0 where
+  pub applies : Bool
+  pub number : ℕ
+  pub value : ℕ
+
+abbrev pub refuse : ℕ → ℕ → Bool → Row
+refuse number value applies = record { applies = applies; number = number; value = value }
+
+-- accepted, with what is answered; or refused, with the number and the value
+pub data Outcome (A : Type 0) : Type 0 where
+  accepted : A → Outcome A
+  refused : ℕ → ℕ → Outcome A
+
+abbrev pub judged : {A : Type 0} → List Row → A → Outcome A
+judged [] answer = accepted answer
+judged (r ∷ rows) answer = cond (r .applies) (refused (r .number) (r .value)) (judged rows answer)
+
+-- what is lent, or stands beside the answer: `before` if some row applies, else `after`
+abbrev pub kept : {A : Type 0} → List Row → A → A → A
+kept [] before after = after
+kept (r ∷ rows) before after = cond (r .applies) before (kept rows before after)

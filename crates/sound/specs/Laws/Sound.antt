@@ -1,0 +1,84 @@
+-- A sound roll: its symbols are the codewords of its ranks, and each is found where it starts.
+-- Assumes nothing.
+use mathlib.Core.Path.{_≡_, sym, ap, _∙_}
+use mathlib.Core.List.{List}
+use Prim.Native.Nat.{ℕ, suc, _≤_, _<_}
+use native.Mathlib.Omega.{arith}
+use lib.Dec.{T}
+use lib.ListN.{length, getD, length-map}
+use lib.Seq.{length-take-le}
+use Rattle.ground.specs.Helpers.Below.{Below}
+use Rattle.ground.specs.Laws.Limit.{limit-fits}
+use Rattle.ground.specs.Laws.Rows.{below-take}
+use Rattle.stopper.specs.Paper.Table.{base, stoppers, goodTable}
+use Rattle.stopper.specs.Paper.Reading.{write}
+use Rattle.stopper.specs.Laws.Table.{table-code, table-few, code-good}
+use Rattle.stopper.specs.Laws.Reading.{read-below, write-read}
+use Rattle.symbols.specs.Paper.Symbols.{room, symbolsOf}
+use Rattle.symbols.specs.Laws.Sizes.{room-limit}
+use Rattle.symbols.specs.Laws.Rows.{symbols-below, room-row}
+use Rattle.sound.specs.Paper.Roll.{rowUpto, reading, ranksRead, textOf, Sound}
+use Rattle.sound.specs.Paper.Codewords.{foundAt}
+use Rattle.sound.specs.Helpers.Codewords.{Reads}
+use Rattle.sound.specs.Laws.Reading.{whole-is}
+use Rattle.sound.specs.Laws.Codewords.{startOf, found-rank, start-upto}
+use Rattle.sound.specs.declared.records.Roll.{Roll}
+use Rattle.sound.specs.declared.reading.Found.the-variants.{Word}
+
+-- ---- a sound roll
+
+-- the symbols up to symbol h, and the ranks that they give
+abbrev row : Roll → List ℕ → List ℕ
+row r buf = rowUpto (r .table .code) (r .h) buf
+
+abbrev ranks : Roll → List ℕ → List ℕ
+ranks r buf = ranksRead (reading r buf)
+
+pub row-length : (r : Roll) (buf : List ℕ) → r .h ≤ room (r .table .code .k) (length buf) → length (row r buf) ≡ r .h
+row-length r buf f = let k = r .table .code .k in length-take-le (r .h) (symbolsOf k buf) (room-row k buf (r .h) f)
+
+-- a good table and symbols that the buffer holds: a place up to symbol h may be read
+pub table-reads : (r : Roll) (buf : List ℕ) → T (goodTable (r .table)) → r .h ≤ room (r .table .code .k) (length buf)
+    → (p : ℕ) → p ≤ r .h → Reads (r .table .code) (r .table .sigma) buf (r .h) p
+table-reads r buf g f p h =
+    record {
+      good = table-code (r .table) g;
+      few = table-few (r .table) g;
+      held = room-row (r .table .code .k) buf (r .h) f;
+      small = omega (arith, f, room-limit (r .table .code .k) (length buf), limit-fits);
+      upto = h;
+    }
+
+pub text-length : {r : Roll} {buf : List ℕ} → Sound r buf → length (textOf r buf) ≡ r .n
+unfolding textOf
+text-length {r} {buf} s = length-map (ranks r buf) (λ rank. getD (r .table .places) rank 0) ∙ s .count
+
+module _ (r : Roll) (buf : List ℕ) (s : Sound r buf) where
+  pub sound-reads : (p : ℕ) → p ≤ r .h → Reads (r .table .code) (r .table .sigma) buf (r .h) p
+  sound-reads = table-reads r buf (s .table) (s .fits)
+
+  pub sound-length : length (row r buf) ≡ r .h
+  sound-length = row-length r buf (s .fits)
+
+  pub sound-below : Below (r .table .sigma) (ranks r buf)
+  unfolding reading
+  sound-below =
+      let c = r .table .code in
+      read-below (base c) (stoppers c) (code-good c (table-code (r .table) (s .table))) (r .table .sigma) (row r buf) (ranks r buf) (whole-is (reading r buf) (s .reads))
+
+  -- the symbols up to symbol h are the codewords of the ranks
+  pub sound-row : row r buf ≡ write (base (r .table .code)) (stoppers (r .table .code)) (ranks r buf)
+  unfolding reading
+  sound-row =
+      let c = r .table .code in
+      sym (write-read (base c) (stoppers c) (code-good c (table-code (r .table) (s .table))) (r .table .sigma) (below-take (symbols-below (c .k) buf) (r .h)) (ranks r buf)
+      (whole-is (reading r buf) (s .reads)))
+
+  -- codeword j, and where it starts
+  pub sound-found : (j : ℕ) → j < r .n
+      → foundAt (r .table .code) (r .table .sigma) (row r buf) (startOf (r .table .code) (ranks r buf) j)
+      ≡ Word (getD (ranks r buf) j 0) (startOf (r .table .code) (ranks r buf) (suc j))
+  sound-found j h = rw sound-row (found-rank (r .table .code) (table-code (r .table) (s .table)) (r .table .sigma) sound-below j (omega (arith, s .count)))
+
+  pub sound-start : (j : ℕ) → startOf (r .table .code) (ranks r buf) j ≤ r .h
+  sound-start j = omega (arith, start-upto (r .table .code) (ranks r buf) j, ap length sound-row, sound-length)

@@ -1,0 +1,195 @@
+-- The laws of codewords that are passed by their stoppers alone.
+-- Assumes nothing.
+use mathlib.Core.Path.{_≡_, refl, sym, ap, subst, _∙_}
+use mathlib.Core.List.{List, [], _∷_, _++_}
+use Prim.Native.Nat.{ℕ, zero, suc, _+_, _-_, _*_, _/_, _%_, _^_, _≤_, _<_}
+use native.Mathlib.Nat.{zero-add, add-zero, suc-add, sub-zero, suc-sub-suc, suc-mul, one-mul, div-add-mod'}
+use native.Mathlib.Numerals.{add-one}
+use native.Mathlib.Decide.{decLt}
+use native.Mathlib.Omega.{arith}
+use lib.Dec.{T}
+use lib.ListN.{length, drop, getD}
+use lib.Seq.{drop-cons}
+use Rattle.ground.specs.Laws.Rows.{length-tab, tab-at}
+use Rattle.stopper.specs.Paper.Table.{stoppers, goodCode}
+use Rattle.stopper.specs.Laws.Table.{code-width}
+use Rattle.stopper.specs.declared.code.Code.{Code}
+use Rattle.symbols.specs.Paper.Symbols.{Width, per, symbolsOf}
+use Rattle.symbols.specs.Laws.Rows.{symbols-length, symbols-append, symbols-drop, byte-within}
+use Rattle.sound.specs.Helpers.Ends.{stops, endOf, symbolsFrom, Ending, endFrom, stopsByByte}
+use Rattle.sound.specs.Laws.Ends.{stops-stop, stops-more, end-stop, end-more, stops-inside}
+
+module _ (c : Code) where
+  abbrev st : ℕ → ℕ
+  st = stoppers c
+
+  -- the stopper count is the same at every place: nothing else says so
+  pub one-number : (i : ℕ) → st i ≡ st 0
+  unfolding stoppers
+  one-number i = refl
+
+  -- so the place of the next symbol does not matter
+  pub stops-place : (i : ℕ) (ys : List ℕ) → stops st i ys ≡ stops st 0 ys
+  unfolding stops
+  stops-place i [] = refl
+  stops-place i (y ∷ ys) = rw (one-number i, stops-place (suc i) ys, stops-place 1 ys)
+
+  pub end-place : (n i : ℕ) (ys : List ℕ) → endOf st n i ys ≡ endOf st n 0 ys
+  unfolding endOf
+  end-place zero i ys = refl
+  end-place (suc n) i [] = refl
+  end-place (suc n) i (y ∷ ys) = rw (one-number i, end-place (suc n) (suc i) ys, end-place (suc n) 1 ys)
+
+  -- a continuer
+  module _ (y : ℕ) (ys : List ℕ) (h : st 0 ≤ y) where
+    pub stops-continuer : stops st 0 (y ∷ ys) ≡ stops st 0 ys
+    stops-continuer = stops-more st 0 y ys h ∙ stops-place 1 ys
+
+    pub end-continuer : (n : ℕ) → endOf st (suc n) 0 (y ∷ ys) ≡ suc (endOf st (suc n) 0 ys)
+    end-continuer n = end-more st 0 y ys n h ∙ ap suc (end-place (suc n) 1 ys)
+
+  -- ---- symbols one after the other
+
+  pub stops-upto : (xs : List ℕ) → stops st 0 xs ≤ length xs
+  unfolding stops
+  stops-upto [] = omega arith
+  stops-upto (x ∷ xs) =
+      elim (decLt x (st 0)) [
+        | yes h ↦ omega (arith, stops-stop st 0 x xs h, stops-upto xs)
+        | no h ↦ omega (arith, stops-continuer x xs (omega arith), stops-upto xs)
+      ]
+
+  pub stops-append : (xs ys : List ℕ) → stops st 0 (xs ++ ys) ≡ stops st 0 xs + stops st 0 ys
+  unfolding stops
+  stops-append [] ys = sym (zero-add (stops st 0 ys))
+  stops-append (x ∷ xs) ys =
+      elim (decLt x (st 0)) [
+        | yes h ↦ omega (arith, stops-stop st 0 x (xs ++ ys) h, stops-stop st 0 x xs h, stops-append xs ys)
+        | no h ↦
+            let k : st 0 ≤ x = omega arith in
+            omega (arith, stops-continuer x (xs ++ ys) k, stops-continuer x xs k, stops-append xs ys)
+      ]
+
+  -- symbols in which too few codewords end are passed at once
+  pub end-append : (xs ys : List ℕ) (n : ℕ) → stops st 0 xs < n → endOf st n 0 (xs ++ ys) ≡ length xs + endOf st (n - stops st 0 xs) 0 ys
+  unfolding stops
+  end-append [] ys n h = rw sub-zero (sym (zero-add (endOf st n 0 ys)))
+  end-append (x ∷ xs) ys zero h = absurd (omega arith)
+  end-append (x ∷ xs) ys (suc n) h =
+      elim (decLt x (st 0)) [
+        | yes k ↦
+            let e = stops-stop st 0 x xs k in
+            end-stop st 0 x (xs ++ ys) n k
+            ∙ rw (e, suc-sub-suc, suc-add) (ap suc (end-append xs ys n (omega arith)))
+        | no k ↦
+            let l : st 0 ≤ x = omega arith in
+            let e = stops-continuer x xs l in
+            end-continuer x (xs ++ ys) l n
+            ∙ rw (e, suc-add) (ap suc (end-append xs ys (suc n) (omega arith)))
+      ]
+
+  -- ---- the symbols of a byte
+
+  pub stops-long : length (stopsByByte c) ≡ 256
+  unfolding stopsByByte
+  stops-long = length-tab _ 0 256
+
+  pub stops-at : (b : ℕ) → b < 256 → getD (stopsByByte c) b 0 ≡ stops st 0 (symbolsOf (c .k) (b ∷ []))
+  unfolding stopsByByte
+  stops-at b h = tab-at _ 256 b h
+
+pub byte-length : (k b : ℕ) → length (symbolsOf k (b ∷ [])) ≡ per k
+byte-length k b = symbols-length k (b ∷ []) ∙ one-mul (per k)
+
+-- ---- a buffer's codewords passed, from symbol p on: so many of them are left behind symbol q
+
+pub record Passing (c : Code) (buf : List ℕ) (p count q left : ℕ) : Type 0 where
+  pub good : T (goodCode c)
+  pub enough : left ≤ stops (stoppers c) 0 (symbolsFrom c buf q)
+  pub ends : endFrom c buf p count ≡ q + endOf (stoppers c) left 0 (symbolsFrom c buf q)
+  pub counts : endFrom c buf p count < 2 ^ 64
+
+pub passing-first : {c : Code} {buf : List ℕ} {p count : ℕ} → Ending c buf p count → Passing c buf p count p count
+unfolding endFrom
+passing-first e = record { good = e .good; enough = e .enough; ends = refl; counts = e .counts }
+
+module _ {c : Code} {buf : List ℕ} {p count q left : ℕ} (a : Passing c buf p count q left) where
+  abbrev k : ℕ
+  k = c .k
+
+  abbrev row : List ℕ
+  row = symbolsOf k buf
+
+  width : Width k
+  width = code-width c (a .good)
+
+  -- the symbol behind the last
+  pub passing-last : left ≡ 0 → q ≡ endFrom c buf p count
+  unfolding endOf
+  passing-last e = sym (a .ends ∙ rw e (add-zero q))
+
+  pub passing-upto : q ≤ endFrom c buf p count
+  passing-upto = omega (arith, a .ends)
+
+  -- one that is left ends in the row
+  pub passing-inside : 0 < left → q < length row
+  passing-inside h = stops-inside (stoppers c) 0 row q (omega (arith, a .enough))
+
+  -- the byte of a symbol that is the first of one
+  module _ (h : 0 < left) (e : q % per k ≡ 0) where
+    abbrev b : ℕ
+    b = getD buf (q / per k) 0
+
+    byte-first : drop q row ≡ symbolsOf k (b ∷ []) ++ drop (q + per k) row
+    byte-first =
+        let j = q / per k in
+        let f : j * per k ≡ q = omega (arith, div-add-mod' q (per k)) in
+        let g : suc j * per k ≡ q + per k = omega (arith, suc-mul j (per k)) in
+        ap (λ (n : ℕ). drop n row) (sym f)
+        ∙ symbols-drop width j buf
+        ∙ ap (symbolsOf k) (drop-cons buf j 0 (byte-within width buf q (passing-inside h)))
+        ∙ symbols-append width (b ∷ []) (drop (suc j) buf)
+        ∙ ap (λ (ys : List ℕ). symbolsOf k (b ∷ []) ++ ys) (sym (ap (λ (n : ℕ). drop n row) (sym g) ∙ symbols-drop width (suc j) buf))
+
+    pub passing-byte : (width ended : ℕ) → width ≡ per k → ended ≡ stops (stoppers c) 0 (symbolsOf k (b ∷ [])) → ended < left
+        → Passing c buf p count (q + width) (left - ended)
+    passing-byte width ended f g l =
+        let xs = symbolsOf k (b ∷ []) in
+        let ys = drop (q + per k) row in
+        rw (f, g)
+        (record {
+          good = a .good;
+          enough = omega (arith, rw byte-first at (a .enough), stops-append c xs ys);
+          ends = omega (arith, rw byte-first at (a .ends), end-append c xs ys left (omega arith), byte-length k b);
+          counts = a .counts;
+        })
+
+  -- one symbol
+  module _ (h : 0 < left) where
+    abbrev y : ℕ
+    y = getD row q 0
+
+    symbol-first : drop q row ≡ y ∷ drop (q + 1) row
+    symbol-first = rw add-one (drop-cons row q 0 (passing-inside h))
+
+    pub passing-stopper : y < stoppers c 0 → Passing c buf p count (q + 1) (left - 1)
+    passing-stopper l =
+        let ys = drop (q + 1) row in
+        let e : left ≡ suc (left - 1) = omega arith in
+        record {
+          good = a .good;
+          enough = omega (arith, rw symbol-first at (a .enough), stops-stop (stoppers c) 0 y ys l);
+          ends = omega (arith, rw (symbol-first, e) at (a .ends), end-stop (stoppers c) 0 y ys (left - 1) l);
+          counts = a .counts;
+        }
+
+    pub passing-continuer : stoppers c 0 ≤ y → Passing c buf p count (q + 1) left
+    passing-continuer l =
+        let ys = drop (q + 1) row in
+        let e : left ≡ suc (left - 1) = omega arith in
+        record {
+          good = a .good;
+          enough = omega (arith, rw symbol-first at (a .enough), stops-continuer c y ys l);
+          ends = omega (arith, rw symbol-first at (a .ends), subst (λ n. endOf (stoppers c) n 0 (y ∷ ys) ≡ suc (endOf (stoppers c) n 0 ys)) (sym e) (end-continuer c y ys l (left - 1)));
+          counts = a .counts;
+        }

@@ -1,0 +1,37 @@
+// A range of a sound roll's text.
+use crate::ends::pass_ends;
+use crate::ends::stops_by_byte;
+use crate::reading::Found;
+use crate::reading::codeword_at;
+use crate::records::Roll;
+ghost use mathlib.Core.Path.{_≡_};
+ghost use mathlib.Core.List.{_++_};
+ghost use Prim.Native.Nat.{_-_, _≤_};
+ghost use lib.ListN.{length, drop};
+ghost use Rattle.ground.specs.Paper.Runs.{run};
+ghost use Rattle.sound.specs.Paper.Roll.{textOf, Sound};
+
+// The characters from start up to end of a sound roll, written from the start of out.
+pub fn unpack_sound(roll: Roll, buf: &[u8], start: usize, end: usize, out: &mut [u8])
+    requires { ⌜ Sound roll (now buf) × (start ≤ end) × (end ≤ roll .n) × (end - start ≤ length (now out)) ⌝ }
+    ensures { λ _. ⌜ now (out .exit) ≡ run (textOf roll (now (buf .entry))) start end ++ drop (end - start) (now (out .entry)) ⌝ }
+{
+    let table = roll.table;
+    let code = table.code;
+    let sigma = table.sigma as u32;
+    let places = table.places;
+    let h = roll.h as usize;
+    let stops = stops_by_byte(code);
+    let first = pass_ends(code, &stops, buf, 0, start);
+    let mut p = first;
+    let mut i: usize = 0;
+    while i < end - start {
+        let found = codeword_at(code, sigma, buf, h, p);
+        let Found::Word(rank, next) = found else {
+            return;
+        };
+        out[i] = places[rank as usize];
+        p = next;
+        i += 1;
+    }
+}

@@ -1,0 +1,177 @@
+-- `store::replace::replace` meets its contract.
+-- Assumes nothing.
+use mathlib.Core.Path.{_≡_, refl}
+use Prim.Native.Nat.{ℕ, _+_, _-_, _≤_}
+use native.Mathlib.Omega.{arith}
+use borrow.Author.Needs.{needs}
+use lib.ListN.{length}
+use Rattle.ground.specs.Helpers.Below.{Below}
+use Rattle.ground.specs.Laws.Rows.{below-all}
+use Rattle.sound.specs.Laws.Directory.{right-long}
+use Rattle.store.specs.Paper.Stored.{bytesAfter}
+use Rattle.store.proofs.replace.replace.Statement.{statement}
+use Rattle.store.specs.Laws.Edited as edited
+use Rattle.store.specs.Laws.Replaced as replaced
+use Rattle.store.proofs.replace.replace.Tie as tie
+
+-- ---- at the start
+
+long : (s : tie.Start) → length (s .args .roll .table .places) ≡ 256
+long s = search needs
+
+abbrev begun : tie.After-struct-known2 → tie.Start
+begun c = c .before .before .before .before .before .before .before .before .before
+
+text-bytes : (c : tie.After-struct-known2) → Below 256 (begun c .args .text .now)
+text-bytes c = below-all 256 _ (λ i. c .before .before .before .before .shared-slice-known3 .given i .fits)
+
+replace-symbols-requires : tie.Need-replace-symbols-requires
+replace-symbols-requires c κs =
+    let s = begun (c .before) in
+    let a = s .args in
+    replaced.replaces (a .roll) (a .lengths .now) (a .words .now) (a .buf .now) (a .dir .now) (a .run) (a .text .now) (a .taken) (long s) (text-bytes (c .before)) (s .pre)
+
+-- ---- after the symbols
+
+abbrev before : tie.After-slice-known3 → tie.After-struct-known2
+before c = c .before .before .before .before
+
+abbrev started : tie.After-slice-known3 → tie.Start
+started c = begun (before c)
+
+-- how many characters and symbols there are then
+abbrev count : tie.Start → ℕ
+count s = s .args .run .start + length (s .args .text .now) + (s .args .roll .n - s .args .run .end)
+
+abbrev symbols : tie.Start → ℕ
+symbols s = s .args .run .first + s .args .taken + (s .args .roll .h - s .args .run .last)
+
+count-few : (c : tie.After-slice-known3) → count (started c) ≤ 16777216
+count-few c =
+    let s = started c in
+    let a = s .args in
+    replaced.count-few (a .roll) (a .lengths .now) (a .words .now) (a .buf .now) (a .dir .now) (a .run) (a .text .now) (a .taken) (long s) (text-bytes (before c)) (s .pre)
+
+symbols-few : (c : tie.After-slice-known3) → symbols (started c) ≤ 16777216
+symbols-few c =
+    let s = started c in
+    let a = s .args in
+    replaced.symbols-few (a .roll) (a .lengths .now) (a .words .now) (a .buf .now) (a .dir .now) (a .run) (a .text .now) (a .taken) (long s) (text-bytes (before c)) (s .pre)
+
+ordered : (c : tie.After-slice-known3) → started c .args .run .first ≤ started c .args .run .last
+ordered c =
+    let s = started c in
+    let a = s .args in
+    replaced.run-ordered (a .roll) (a .lengths .now) (a .words .now) (a .buf .now) (a .dir .now) (a .run) (a .text .now) (a .taken) (long s) (text-bytes (before c)) (s .pre)
+
+inside : (c : tie.After-slice-known3) → started c .args .run .last ≤ started c .args .roll .h
+inside c =
+    let s = started c in
+    let a = s .args in
+    replaced.run-inside (a .roll) (a .lengths .now) (a .words .now) (a .buf .now) (a .dir .now) (a .run) (a .text .now) (a .taken) (long s) (text-bytes (before c)) (s .pre)
+
+add-count : tie.Need-add-count
+add-count c = omega (arith, count-few (c .before))
+
+add-count-2 : tie.Need-add-count-2
+add-count-2 c = omega (arith, count-few (c .before .before))
+
+cast-t23 : tie.Need-cast-t23
+cast-t23 c = omega (arith, count-few (c .before .before))
+
+add-t20 : tie.Need-add-t20
+add-t20 c = omega (arith, symbols-few (c .before .before .before))
+
+sub-t22 : tie.Need-sub-t22
+sub-t22 c = omega (arith, inside (c .before .before .before .before))
+
+add-t21 : tie.Need-add-t21
+add-t21 c = omega (arith, symbols-few (c .before .before .before .before))
+
+cast-t24 : tie.Need-cast-t24
+cast-t24 c = omega (arith, symbols-few (c .before .before .before .before))
+
+changed-upto-requires : tie.Need-changed-upto-requires
+changed-upto-requires c κs = let d = c .before .before .before .before in (started d .pre .ordered, ordered d)
+
+-- the record and the bytes
+record-is : (c : tie.After-slice-known3) → let s = started c in
+    record { table = s .args .roll .table; n = count s; h = symbols s } ≡ edited.rollAfter (s .args .roll) (s .args .buf .now) (s .args .run .start) (s .args .run .end) (s .args .text .now)
+record-is c =
+    let s = started c in
+    let a = s .args in
+    replaced.roll-after (a .roll) (a .lengths .now) (a .words .now) (a .buf .now) (a .dir .now) (a .run) (a .text .now) (a .taken) (long s) (text-bytes (before c)) (s .pre) refl refl
+
+bytes-are : (c : tie.After-slice-known3) → let s = started c in
+    c .before .before .replace-symbols .last .1 .1 .1 .1 .1 .0 ≡ bytesAfter (s .args .roll) (edited.textAfter (s .args .roll) (s .args .buf .now) (s .args .run .start) (s .args .run .end) (s .args .text .now)) (s .args .buf .now)
+bytes-are c =
+    let s = started c in
+    let a = s .args in
+    replaced.bytes-after (a .roll) (a .lengths .now) (a .words .now) (a .buf .now) (a .dir .now) (a .run) (a .text .now) (a .taken) (long s) (text-bytes (before c)) (s .pre)
+    (c .before .before .replace-symbols .ensures)
+
+mend-requires : tie.Need-mend-requires
+mend-requires c κs =
+    let u = c .before .before in
+    let d = u .before .before .before .before .before in
+    let s = started d in
+    let a = s .args in
+    replaced.mends (a .roll) (a .lengths .now) (a .words .now) (a .buf .now) (a .dir .now) (a .run) (a .text .now) (a .taken) (long s) (text-bytes (before d)) (s .pre)
+    (record-is d) (bytes-are d) (u .changed-upto .ensures)
+
+-- ---- after the directory is mended
+
+abbrev stored : tie.After-mend → tie.After-slice-known3
+stored m = m .before .before .before .before .before .before .before .before
+
+clear-entries-requires : tie.Need-clear-entries-requires
+clear-entries-requires c κs =
+    let m = c .before .before .before .before .before in
+    let s = started (stored m) in
+    omega (arith, c .entries-for2 .ensures, m .mend .kept .1 .1 .0, right-long (s .args .roll) (s .args .buf .now) (s .pre .sound) (s .args .dir .now) (s .pre .right))
+
+returns : tie.Need-returns
+returns c =
+    let e = c .before .before in
+    let m = e .before .before .before .before .before .before in
+    let d = stored m in
+    let s = started d in
+    let a = s .args in (
+      record-is d,
+      (
+        bytes-are d,
+        replaced.directory-after (a .roll) (a .lengths .now) (a .words .now) (a .buf .now) (a .dir .now) (a .run) (a .text .now) (a .taken) (long s) (text-bytes (before d)) (s .pre)
+            (replaced.mended-upto (a .roll) (a .lengths .now) (a .words .now) (a .buf .now) (a .dir .now) (a .run) (a .text .now) (a .taken) (long s) (text-bytes (before d)) (s .pre)
+            (record-is d)
+            (bytes-are d)
+            (m .before .before .before .changed-upto .ensures)
+            (m .mend .ensures))
+            (e .before .before .entries-for .ensures)
+            (e .before .entries-for2 .ensures)
+            (e .clear-entries .ensures),
+      ),
+    )
+
+pub replace-spec : {M : Type 1} → statement M
+replace-spec =
+    tie.close
+    (tie.spec
+    (λ c. search needs)
+    (λ c. search needs)
+    replace-symbols-requires
+    add-count
+    (λ c. search needs)
+    add-count-2
+    cast-t23
+    add-t20
+    sub-t22
+    add-t21
+    cast-t24
+    changed-upto-requires
+    mend-requires
+    (λ c κs. search needs)
+    (λ c κs. search needs)
+    clear-entries-requires
+    (λ c. search needs)
+    (λ c. search needs)
+    returns)

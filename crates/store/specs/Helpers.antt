@@ -1,0 +1,3 @@
+-- What helpers ask and answer. No promise of an operation speaks of it.
+pub mod Words
+pub mod Replacing

@@ -1,0 +1,3 @@
+-- What a buyer must believe, as the paper says it, in the order to read it.
+pub mod Fitting
+pub mod Stored

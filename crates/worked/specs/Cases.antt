@@ -1,0 +1,193 @@
+-- Worked on paper: rows of one table under one claim, which the check computes over the definitions that the promises cite. Every case
+-- that the paper marks with a star, P1 to P11, is in the table.
+-- Assumes nothing.
+use mathlib.Core.Bool.{Bool, true, false, not, _&&_}
+use mathlib.Core.List.{List, [], _∷_, _++_, map}
+use Prim.Native.Nat.{ℕ, _-_, _^_}
+use lib.Dec.{T, eqb}
+use lib.ListN.{length, replicate, drop}
+use Rattle.ground.specs.Paper.Limit.{limit}
+use Rattle.ground.specs.Paper.Refusals.{Outcome, accepted, refused, judged, kept}
+use Rattle.ground.specs.Paper.Rows.{tab, zeros, padded, allZero}
+use Rattle.ground.specs.Paper.Runs.{run}
+use Rattle.stopper.specs.Paper.Code.{codeword, place, first, shorter, opens, spell, rankOf, rankFrom, rankAt}
+use Rattle.stopper.specs.Paper.Table.{stoppers, goodWidth, goodCode, goodCharacters, goodTable, has, repeats, rankIn, lengthOf, wordOf, tableOf}
+use Rattle.stopper.specs.Paper.Reading.{read, readFrom, ahead, write}
+use Rattle.stopper.specs.Paper.Ranking.{key, insert, rankedFrom, ranked}
+use Rattle.stopper.specs.Paper.Choosing.{occurs, countsOf, counted, totalFrom, total, least, chosen, chosenTable}
+use Rattle.stopper.specs.Helpers.First.{firstFrom, firstWord}
+use Rattle.stopper.specs.declared.table.Table.{Table}
+use Rattle.symbols.specs.Paper.Symbols.{per, bytesFor, room, shift, symbolAt, symbolsOf, number, byteAt, bytesOf}
+use Rattle.texts.specs.Paper.Characters.{firstForeign}
+use Rattle.texts.specs.Paper.Directory.{entries, sum, startAt, directoryOf, firstWrong}
+use Rattle.texts.specs.Paper.Hits.{stands, hitsFrom, hits, goodPattern, listed}
+use Rattle.texts.specs.Paper.Edited.{edited}
+use Rattle.sound.specs.Paper.Roll.{textRow, symbolsFor, recordOf, reading, isBad, firstBad, ranksRead, textOf}
+use Rattle.sound.specs.Paper.Lengths.{lengthsOf, lengthsFor}
+use Rattle.sound.specs.Paper.Codewords.{foundIn, foundAt, passedFrom, oneFound, onePassed, oneFrom, oneIsLost, oneLost, oneRank}
+use Rattle.sound.specs.declared.records.Roll.{Roll}
+use Rattle.store.specs.Paper.Fitting.{firstOver}
+use Rattle.store.specs.Paper.Stored.{packedInto, bytesAfter, directoryAfter}
+use Rattle.roll.specs.Paper.Operations.{packRows, unpacked, checkRows, unpackRows, searchRows, editRows}
+
+-- ---- whether two are the same
+
+same : List ℕ → List ℕ → Bool
+same [] [] = true
+same [] (y ∷ ys) = false
+same (x ∷ xs) [] = false
+same (x ∷ xs) (y ∷ ys) = eqb x y && same xs ys
+
+sameTable : Table → Table → Bool
+sameTable t u = eqb (t .code .k) (u .code .k) && eqb (t .code .s) (u .code .s) && eqb (t .sigma) (u .sigma) && same (t .places) (u .places)
+
+sameRoll : Roll → Roll → Bool
+sameRoll r q = sameTable (r .table) (q .table) && eqb (r .n) (q .n) && eqb (r .h) (q .h)
+
+sameOutcome : Outcome (Unit {0}) → Outcome (Unit {0}) → Bool
+sameOutcome (accepted x) (accepted y) = true
+sameOutcome (accepted x) (refused n v) = false
+sameOutcome (refused n v) (accepted x) = false
+sameOutcome (refused n v) (refused n′ v′) = eqb n n′ && eqb v v′
+
+sameTotal : Outcome ℕ → Outcome ℕ → Bool
+sameTotal (accepted x) (accepted y) = eqb x y
+sameTotal (accepted x) (refused n v) = false
+sameTotal (refused n v) (accepted x) = false
+sameTotal (refused n v) (refused n′ v′) = eqb n n′ && eqb v v′
+
+-- ---- the rows
+
+data Row : Type 0 where
+  -- width, s, rank: its codeword
+  word : ℕ → ℕ → ℕ → List ℕ → Row
+  -- width, text, s: the total for the text's counts
+  totals : ℕ → List ℕ → ℕ → ℕ → Row
+  -- width, text: choosing gives this table and total
+  choice : ℕ → List ℕ → Table → ℕ → Row
+  -- table, text, buffer: the outcome, the record, the symbols, the buffer afterwards
+  packs : Table → List ℕ → List ℕ → Outcome (Unit {0}) → Roll → List ℕ → List ℕ → Row
+  -- roll, buffer: the outcome
+  checks : Roll → List ℕ → Outcome (Unit {0}) → Row
+  -- roll, buffer, start, end, output: the outcome, the output afterwards
+  unpacks : Roll → List ℕ → ℕ → ℕ → List ℕ → Outcome (Unit {0}) → List ℕ → Row
+  -- roll, buffer, pattern, hit list: the outcome with the total, the hit list afterwards
+  finds : Roll → List ℕ → List ℕ → List ℕ → Outcome ℕ → List ℕ → Row
+  -- roll, buffer, pattern, symbol: the pattern's symbols stand there, and no hit starts there
+  inside : Roll → List ℕ → List ℕ → ℕ → Row
+  -- roll, buffer, directory, start, end, text: the outcome, the record, the buffer and the directory afterwards
+  edits : Roll → List ℕ → List ℕ → ℕ → ℕ → List ℕ → Outcome (Unit {0}) → Roll → List ℕ → List ℕ → Row
+
+right : Row → Bool
+right (word k s r w) = same (wordOf (record { k = k; s = s }) r) w && eqb (rankOf (2 ^ k) (stoppers (record { k = k; s = s })) w) r
+right (totals k text s n) = eqb (total (record { k = k; s = s }) (counted (countsOf text))) n
+right (choice k text t n) =
+    let count = counted (countsOf text) in
+    eqb (total (chosen k count) count) n && sameTable (chosenTable k count) t
+right (packs t text buf o r row after) =
+    let rows = packRows t text buf in
+    sameOutcome (judged rows tt) o
+    && sameRoll (kept rows (unpacked t) (recordOf t text)) r
+    && same (symbolsFor t text) row
+    && same (kept rows buf (packedInto (t .code .k) (symbolsFor t text) buf)) after
+right (checks r buf o) = sameOutcome (judged (checkRows r buf) tt) o
+right (unpacks r buf start end out o after) =
+    let rows = unpackRows r buf start end out in
+    sameOutcome (judged rows tt) o && same (kept rows out (run (textOf r buf) start end ++ drop (end - start) out)) after
+right (finds r buf pattern slice o after) =
+    let rows = searchRows r buf pattern in
+    let found = hits pattern (textOf r buf) in
+    sameTotal (judged rows (length found)) o && same (kept rows slice (listed found slice)) after
+right (inside r buf pattern q) =
+    stands (symbolsFor (r .table) pattern) (drop q (symbolsOf (r .table .code .k) buf))
+    && not (has q (map (startAt (lengthsOf r buf)) (hits pattern (textOf r buf))))
+right (edits r buf dir start end text o r′ after behind) =
+    let rows = editRows r buf dir start end text in
+    let new = edited (textOf r buf) start end text in
+    sameOutcome (judged rows tt) o
+    && sameRoll (kept rows r (recordOf (r .table) new)) r′
+    && same (kept rows buf (bytesAfter r new buf)) after
+    && same (kept rows dir (directoryAfter r new dir)) behind
+
+every : List Row → Bool
+every [] = true
+every (r ∷ rows) = right r && every rows
+
+yes : Outcome (Unit {0})
+yes = accepted tt
+
+abracadabra : List ℕ
+abracadabra = 97 ∷ 98 ∷ 114 ∷ 97 ∷ 99 ∷ 97 ∷ 100 ∷ 97 ∷ 98 ∷ 114 ∷ 97 ∷ []
+
+-- a b r c d
+unfoldable pub abra : Table
+abra = tableOf (record { k = 2; s = 3 }) (97 ∷ 98 ∷ 114 ∷ 99 ∷ 100 ∷ [])
+
+unfoldable pub packedAbra : List ℕ
+packedAbra = 24 ∷ 195 ∷ 70 ∷ 0 ∷ []
+
+-- a record of so many characters and symbols
+abbrev pub rolled : Table → ℕ → ℕ → Roll
+rolled t n h = record { table = t; n = n; h = h }
+
+banana : List ℕ
+banana = 98 ∷ 97 ∷ 110 ∷ 97 ∷ 110 ∷ 97 ∷ []
+
+-- a n b
+bananas : Table
+bananas = tableOf (record { k = 4; s = 3 }) (97 ∷ 110 ∷ 98 ∷ [])
+
+rows : List Row
+rows =
+    -- P1
+    totals 2 abracadabra 1 18
+    ∷ totals 2 abracadabra 2 15
+    ∷ totals 2 abracadabra 3 13
+    ∷ choice 2 abracadabra abra 13
+    -- P2: symbols and bytes; a byte behind them stays
+    ∷ packs abra abracadabra (9 ∷ 9 ∷ 9 ∷ 9 ∷ 9 ∷ []) yes (rolled abra 11 13)
+    (0 ∷ 1 ∷ 2 ∷ 0 ∷ 3 ∷ 0 ∷ 0 ∷ 3 ∷ 1 ∷ 0 ∷ 1 ∷ 2 ∷ 0 ∷ []) (packedAbra ++ 9 ∷ [])
+    ∷ checks (rolled abra 11 13) packedAbra yes
+    ∷ unpacks (rolled abra 11 13) packedAbra 0 11 (replicate 12 9) yes (abracadabra ++ 9 ∷ [])
+    -- P3: b, and the symbol that equals its codeword and is no hit
+    ∷ finds (rolled abra 11 13) packedAbra (98 ∷ []) (9 ∷ 9 ∷ 9 ∷ []) (accepted 2) (1 ∷ 8 ∷ 9 ∷ [])
+    ∷ inside (rolled abra 11 13) packedAbra (98 ∷ []) 8
+    -- P4: a
+    ∷ finds (rolled abra 11 13) packedAbra (97 ∷ []) (replicate 6 9) (accepted 5) (0 ∷ 3 ∷ 5 ∷ 7 ∷ 10 ∷ 9 ∷ [])
+    -- P5: symbols and bytes; ana, overlapping
+    ∷ choice 4 banana bananas 6
+    ∷ packs bananas banana (9 ∷ 9 ∷ 9 ∷ []) yes (rolled bananas 6 6) (2 ∷ 0 ∷ 1 ∷ 0 ∷ 1 ∷ 0 ∷ []) (32 ∷ 16 ∷ 16 ∷ [])
+    ∷ finds (rolled bananas 6 6) (32 ∷ 16 ∷ 16 ∷ []) (97 ∷ 110 ∷ 97 ∷ []) (9 ∷ 9 ∷ 9 ∷ []) (accepted 2) (1 ∷ 3 ∷ 9 ∷ [])
+    -- P6
+    ∷ word 4 14 13 (13 ∷ [])
+    ∷ word 4 14 14 (14 ∷ 0 ∷ [])
+    ∷ word 4 14 27 (14 ∷ 13 ∷ [])
+    ∷ word 4 14 28 (15 ∷ 0 ∷ [])
+    -- P7
+    ∷ word 4 14 41 (15 ∷ 13 ∷ [])
+    ∷ word 4 14 42 (14 ∷ 14 ∷ 0 ∷ [])
+    ∷ word 4 14 255 (14 ∷ 14 ∷ 15 ∷ 15 ∷ 3 ∷ [])
+    -- P8
+    ∷ word 2 2 255 (2 ∷ 2 ∷ 2 ∷ 2 ∷ 2 ∷ 2 ∷ 2 ∷ 1 ∷ [])
+    -- P9
+    ∷ word 4 15 255 (replicate 17 15 ++ 0 ∷ [])
+    ∷ word 2 3 255 (replicate 85 3 ++ 0 ∷ [])
+    -- P10: dd in place of c; a byte and an entry behind stay
+    ∷ edits (rolled abra 11 13) (packedAbra ++ 9 ∷ []) (0 ∷ 9 ∷ []) 4 5 (100 ∷ 100 ∷ []) yes
+    (rolled abra 12 15) (24 ∷ 221 ∷ 52 ∷ 96 ∷ 9 ∷ []) (0 ∷ 9 ∷ [])
+    -- P11: cad dropped; the bytes used no longer are 0
+    ∷ edits (rolled abra 11 13) (packedAbra ++ 9 ∷ []) (0 ∷ 9 ∷ []) 4 7 [] yes
+    (rolled abra 8 8) (24 ∷ 24 ∷ 0 ∷ 0 ∷ 9 ∷ []) (0 ∷ 9 ∷ [])
+    -- all counts 0
+    ∷ choice 2 [] (tableOf (record { k = 2; s = 1 }) []) 0
+    ∷ choice 4 [] (tableOf (record { k = 4; s = 1 }) []) 0
+    ∷ []
+
+-- all that the cases compute with, named once
+unfoldable pub computed : Unit {0}
+unfolding limit tab zeros padded codeword place first shorter opens spell rankOf rankFrom rankAt stoppers goodWidth goodCode goodCharacters goodTable has repeats rankIn lengthOf read readFrom ahead write key insert rankedFrom ranked occurs countsOf counted totalFrom total least chosen chosenTable per bytesFor room shift symbolAt symbolsOf number byteAt bytesOf firstForeign firstOver textRow reading isBad firstBad ranksRead textOf allZero entries sum startAt directoryOf lengthsOf lengthsFor firstWrong stands hitsFrom hits goodPattern firstFrom firstWord foundIn foundAt passedFrom oneFound onePassed oneFrom oneIsLost oneLost oneRank
+computed = tt
+
+worked : T (every rows)
+unfolding every rows right same sameTable sameRoll sameOutcome sameTotal yes abracadabra abra packedAbra banana bananas computed
+worked = tt

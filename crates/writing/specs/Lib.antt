@@ -1,0 +1,3 @@
+-- Numbers and bytes, written.
+pub mod Paper
+pub mod Laws
