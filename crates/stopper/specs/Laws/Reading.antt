@@ -1,14 +1,14 @@
 -- The laws of reading.
 -- Assumes nothing.
-use mathlib.Core.Path.{_≡_, refl, sym, ap, ap₂, _∙_, subst}
+use mathlib.Core.Path.{_≡_, refl, sym, ap, _∙_, subst}
 use mathlib.Core.List.{List, [], _∷_, _++_, append-assoc, append-nil}
-use Prim.Native.Nat.{ℕ, zero, suc, _+_, _-_, _*_, _/_, _≤_, _<_}
-use native.Mathlib.Nat.{le-trans, lt-trans, mul-le-mul, le-mul-of-pos-right, div-add-mod', div-lt-iff-lt-mul, add-sub-cancel-left, add-zero, zero-add, add-suc, suc-add, add-assoc, sub-zero}
+use Prim.Native.Nat.{ℕ, zero, suc, _+_, _-_, _*_, _≤_, _<_}
+use native.Mathlib.Nat.{le-trans, lt-trans, mul-le-mul, le-mul-of-pos-right, add-zero, zero-add, add-suc, suc-add, add-assoc, sub-zero}
 use native.Mathlib.Numerals.{add-one}
 use native.Mathlib.Omega.{arith}
 use mir.Facts.{yes-ltb, no-ltb}
 use lib.Dec.{ltb, ltb→lt, nltb→le}
-use lib.Arith.{lt-one, digits-lt}
+use lib.Arith.{digits-lt}
 use lib.ListN.{length, take, drop, getD, length-append}
 use lib.Seq.{drop-append-add}
 use Rattle.ground.specs.Helpers.Below.{Below, none, also}

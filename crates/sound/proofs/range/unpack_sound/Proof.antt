@@ -14,7 +14,7 @@ use Rattle.ground.specs.Laws.Rows.{map-at, below-at}
 use Rattle.ground.specs.Laws.Runs.{front-length, front-more}
 use Rattle.stopper.specs.Laws.Table.{table-code, table-few}
 use Rattle.stopper.specs.declared.code.Code.{Code}
-use Rattle.sound.specs.Paper.Roll.{rowUpto, readRow, readingFrom, reading, ranksRead, textOf}
+use Rattle.sound.specs.Paper.Roll.{rowUpto, readRow, readingFrom, ranksRead, textOf}
 use Rattle.sound.specs.Helpers.Codewords.{foundAt}
 use Rattle.sound.specs.Laws.Codewords.{startOf}
 use Rattle.sound.specs.Laws.Sound.{sound-reads, sound-below, sound-found, sound-start}
