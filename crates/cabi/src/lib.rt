@@ -16,7 +16,7 @@ use taken::told;
 ghost use mathlib.Core.Path.{_≡_};
 ghost use mathlib.Core.List.{_++_};
 ghost use Prim.Native.Nat.{_-_};
-ghost use lib.ListN.{length, drop, getD};
+ghost use lib.ListN.{length, drop};
 ghost use Rattle.ground.specs.Paper.Refusals.{kept};
 ghost use Rattle.ground.specs.Paper.Rows.{padded};
 ghost use Rattle.ground.specs.Paper.Runs.{run};
@@ -26,7 +26,6 @@ ghost use Rattle.texts.specs.Paper.Directory.{entries, directoryOf};
 ghost use Rattle.texts.specs.Paper.Hits.{hits, listed};
 ghost use Rattle.texts.specs.Paper.Edited.{edited};
 ghost use Rattle.sound.specs.Paper.Roll.{textOf, symbolsFor, recordOf};
-ghost use Rattle.sound.specs.Paper.Codewords.{oneRank};
 ghost use Rattle.sound.specs.Paper.Lengths.{lengthsOf};
 ghost use Rattle.store.specs.Paper.Stored.{packedInto, bytesAfter, directoryAfter};
 ghost use Rattle.roll.specs.Paper.Operations.{checkRows, unpackRows, packRows, makeRows, readRows, oneRead, searchRows, editRows};
@@ -237,7 +236,7 @@ pub extern "C" fn monterculo_read_one(
     place: usize,
     value: &mut u64,
 ) -> u32
-    ensures { λ r. ⌜ Told (readRows (rollAt k s sigma (now (places .entry)) n h) (now (buf .entry)) (now (dir .entry)) place) (getD (now (places .entry)) (oneRank (oneRead (rollAt k s sigma (now (places .entry)) n h) (now (buf .entry)) (now (dir .entry)) place)) 0) r (now (value .exit)) ⌝ }
+    ensures { λ r. ⌜ Told (readRows (rollAt k s sigma (now (places .entry)) n h) (now (buf .entry)) (now (dir .entry)) place) (oneRead (rollAt k s sigma (now (places .entry)) n h) (now (buf .entry)) (now (dir .entry)) place) r (now (value .exit)) ⌝ }
 {
     let roll = roll_of(k, s, sigma, places, n, h);
     let answer = roll::read_one::read_one(roll, buf, dir, place);

@@ -14,12 +14,12 @@ use Rattle.ground.specs.declared.answers.Done.the-variants.{Yes}
 use Rattle.ground.specs.declared.answers.Answer.{Answer}
 use Rattle.ground.specs.declared.answers.Answer.the-variants.{Read}
 use Rattle.stopper.specs.Paper.Table.{goodTable}
+use Rattle.stopper.specs.Laws.Table.{table-code}
 use Rattle.texts.specs.Paper.Directory.{entries, directoryOf}
-use Rattle.sound.specs.Paper.Roll.{rowUpto, reading, ranksRead, textOf, Sound}
-use Rattle.sound.specs.Paper.Codewords.{oneRank}
+use Rattle.sound.specs.Paper.Roll.{rowUpto, readingFrom, reading, ranksRead, textOf, Sound}
 use Rattle.sound.specs.Paper.Lengths.{lengthsOf, Right}
-use Rattle.sound.specs.Laws.Codewords.{one-word}
-use Rattle.sound.specs.Laws.Sound.{sound-found}
+use Rattle.sound.specs.Laws.Codewords.{passed-word}
+use Rattle.sound.specs.Laws.Sound.{sound-found, sound-length}
 use Rattle.sound.specs.Laws.Directory.{sound-entries, right-held, right-passed, right-before}
 use Rattle.sound.specs.declared.records.Roll.{Roll}
 use Rattle.roll.specs.Paper.Operations.{Making, oneRead, readRows, ReadingOne}
@@ -35,11 +35,14 @@ made-right {r} {buf} {dir} m =
 
 module _ (r : Roll) (buf : List ℕ) (s : Sound r buf) (dir : List ℕ) (right : Right r buf dir) (place : ℕ) (inside : place < r .n) where
   -- read_one's answer is the character of the text
-  pub right-reads : judged (readRows r buf dir place) (getD (r .table .places) (oneRank (oneRead r buf dir place)) 0) ≡ accepted (getD (textOf r buf) place 0)
-  unfolding textOf
+  pub right-reads : judged (readRows r buf dir place) (oneRead r buf dir place) ≡ accepted (getD (textOf r buf) place 0)
+  unfolding textOf readingFrom
   right-reads =
-      sym (read-yes r buf dir place (yes-true (goodTable (r .table)) (s .table)) (s .fits) inside (right-held r buf s dir right place inside) (right-before r buf s dir right place inside)
-      (one-word (r .table .code) (r .table .sigma) (rowUpto (r .table .code) (r .h) buf) (getD dir (place / 32) 0) (place % 32) (right-passed r buf s dir right place inside) (sym (sound-found r buf s place inside))) .says)
+      let before = right-before r buf s dir right place inside in
+      let (held, rank) = passed-word (r .table .code) (table-code (r .table) (s .table)) (r .table .sigma) (rowUpto (r .table .code) (r .h) buf) (getD dir (place / 32) 0) (place % 32)
+      (omega (arith, sound-length r buf s)) (right-passed r buf s dir right place inside) (sym (sound-found r buf s place inside)) in
+      sym (read-yes r buf dir place (yes-true (goodTable (r .table)) (s .table)) (s .fits) inside (right-held r buf s dir right place inside) before held .says)
+      ∙ ap (λ (x : ℕ). accepted (getD (r .table .places) x 0)) rank
       ∙ ap (λ (x : ℕ). accepted x) (sym (map-at (λ rank. getD (r .table .places) rank 0) (ranksRead (reading r buf)) place (omega (arith, s .count))))
 
   pub reads-right : {answer : Answer} → ReadingOne r buf dir place answer → answer ≡ Read (getD (textOf r buf) place 0)

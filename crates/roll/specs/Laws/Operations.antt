@@ -4,7 +4,7 @@ use mathlib.Core.Path.{_≡_, refl, sym, ap, _∙_, ap₂}
 use mathlib.Core.Logic.{_≢_}
 use mathlib.Core.Bool.{true, false, _||_, not}
 use mathlib.Core.List.{List, [], _∷_, _++_}
-use Prim.Native.Nat.{ℕ, _-_, _≤_, _<_, _*_, _^_, _/_}
+use Prim.Native.Nat.{ℕ, _-_, _≤_, _<_, _*_, _^_, _/_, _%_}
 use native.Mathlib.Nat.{zero-add}
 use native.Mathlib.Omega.{arith}
 use borrow.Author.Tests.{lt-ltb, le-ltb, lt-leb, le-leb, eq-eqb, ne-eqb}
@@ -32,14 +32,13 @@ use Rattle.texts.specs.Paper.Directory.{entries, directoryOf, firstWrong}
 use Rattle.texts.specs.Paper.Edited.{edited}
 use Rattle.texts.specs.Paper.Hits.{hits, goodPattern, listed}
 use Rattle.sound.specs.Paper.Roll.{reading, isBad, firstBad, ranksRead, textOf, unusedOf, symbolsFor, recordOf, Sound}
-use Rattle.sound.specs.Paper.Codewords.{one, lost, oneIsLost, oneLost, oneRank}
 use Rattle.sound.specs.Paper.Lengths.{lengthsOf, Right}
 use Rattle.sound.specs.Helpers.Codewords.{scanned}
 use Rattle.sound.specs.declared.records.Roll.{Roll}
 use Rattle.sound.specs.declared.reading.Scan.the-variants.{Whole, Bad}
 use Rattle.store.specs.Paper.Fitting.{firstOver}
 use Rattle.store.specs.Paper.Stored.{packedInto, bytesAfter, directoryAfter}
-use Rattle.roll.specs.Paper.Operations.{checkRows, Checking, unpackRows, Unpacking, Packing, makeRows, Making, oneRead, ReadingOne, searchRows, Searching, directoryRows, DirectoryChecked, changeRows, editRows, Editing}
+use Rattle.roll.specs.Paper.Operations.{checkRows, Checking, unpackRows, Unpacking, Packing, makeRows, Making, fromEntry, oneRead, ReadingOne, searchRows, Searching, directoryRows, DirectoryChecked, changeRows, editRows, Editing}
 use Rattle.roll.specs.Helpers.Refused.{refusedPack, refusedEdit}
 use Rattle.roll.specs.Laws.Accepting.{sound-accepted, accepted-sound, right-accepted, accepted-right}
 use Rattle.roll.specs.declared.pack.Packed.{Packed}
@@ -96,12 +95,12 @@ packed-front {k} w {xs = xs} {buf = buf} {row = row} {h = h} b x y m q e f c =
 scan-whole : (o : Reading) {n : ℕ} → Whole n ≡ scanned o → (isBad o ≡ false) × (length (ranksRead o) ≡ n)
 unfolding scanned isBad ranksRead
 scan-whole (done rs) e = (refl, cc)
-scan-whole (bad p rs) e = let z : _≡_ {A = ℕ} 0 1 = cc in absurd (omega arith)
+scan-whole (bad f p rs) e = let z : _≡_ {A = ℕ} 0 1 = cc in absurd (omega arith)
 
-scan-bad : (o : Reading) {p : ℕ} → Bad p ≡ scanned o → (isBad o ≡ true) × (firstBad o ≡ p)
+scan-bad : (h : ℕ) (o : Reading) {p : ℕ} → Bad p ≡ scanned o → (isBad o ≡ true) × (firstBad h o ≡ p)
 unfolding scanned isBad firstBad
-scan-bad (done rs) e = let z : _≡_ {A = ℕ} 0 1 = cc in absurd (omega arith)
-scan-bad (bad p rs) e = (refl, cc)
+scan-bad h (done rs) e = let z : _≡_ {A = ℕ} 0 1 = cc in absurd (omega arith)
+scan-bad h (bad f p rs) e = (refl, cc)
 
 module _ (r : Roll) (buf : List ℕ) where
   pub check-1 : goodTable (r .table) ≡ false → Checking r buf (Refused 1 0)
@@ -113,7 +112,7 @@ module _ (r : Roll) (buf : List ℕ) where
 
     module _ (h : r .h ≤ room (r .table .code .k) (length buf)) where
       pub check-6 : {p : ℕ} → Bad p ≡ scanned (reading r buf) → Checking r buf (Refused 6 p)
-      check-6 e = let f = scan-bad (reading r buf) e in record { says = rw (g, le-ltb _ _ h, f .0, f .1) }
+      check-6 e = let f = scan-bad (r .h) (reading r buf) e in record { says = rw (g, le-ltb _ _ h, f .0, f .1) }
 
       module _ {n : ℕ} (e : Whole n ≡ scanned (reading r buf)) where
         pub check-7 : n ≢ r .n → Checking r buf (Refused 7 n)
@@ -227,13 +226,12 @@ module _ (r : Roll) (buf dir : List ℕ) (place : ℕ) where
           read-9-wrong m = record { says = rw (g, le-ltb _ _ h, lt-leb _ _ k, lt-leb _ _ l, le-leb _ _ m) }
 
           module _ (m : getD dir (place / 32) 0 < r .h) where
-            pub read-6 : {p : ℕ} → oneRead r buf dir place ≡ lost p → ReadingOne r buf dir place (answer-refused 6 p)
-            unfolding oneIsLost oneLost
-            read-6 e = record { says = rw (g, le-ltb _ _ h, lt-leb _ _ k, lt-leb _ _ l, lt-leb _ _ m, e) }
+            pub read-6 : {p : ℕ} → length (ranksRead (fromEntry r buf dir place)) ≤ place % 32 → firstBad (r .h) (fromEntry r buf dir place) ≡ p
+                → ReadingOne r buf dir place (answer-refused 6 p)
+            read-6 a e = record { says = rw (g, le-ltb _ _ h, lt-leb _ _ k, lt-leb _ _ l, lt-leb _ _ m, le-leb _ _ a, e) }
 
-            pub read-yes : {rank : ℕ} → oneRead r buf dir place ≡ one rank → ReadingOne r buf dir place (Read (getD (r .table .places) rank 0))
-            unfolding oneIsLost oneRank
-            read-yes e = record { says = rw (g, le-ltb _ _ h, lt-leb _ _ k, lt-leb _ _ l, lt-leb _ _ m, e) }
+            pub read-yes : place % 32 < length (ranksRead (fromEntry r buf dir place)) → ReadingOne r buf dir place (Read (oneRead r buf dir place))
+            read-yes a = record { says = rw (g, le-ltb _ _ h, lt-leb _ _ k, lt-leb _ _ l, lt-leb _ _ m, lt-leb _ _ a) }
 
 -- ---- search
 

@@ -1,25 +1,25 @@
 -- `roll::read_one::read_one` meets its contract.
 -- Assumes nothing.
-use mathlib.Core.Path.{_≡_, sym, _∙_}
+use mathlib.Core.Path.{_≡_, sym, ap, _∙_}
 use mathlib.Core.Bool.{true}
-use mathlib.Core.List.{List}
+use mathlib.Core.List.{List, []}
 use Prim.Native.Nat.{ℕ, _/_, _%_, _≤_}
 use native.Mathlib.Omega.{arith}
 use borrow.Author.Needs.{needs}
 use borrow.Author.Tests.{not-true, not-false}
-use lib.ListN.{length, getD}
+use lib.Dec.{T}
+use lib.ListN.{length, drop, getD, length-drop}
 use Rattle.ground.specs.declared.answers.Answer.the-variants.{Refused}
-use Rattle.stopper.specs.Paper.Table.{goodTable}
+use Rattle.stopper.specs.Paper.Table.{goodCode, goodTable}
 use Rattle.stopper.specs.Laws.Table.{is-good, table-code, code-width}
 use Rattle.symbols.specs.Paper.Symbols.{room}
-use Rattle.sound.specs.Paper.Roll.{rowUpto}
-use Rattle.sound.specs.Paper.Codewords.{foundAt, passedFrom, lost}
-use Rattle.sound.specs.Helpers.Codewords.{Reads}
-use Rattle.sound.specs.Laws.Codewords.{found-word, passed-upto, one-passed, one-bad, one-word}
+use Rattle.sound.specs.Paper.Roll.{rowUpto, readingFrom, ranksRead, firstBad}
+use Rattle.sound.specs.Helpers.Codewords.{Reads, foundAt, passedFrom}
+use Rattle.sound.specs.Laws.Codewords.{found-word, passed-upto, passed-over, passed-none, passed-word}
 use Rattle.sound.specs.Laws.Sound.{row-length, table-reads}
 use Rattle.sound.specs.declared.reading.Found.the-variants.{Word}
 use Rattle.sound.specs.declared.reading.Passed.the-variants.{At}
-use Rattle.roll.specs.Paper.Operations.{oneRead, ReadingOne}
+use Rattle.roll.specs.Paper.Operations.{fromEntry, ReadingOne}
 use Rattle.roll.specs.Laws.Operations.{read-1, read-5, read-10, read-9-missing, read-9-wrong, read-6, read-yes}
 use Rattle.roll.proofs.read_one.read_one.Statement.{statement}
 use Rattle.roll.proofs.read_one.read_one.Tie as tie
@@ -57,29 +57,37 @@ reads c = let a = start (tabled c) .args in table-reads (a .roll) (a .buf .now) 
 abbrev row : tie.Start → List ℕ
 row s = rowUpto (s .args .roll .table .code) (s .args .roll .h) (s .args .buf .now)
 
-one-is-lost : (c : tie.After-pass-over) {at : ℕ} → let a = begun c .args in
-    oneRead (a .roll) (a .buf .now) (a .dir .now) (a .place) ≡ lost at → ReadingOne (a .roll) (a .buf .now) (a .dir .now) (a .place) (Refused 6 at)
-one-is-lost c e =
+long : (c : tie.After-pass-over) → length (row (begun c)) ≡ begun c .args .roll .h
+long c = let a = begun c .args in row-length (a .roll) (a .buf .now) (fits (fitted (placed (entered c))))
+
+-- reading is over before the codeword
+is-over : (c : tie.After-pass-over) {at : ℕ} → let a = begun c .args in let o = fromEntry (a .roll) (a .buf .now) (a .dir .now) (a .place) in
+    (drop (a .place % 32) (ranksRead o) ≡ []) × (firstBad (length (row (begun c))) o ≡ at) → ReadingOne (a .roll) (a .buf .now) (a .dir .now) (a .place) (Refused 6 at)
+is-over c (none, e) =
     let w = entered c in
     let p = placed w in
     let f = fitted p in
     let a = begun c .args in
-    read-6 (a .roll) (a .buf .now) (a .dir .now) (a .place) (good (tabled f)) (fits f) (p .if3 .left) (w .before .before .if4 .left) (w .if5 .left) e
+    let o = fromEntry (a .roll) (a .buf .now) (a .dir .now) (a .place) in
+    read-6 (a .roll) (a .buf .now) (a .dir .now) (a .place) (good (tabled f)) (fits f) (p .if3 .left) (w .before .before .if4 .left) (w .if5 .left)
+    (omega (arith, sym (length-drop (a .place % 32) (ranksRead o)) ∙ ap length none)) (rw (long c) at e)
 
 -- up to a place of the row
 passed-is : (c : tie.After-passed2) → let s = begun (c .before .before) in
     At (c .passed2 .given .0 .0) ≡ passedFrom (s .args .roll .table .code) (s .args .roll .table .sigma) (row s) (getD (s .args .dir .now) (s .args .place / 32) 0) (s .args .place % 32)
 passed-is c = sym (c .passed2 .given .1) ∙ c .before .before .pass-over .ensures
 
-long : (c : tie.After-pass-over) → length (row (begun c)) ≡ begun c .args .roll .h
-long c = let a = begun c .args in row-length (a .roll) (a .buf .now) (fits (fitted (placed (entered c))))
+code-is : (c : tie.After-pass-over) → T (goodCode (begun c .args .roll .table .code))
+code-is c = reads (fitted (placed (entered c))) 0 (omega arith) .good
+
+entry-upto : (c : tie.After-pass-over) → let a = begun c .args in getD (a .dir .now) (a .place / 32) 0 ≤ length (row (begun c))
+entry-upto c = omega (arith, long c, entered c .if5 .left)
 
 at-upto : (c : tie.After-passed2) → c .passed2 .given .0 .0 ≤ length (row (begun (c .before .before)))
 at-upto c =
     let y = c .before .before in
     let a = begun y .args in
-    passed-upto (a .roll .table .code) (reads (fitted (placed (entered y))) 0 (omega arith) .good) (a .roll .table .sigma) (row (begun y))
-    (getD (a .dir .now) (a .place / 32) 0) (a .place % 32) (passed-is c) (omega (arith, long y, entered y .if5 .left))
+    passed-upto (a .roll .table .code) (code-is y) (a .roll .table .sigma) (row (begun y)) (getD (a .dir .now) (a .place / 32) 0) (a .place % 32) (entry-upto y) (passed-is c)
 
 -- the codeword there
 word-is : (c : tie.After-found) → let p = c .before .before .before .before in let s = begun (p .before .before) in
@@ -140,35 +148,40 @@ array-read-t33 c =
     let y = p .before .before in
     let a = begun y .args in
     let g = reads (fitted (placed (entered y))) 0 (omega arith) in
-    let w = found-word (a .roll .table .code) (g .good) (a .roll .table .sigma) (row (begun y)) (word-is (c .before)) (at-upto p) in
+    let w = found-word (a .roll .table .code) (code-is y) (a .roll .table .sigma) (row (begun y)) (word-is (c .before)) (at-upto p) in
     omega (arith, w .rank, g .few)
 
 returns-6 : tie.Need-returns-6
+unfolding readingFrom
 returns-6 c =
     let y = c .before .before .before in
     let a = begun y .args in
-    one-is-lost y
-    (one-passed (a .roll .table .code) (a .roll .table .sigma) (row (begun y)) (getD (a .dir .now) (a .place / 32) 0) (a .place % 32)
+    is-over y
+    (passed-over (a .roll .table .code) (code-is y) (a .roll .table .sigma) (row (begun y)) (getD (a .dir .now) (a .place / 32) 0) (a .place % 32) (entry-upto y)
     (sym (c .before .passed .given .1) ∙ y .pass-over .ensures))
 
 returns-7 : tie.Need-returns-7
+unfolding readingFrom
 returns-7 c =
     let p = c .before .before .before .before .before in
     let y = p .before .before in
     let e = entered y in
     let f = fitted (placed e) in
     let a = begun y .args in
-    read-yes (a .roll) (a .buf .now) (a .dir .now) (a .place) (good (tabled f)) (fits f) (placed e .if3 .left) (e .before .before .if4 .left) (e .if5 .left)
-    (one-word (a .roll .table .code) (a .roll .table .sigma) (row (begun y)) (getD (a .dir .now) (a .place / 32) 0) (a .place % 32) (passed-is p) (word-is (c .before)))
+    let (held, rank) = passed-word (a .roll .table .code) (code-is y) (a .roll .table .sigma) (row (begun y)) (getD (a .dir .now) (a .place / 32) 0) (a .place % 32) (entry-upto y)
+    (passed-is p) (word-is (c .before)) in
+    rw (← rank)
+    (read-yes (a .roll) (a .buf .now) (a .dir .now) (a .place) (good (tabled f)) (fits f) (placed e .if3 .left) (e .before .before .if4 .left) (e .if5 .left) held)
 
 returns-8 : tie.Need-returns-8
+unfolding readingFrom
 returns-8 c =
     let k = c .before .before in
     let p = k .before .before in
     let y = p .before .before in
     let a = begun y .args in
-    one-is-lost y
-    (one-bad (a .roll .table .code) (a .roll .table .sigma) (row (begun y)) (getD (a .dir .now) (a .place / 32) 0) (a .place % 32) (passed-is p)
+    is-over y
+    (passed-none (a .roll .table .code) (code-is y) (a .roll .table .sigma) (row (begun y)) (getD (a .dir .now) (a .place / 32) 0) (a .place % 32) (entry-upto y) (passed-is p)
     (sym (c .enum-told .given .1) ∙ k .codeword-at .ensures))
 
 pub read-one-spec : {M : Type 1} → statement M
