@@ -39,7 +39,7 @@ clear-unused-requires c κs =
     let w = c .before .before .before in
     let s = begun w in
     let e = symbols-even (s .args .table .code .k) (w .write-text .last .1 .1 .1 .1 .0) (s .args .buf .now) (w .write-text .kept .1 .1 .1 .1 .0) in
-    (s .pre .1 .laid .width, omega (arith, e, held s), few s)
+    (s .pre .1 .laid .width, omega (arith, e, held s), omega (arith, few s))
 
 abbrev written : tie.After-slice-known3 → tie.After-write-text
 written c = c .before .before .before .before .before .before
