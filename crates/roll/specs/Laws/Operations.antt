@@ -1,21 +1,18 @@
 -- The promises, row by row: a law for each refusal and one for acceptance.
 -- Assumes nothing.
-use mathlib.Core.Path.{_≡_, refl, sym, ap, _∙_, ap₂}
+use mathlib.Core.Path.{_≡_, refl, sym, ap, _∙_}
 use mathlib.Core.Logic.{_≢_}
 use mathlib.Core.Bool.{true, false, _||_, not}
 use mathlib.Core.List.{List, [], _∷_, _++_}
-use Prim.Native.Nat.{ℕ, _-_, _≤_, _<_, _*_, _^_, _/_, _%_}
-use native.Mathlib.Nat.{zero-add}
+use Prim.Native.Nat.{ℕ, _-_, _≤_, _<_, _/_, _%_}
 use native.Mathlib.Omega.{arith}
 use borrow.Author.Tests.{lt-ltb, le-ltb, lt-leb, le-leb, eq-eqb, ne-eqb}
 use lib.Dec.{ltb}
 use lib.ListN.{length, drop, getD}
 use Rattle.ground.specs.Paper.Refusals.{Row, refuse, accepted, refused, judged, kept}
 use Rattle.ground.specs.Paper.Answers.{doneSays, totalSays}
-use Rattle.ground.specs.Paper.Runs.{over as laid-over, run}
+use Rattle.ground.specs.Paper.Runs.{run}
 use Rattle.ground.specs.Paper.Rows.{allZero}
-use Rattle.ground.specs.Helpers.Moved.{cleared, laidFrom}
-use Rattle.ground.specs.Helpers.Below.{Below}
 use Rattle.ground.specs.Laws.Refusals.{refused-keeps, accepted-leaves, accepted-parts, refused-front, accepted-front, kept-front}
 use Rattle.ground.specs.declared.answers.Done.{Done}
 use Rattle.ground.specs.declared.answers.Done.the-variants.{Yes, Refused}
@@ -25,8 +22,7 @@ use Rattle.ground.specs.declared.answers.Total.the-variants.{Of, Refused as tot
 use Rattle.stopper.specs.Paper.Table.{goodTable, characters}
 use Rattle.stopper.specs.Paper.Reading.{Reading, done, bad}
 use Rattle.stopper.specs.declared.table.Table.{Table}
-use Rattle.symbols.specs.Paper.Symbols.{room, Width, per, bytesFor, symbolsOf}
-use Rattle.symbols.specs.Laws.Packing.{packed-cleared}
+use Rattle.symbols.specs.Paper.Symbols.{room}
 use Rattle.texts.specs.Paper.Characters.{firstForeign}
 use Rattle.texts.specs.Paper.Directory.{entries, directoryOf, firstWrong}
 use Rattle.texts.specs.Paper.Edited.{edited}
@@ -74,20 +70,11 @@ module _ (t : Table) (text buf : List ℕ) where
           let a = lt-ltb over (length text) (omega arith) in
           rw (e, o) (record { says = simp (g, known, a); roll = simp (g, known, a); leaves = simp (g, known, a) })
 
-      pub pack-yes : over ≡ length text → {h : ℕ} → h ≡ length (symbolsFor t text) → {after : List ℕ} → after ≡ packedInto (t .code .k) (symbolsFor t text) buf
-          → Packing t text buf (record { answer = Yes; roll = record { table = t; n = length text; h = h } }) after
+      pub pack-yes : over ≡ length text → {q : Roll} → q ≡ recordOf t text → {after : List ℕ} → after ≡ packedInto (t .code .k) (symbolsFor t text) buf
+          → Packing t text buf (record { answer = Yes; roll = q }) after
       pack-yes o e p =
           let a = le-ltb over (length text) (omega arith) in
           rw (e, p) (record { says = simp (g, known, a); roll = simp (g, known, a); leaves = simp (g, known, a) })
-
--- a row laid over the front of a buffer, and the rest of its last byte cleared
-pub packed-front : {k : ℕ} → Width k → {xs ys buf row after : List ℕ} {h end : ℕ} → Below (2 ^ k) xs → Below 256 buf → Below 256 after
-    → row ≡ laidFrom (symbolsOf k buf) 0 ys → ys ≡ xs → h ≡ length xs → end ≡ bytesFor k h * per k → symbolsOf k after ≡ cleared row h end → after ≡ packedInto k xs buf
-packed-front {k} w {xs = xs} {buf = buf} {row = row} {h = h} b x y m q e f c =
-    packed-cleared w b x y
-    (c
-    ∙ ap (cleared row h) f
-    ∙ ap₂ (λ (r : List ℕ) (n : ℕ). cleared r n (bytesFor k n * per k)) (m ∙ ap (laidFrom (symbolsOf k buf) 0) q ∙ ap (laid-over (symbolsOf k buf) 0 xs) (zero-add (length xs))) e)
 
 -- ---- check
 
