@@ -6,5 +6,6 @@ pub mod Table
 pub mod Characters
 pub mod State
 pub mod Operations
+pub mod Accepting
 pub mod Counting
 pub mod Choosing
