@@ -6,7 +6,6 @@ pub mod Sound
 pub mod Ends
 pub mod Stops
 pub mod Holding
-pub mod Seen
 pub mod Scans
 pub mod Directory
 pub mod Lengths

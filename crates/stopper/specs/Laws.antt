@@ -5,6 +5,7 @@ pub mod Ranking
 pub mod Table
 pub mod Characters
 pub mod State
+pub mod Seen
 pub mod Operations
 pub mod Accepting
 pub mod Counting

@@ -11,19 +11,17 @@ use Rattle.ground.specs.Paper.Refusals.{Outcome, accepted, refused}
 use Rattle.ground.specs.Paper.Rows.{tab, zeros, padded, allZero}
 use Rattle.stopper.specs.Paper.Code.{codeword, place, first, shorter, opens, spell, rankOf, rankFrom, rankAt}
 use Rattle.stopper.specs.Paper.Table.{stoppers, goodWidth, goodCode, goodCharacters, goodTable, has, repeats, rankIn, lengthOf, wordOf, tableOf}
-use Rattle.stopper.specs.Paper.Reading.{read, readFrom, ahead, write}
+use Rattle.stopper.specs.Paper.Reading.{readFrom, ahead, write}
 use Rattle.stopper.specs.Paper.Ranking.{key, insert, rankedFrom, ranked}
 use Rattle.stopper.specs.Paper.Choosing.{occurs, countsOf, counted, totalFrom, total, least, chosen, chosenTable}
 use Rattle.stopper.specs.Paper.Operations.{countSays, countLeaves, chooseSays, chooseTable, chooseTotal, codewordSays, characterSays}
-use Rattle.stopper.specs.Helpers.First.{firstFrom, firstWord}
 use Rattle.stopper.specs.declared.table.Table.{Table}
 use Rattle.symbols.specs.Paper.Symbols.{per, bytesFor, room, shift, symbolAt, symbolsOf, number, byteAt, bytesOf}
 use Rattle.texts.specs.Paper.Characters.{firstForeign}
 use Rattle.texts.specs.Paper.Directory.{entries, sum, startAt, directoryOf, firstWrong}
 use Rattle.texts.specs.Paper.Hits.{stands, hitsFrom, hits, goodPattern}
-use Rattle.sound.specs.Paper.Roll.{textRow, symbolsFor, reading, isBad, firstBad, ranksRead, textOf}
+use Rattle.sound.specs.Paper.Roll.{textRow, symbolsFor, readingFrom, isBad, ranksRead, firstBad, textOf}
 use Rattle.sound.specs.Paper.Lengths.{lengthsOf, lengthsFor}
-use Rattle.sound.specs.Paper.Codewords.{foundIn, foundAt, passedFrom, oneFound, onePassed, oneFrom, oneIsLost, oneLost, oneRank}
 use Rattle.sound.specs.declared.records.Roll.{Roll}
 use Rattle.store.specs.Paper.Fitting.{firstOver}
 use Rattle.roll.specs.Paper.Operations.{packSays, packRoll, packLeaves, checkSays, unpackSays, unpackLeaves, makeSays, readSays, searchSays, searchLeaves, directorySays, editSays, editRoll, editLeaves, editMends}
@@ -172,7 +170,7 @@ cases =
 
 -- all that the cases compute with, named once
 unfoldable pub computed : Unit {0}
-unfolding limit tab zeros padded codeword place first shorter opens spell rankOf rankFrom rankAt stoppers goodWidth goodCode goodCharacters goodTable has repeats rankIn lengthOf read readFrom ahead write key insert rankedFrom ranked occurs countsOf counted totalFrom total least chosen chosenTable per bytesFor room shift symbolAt symbolsOf number byteAt bytesOf firstForeign firstOver textRow reading isBad firstBad ranksRead textOf allZero entries sum startAt directoryOf lengthsOf lengthsFor firstWrong stands hitsFrom hits goodPattern firstFrom firstWord foundIn foundAt passedFrom oneFound onePassed oneFrom oneIsLost oneLost oneRank countSays chooseSays codewordSays characterSays packSays checkSays unpackSays makeSays readSays searchSays directorySays editSays
+unfolding limit tab zeros padded codeword place first shorter opens spell rankOf rankFrom rankAt stoppers goodWidth goodCode goodCharacters goodTable has repeats rankIn lengthOf readFrom ahead write key insert rankedFrom ranked occurs countsOf counted totalFrom total least chosen chosenTable per bytesFor room shift symbolAt symbolsOf number byteAt bytesOf firstForeign firstOver textRow readingFrom isBad ranksRead firstBad textOf allZero entries sum startAt directoryOf lengthsOf lengthsFor firstWrong stands hitsFrom hits goodPattern countSays chooseSays codewordSays characterSays packSays checkSays unpackSays makeSays readSays searchSays directorySays editSays
 computed = tt
 
 worked : T (every cases)

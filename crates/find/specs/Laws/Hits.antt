@@ -14,7 +14,7 @@ use Rattle.ground.specs.Helpers.Below.{Below}
 use Rattle.ground.specs.Laws.Tests.{same-test}
 use Rattle.ground.specs.Laws.Rows.{map-drop}
 use Rattle.stopper.specs.Paper.Code.{Good, IsCodeword, stop as stopper, more as continuer, place, codeword}
-use Rattle.stopper.specs.Paper.Reading.{Reading, done, readFrom, read, write}
+use Rattle.stopper.specs.Paper.Reading.{Reading, done, readFrom, write}
 use Rattle.stopper.specs.Paper.Table.{base, stoppers, goodCode, rankIn, characters}
 use Rattle.stopper.specs.Laws.Ranking.{_∈_}
 use Rattle.stopper.specs.Laws.Reading.{aheads, ahead-done, read-front, read-write, write-append, drop-write}
@@ -43,12 +43,11 @@ module _ (m : ℕ) (s : ℕ → ℕ) (g : Good m s) (σ : ℕ) where
       (r, sym q ∙ ap (λ (z : List ℕ). p ∷ z) k)
 
   pub stands-write : {ps us : List ℕ} → Below σ ps → Below σ us → stands (write m s ps) (write m s us) ≡ stands ps us
-  unfolding read
   stands-write {ps} {us} hp hu =
       same-test _ _
       (λ t.
       let f = stands-front (write m s ps) (write m s us) t in
-      front-stands ps us (aheads-split ps _ us (sym (read-front m s g σ 0 hp (f .0)) ∙ ap (readFrom m s σ 0 0 0) (sym (f .1)) ∙ read-write m s g σ hu)))
+      front-stands ps us (aheads-split ps _ us (sym (read-front m s g σ 0 hp (f .0)) ∙ ap (readFrom m s σ 0 0 0) (sym (f .1)) ∙ read-write m s g σ 0 hu)))
       (λ t.
       let f = stands-front ps us t in
       front-stands (write m s ps) (write m s us) (write m s (f .0), ap (write m s) (f .1) ∙ write-append m s ps (f .0)))

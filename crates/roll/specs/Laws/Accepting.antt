@@ -4,7 +4,7 @@ use mathlib.Core.Path.{_≡_, refl, sym}
 use mathlib.Core.Logic.{_↔_}
 use mathlib.Core.Bool.{Bool, true, false, _||_}
 use mathlib.Core.List.{List}
-use Prim.Native.Nat.{ℕ, _-_, _≤_, _<_, _/_}
+use Prim.Native.Nat.{ℕ, _-_, _≤_, _<_, _/_, _%_}
 use native.Mathlib.Nat.{le-of-eq}
 use native.Mathlib.Omega.{arith}
 use borrow.Author.Tests.{le-ltb, lt-leb, ltb-false, leb-false, eq-eqb, eqb-true, not-false}
@@ -12,7 +12,7 @@ use lib.Dec.{T, ltb, leb, eqb}
 use lib.ListN.{length, getD}
 use Rattle.ground.specs.Paper.Rows.{allZero}
 use Rattle.ground.specs.Paper.Refusals.{accepted}
-use Rattle.ground.specs.Laws.Refusals.{Accepted, accepted-none, none-accepted, accepted-parts}
+use Rattle.ground.specs.Laws.Refusals.{Accepted, accepted-none, accepted-parts}
 use Rattle.ground.specs.Laws.Tests.{yes-true, true-yes}
 use Rattle.stopper.specs.Paper.Table.{goodTable, characters}
 use Rattle.stopper.specs.declared.table.Table.{Table}
@@ -24,14 +24,13 @@ use Rattle.texts.specs.Paper.Edited.{edited}
 use Rattle.texts.specs.Laws.Directory.{wrong-within}
 use Rattle.texts.specs.Laws.Characters.{InTable, known-foreign, foreign-known, foreign-within}
 use Rattle.sound.specs.Paper.Roll.{symbolsFor, reading, ranksRead, textOf, unusedOf, Sound}
-use Rattle.sound.specs.Paper.Codewords.{oneIsLost}
 use Rattle.sound.specs.Paper.Lengths.{lengthsOf, Right}
 use Rattle.sound.specs.Laws.Directory.{sound-entries, right-none, none-right}
 use Rattle.sound.specs.declared.records.Roll.{Roll}
 use Rattle.store.specs.Paper.Fitting.{firstOver}
 use Rattle.store.specs.Laws.Edited.{Edits}
 use Rattle.store.specs.Laws.Fitting.{over-all, over-within}
-use Rattle.roll.specs.Paper.Operations.{packRows, packSays, checkRows, checkSays, unpackRows, unpackSays, makeRows, makeSays, oneRead, readRows, readSays, searchRows, searchSays, directoryRows, directorySays, editRows, editSays}
+use Rattle.roll.specs.Paper.Operations.{packRows, packSays, checkRows, checkSays, unpackRows, unpackSays, makeRows, makeSays, fromEntry, readRows, oneRead, readSays, searchRows, searchSays, directoryRows, directorySays, editRows, editSays}
 
 neither : (a b : Bool) → (a || b) ≡ false → (a ≡ false) × (b ≡ false)
 neither true b e = let z : _≡_ {A = ℕ} 0 1 = cc in absurd (omega arith)
@@ -138,7 +137,7 @@ makes-is r buf dir = (
   λ e. let (a, b) = accepted-parts (checkSays r buf) e in (accepted-sound r buf a, ltb-false _ _ (accepted-none (makeRows r dir) tt b .0)),
 )
 
--- ---- read one: the table is good, h is within the room, the place is below n, its entry is there and below h, and row 6 does not apply
+-- ---- read one: the table is good, h is within the room, the place is below n, its entry is there and below h, and reading from it reaches the place
 
 pub record ReadsOne (r : Roll) (buf dir : List ℕ) (place : ℕ) : Type 0 where
   pub good : T (goodTable (r .table))
@@ -146,22 +145,23 @@ pub record ReadsOne (r : Roll) (buf dir : List ℕ) (place : ℕ) : Type 0 where
   pub inside : place < r .n
   pub held : place / 32 < length dir
   pub below : getD dir (place / 32) 0 < r .h
-  pub found : oneIsLost (oneRead r buf dir place) ≡ false
+  pub reached : place % 32 < length (ranksRead (fromEntry r buf dir place))
 
-pub reads-is : (r : Roll) (buf dir : List ℕ) (place : ℕ) → ReadsOne r buf dir place ↔ ((character : ℕ) × (readSays r buf dir place ≡ accepted character))
+pub reads-is : (r : Roll) (buf dir : List ℕ) (place : ℕ) → ReadsOne r buf dir place ↔ (readSays r buf dir place ≡ accepted (oneRead r buf dir place))
 unfolding readSays
 reads-is r buf dir place = (
-  λ p. (
-    _,
-    none-accepted (readRows r buf dir place) (
-      rw (yes-true (goodTable (r .table)) (p .good)),
-      (le-ltb _ _ (p .fits), (lt-leb _ _ (p .inside), (rw (lt-leb _ _ (p .held), lt-leb _ _ (p .below)), (p .found, tt)))),
-    ),
-  ),
+  λ p. rw (yes-true (goodTable (r .table)) (p .good), le-ltb _ _ (p .fits), lt-leb _ _ (p .inside), lt-leb _ _ (p .held), lt-leb _ _ (p .below), lt-leb _ _ (p .reached)),
   λ e.
-      let (a, (b, (c, (d, (f, z))))) = accepted-none (readRows r buf dir place) _ (e .1) in
+      let (a, (b, (c, (d, (f, z))))) = accepted-none (readRows r buf dir place) (oneRead r buf dir place) e in
       let g = neither (leb (length dir) (place / 32)) (leb (r .h) (getD dir (place / 32) 0)) d in
-      record { good = true-yes _ (not-false (goodTable (r .table)) a); fits = ltb-false _ _ b; inside = leb-false _ _ c; held = leb-false _ _ (g .0); below = leb-false _ _ (g .1); found = f },
+      record {
+        good = true-yes _ (not-false (goodTable (r .table)) a);
+        fits = ltb-false _ _ b;
+        inside = leb-false _ _ c;
+        held = leb-false _ _ (g .0);
+        below = leb-false _ _ (g .1);
+        reached = leb-false _ _ f;
+      },
 )
 
 -- ---- search: the roll is sound, and the pattern good

@@ -10,21 +10,19 @@ use Rattle.ground.specs.Paper.Refusals.{accepted}
 use Rattle.ground.specs.Laws.Answers.{answer-one}
 use Rattle.ground.specs.Laws.Refusals.{accepted-leaves}
 use Rattle.ground.specs.Laws.Rows.{map-at}
-use Rattle.ground.specs.Laws.Tests.{yes-true}
 use Rattle.ground.specs.declared.answers.Done.the-variants.{Yes}
 use Rattle.ground.specs.declared.answers.Answer.{Answer}
 use Rattle.ground.specs.declared.answers.Answer.the-variants.{Read}
-use Rattle.stopper.specs.Paper.Table.{goodTable}
+use Rattle.stopper.specs.Laws.Table.{table-code}
 use Rattle.texts.specs.Paper.Directory.{entries, directoryOf}
-use Rattle.sound.specs.Paper.Roll.{rowUpto, reading, ranksRead, textOf, Sound}
+use Rattle.sound.specs.Paper.Roll.{rowUpto, readingFrom, reading, ranksRead, textOf, Sound}
 use Rattle.sound.specs.Paper.Lengths.{lengthsOf, Right}
-use Rattle.sound.specs.Laws.Codewords.{one-word}
-use Rattle.sound.specs.Laws.Sound.{sound-found}
+use Rattle.sound.specs.Laws.Codewords.{passed-word}
+use Rattle.sound.specs.Laws.Sound.{sound-found, sound-length}
 use Rattle.sound.specs.Laws.Directory.{sound-entries, right-held, right-passed, right-before}
 use Rattle.sound.specs.declared.records.Roll.{Roll}
 use Rattle.roll.specs.Paper.Operations.{Making, readSays, ReadingOne}
-use Rattle.roll.specs.Laws.Accepting.{makes-is}
-use Rattle.roll.specs.Laws.Operations.{read-yes}
+use Rattle.roll.specs.Laws.Accepting.{makes-is, reads-is}
 
 -- an accepted call found the roll sound
 pub made-sound : {r : Roll} {buf dir after : List ℕ} → Making r buf dir Yes after → Sound r buf
@@ -41,10 +39,13 @@ made-right {r} {buf} {dir} m =
 module _ (r : Roll) (buf : List ℕ) (s : Sound r buf) (dir : List ℕ) (right : Right r buf dir) (place : ℕ) (inside : place < r .n) where
   -- read_one's answer is the character of the text
   pub right-reads : readSays r buf dir place ≡ accepted (getD (textOf r buf) place 0)
-  unfolding textOf
+  unfolding textOf readingFrom
   right-reads =
-      sym (read-yes r buf dir place (yes-true (goodTable (r .table)) (s .table)) (s .fits) inside (right-held r buf s dir right place inside) (right-before r buf s dir right place inside)
-      (one-word (r .table .code) (r .table .sigma) (rowUpto (r .table .code) (r .h) buf) (getD dir (place / 32) 0) (place % 32) (right-passed r buf s dir right place inside) (sym (sound-found r buf s place inside))) .says)
+      let before = right-before r buf s dir right place inside in
+      let (held, rank) = passed-word (r .table .code) (table-code (r .table) (s .table)) (r .table .sigma) (rowUpto (r .table .code) (r .h) buf) (getD dir (place / 32) 0) (place % 32)
+      (omega (arith, sound-length r buf s)) (right-passed r buf s dir right place inside) (sym (sound-found r buf s place inside)) in
+      reads-is r buf dir place .0 (record { good = s .table; fits = s .fits; inside = inside; held = right-held r buf s dir right place inside; below = before; reached = held })
+      ∙ ap (λ (x : ℕ). accepted (getD (r .table .places) x 0)) rank
       ∙ ap (λ (x : ℕ). accepted x) (sym (map-at (λ rank. getD (r .table .places) rank 0) (ranksRead (reading r buf)) place (omega (arith, s .count))))
 
   pub reads-right : {answer : Answer} → ReadingOne r buf dir place answer → answer ≡ Read (getD (textOf r buf) place 0)

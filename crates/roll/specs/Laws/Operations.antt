@@ -4,12 +4,12 @@ use mathlib.Core.Path.{_≡_, refl, sym, ap, _∙_, ap₂}
 use mathlib.Core.Logic.{_≢_}
 use mathlib.Core.Bool.{true, false, not}
 use mathlib.Core.List.{List, [], _∷_, _++_}
-use Prim.Native.Nat.{ℕ, _-_, _≤_, _<_, _*_, _^_, _/_}
+use Prim.Native.Nat.{ℕ, _-_, _≤_, _<_, _*_, _^_}
 use native.Mathlib.Nat.{zero-add, le-of-eq}
 use native.Mathlib.Omega.{arith}
-use borrow.Author.Tests.{lt-ltb, le-ltb, lt-leb, le-leb, eq-eqb, ne-eqb}
+use borrow.Author.Tests.{lt-ltb, le-ltb, eq-eqb, ne-eqb}
 use lib.Dec.{T, ltb}
-use lib.ListN.{length, drop, getD}
+use lib.ListN.{length, drop}
 use Rattle.ground.specs.Paper.Refusals.{refuse, refused, judged}
 use Rattle.ground.specs.Paper.Runs.{over as laid-over, run}
 use Rattle.ground.specs.Paper.Rows.{allZero}
@@ -19,7 +19,6 @@ use Rattle.ground.specs.Laws.Answers.{says-as}
 use Rattle.ground.specs.Laws.Refusals.{Accepted}
 use Rattle.ground.specs.declared.answers.Done.{Done}
 use Rattle.ground.specs.declared.answers.Done.the-variants.{Yes, Refused}
-use Rattle.ground.specs.declared.answers.Answer.the-variants.{Read, Refused as answer-refused}
 use Rattle.ground.specs.declared.answers.Total.the-variants.{Of, Refused as total-refused}
 use Rattle.stopper.specs.Paper.Table.{goodTable, characters}
 use Rattle.stopper.specs.Paper.Reading.{Reading, done, bad}
@@ -31,14 +30,13 @@ use Rattle.texts.specs.Paper.Directory.{entries, directoryOf}
 use Rattle.texts.specs.Paper.Edited.{edited}
 use Rattle.texts.specs.Paper.Hits.{hits, goodPattern, listed}
 use Rattle.sound.specs.Paper.Roll.{reading, isBad, firstBad, ranksRead, textOf, unusedOf, symbolsFor, recordOf, Sound}
-use Rattle.sound.specs.Paper.Codewords.{one, lost, oneIsLost, oneLost, oneRank}
 use Rattle.sound.specs.Paper.Lengths.{lengthsOf, Right}
 use Rattle.sound.specs.Helpers.Codewords.{scanned}
 use Rattle.sound.specs.declared.records.Roll.{Roll}
 use Rattle.sound.specs.declared.reading.Scan.the-variants.{Whole, Bad}
 use Rattle.store.specs.Paper.Fitting.{firstOver}
 use Rattle.store.specs.Paper.Stored.{packedInto, bytesAfter, directoryAfter}
-use Rattle.roll.specs.Paper.Operations.{packSays, Packing, checkSays, Checking, unpackSays, Unpacking, makeSays, Making, oneRead, readSays, ReadingOne, searchSays, Searching, DirectoryChecked, editSays, Editing}
+use Rattle.roll.specs.Paper.Operations.{packSays, Packing, checkSays, Checking, unpackSays, Unpacking, makeSays, Making, searchSays, Searching, DirectoryChecked, editSays, Editing}
 use Rattle.roll.specs.Helpers.Refused.{refusedPack, refusedEdit}
 use Rattle.roll.specs.Laws.Accepting.{accepted-sound, Unpacks, unpacks-accepted, makes-is, searches-is, right-accepted, accepted-right}
 use Rattle.roll.specs.declared.pack.Packed.{Packed}
@@ -91,17 +89,17 @@ packed-front {k} w {xs = xs} {buf = buf} {row = row} {h = h} b x y m q e f c =
 scan-whole : (o : Reading) {n : ℕ} → Whole n ≡ scanned o → (isBad o ≡ false) × (length (ranksRead o) ≡ n)
 unfolding scanned isBad ranksRead
 scan-whole (done rs) e = (refl, cc)
-scan-whole (bad p rs) e = let z : _≡_ {A = ℕ} 0 1 = cc in absurd (omega arith)
+scan-whole (bad f p rs) e = let z : _≡_ {A = ℕ} 0 1 = cc in absurd (omega arith)
 
-scan-bad : (o : Reading) {p : ℕ} → Bad p ≡ scanned o → (isBad o ≡ true) × (firstBad o ≡ p)
+scan-bad : (h : ℕ) (o : Reading) {p : ℕ} → Bad p ≡ scanned o → (isBad o ≡ true) × (firstBad h o ≡ p)
 unfolding scanned isBad firstBad
-scan-bad (done rs) e = let z : _≡_ {A = ℕ} 0 1 = cc in absurd (omega arith)
-scan-bad (bad p rs) e = (refl, cc)
+scan-bad h (done rs) e = let z : _≡_ {A = ℕ} 0 1 = cc in absurd (omega arith)
+scan-bad h (bad f p rs) e = (refl, cc)
 
 module _ (r : Roll) (buf : List ℕ) (g : goodTable (r .table) ≡ true) (h : r .h ≤ room (r .table .code .k) (length buf)) where
   pub check-6 : {p : ℕ} → Bad p ≡ scanned (reading r buf) → checkSays r buf ≡ refused 6 p
   unfolding checkSays
-  check-6 e = let f = scan-bad (reading r buf) e in rw (g, le-ltb _ _ h, f .0, f .1)
+  check-6 e = let f = scan-bad (r .h) (reading r buf) e in rw (g, le-ltb _ _ h, f .0, f .1)
 
   module _ {n : ℕ} (e : Whole n ≡ scanned (reading r buf)) where
     pub check-7 : n ≢ r .n → checkSays r buf ≡ refused 7 n
@@ -133,42 +131,6 @@ module _ {r : Roll} {buf dir : List ℕ} where
 
   pub make-yes : {after : List ℕ} → Sound r buf → entries (r .n) ≤ length dir → after ≡ directoryOf (lengthsOf r buf) ++ drop (entries (r .n)) dir → Making r buf dir Yes after
   make-yes s h p = let e = makes-is r buf dir .0 (s, h) in record { says = sym e; leaves = rw e p }
-
--- ---- read one
-
-module _ (r : Roll) (buf dir : List ℕ) (place : ℕ) where
-  pub read-1 : goodTable (r .table) ≡ false → ReadingOne r buf dir place (answer-refused 1 0)
-  unfolding readSays
-  read-1 e = record { says = rw e }
-
-  module _ (g : goodTable (r .table) ≡ true) where
-    pub read-5 : room (r .table .code .k) (length buf) < r .h → ReadingOne r buf dir place (answer-refused 5 (r .h))
-    unfolding readSays
-    read-5 h = record { says = rw (g, lt-ltb _ _ h) }
-
-    module _ (h : r .h ≤ room (r .table .code .k) (length buf)) where
-      pub read-10 : r .n ≤ place → ReadingOne r buf dir place (answer-refused 10 0)
-      unfolding readSays
-      read-10 k = record { says = rw (g, le-ltb _ _ h, le-leb _ _ k) }
-
-      module _ (k : place < r .n) where
-        pub read-9-missing : length dir ≤ place / 32 → ReadingOne r buf dir place (answer-refused 9 (place / 32))
-        unfolding readSays
-        read-9-missing l = record { says = rw (g, le-ltb _ _ h, lt-leb _ _ k, le-leb _ _ l) }
-
-        module _ (l : place / 32 < length dir) where
-          pub read-9-wrong : r .h ≤ getD dir (place / 32) 0 → ReadingOne r buf dir place (answer-refused 9 (place / 32))
-          unfolding readSays
-          read-9-wrong m = record { says = rw (g, le-ltb _ _ h, lt-leb _ _ k, lt-leb _ _ l, le-leb _ _ m) }
-
-          module _ (m : getD dir (place / 32) 0 < r .h) where
-            pub read-6 : {p : ℕ} → oneRead r buf dir place ≡ lost p → ReadingOne r buf dir place (answer-refused 6 p)
-            unfolding readSays oneIsLost oneLost
-            read-6 e = record { says = rw (g, le-ltb _ _ h, lt-leb _ _ k, lt-leb _ _ l, lt-leb _ _ m, e) }
-
-            pub read-yes : {rank : ℕ} → oneRead r buf dir place ≡ one rank → ReadingOne r buf dir place (Read (getD (r .table .places) rank 0))
-            unfolding readSays oneIsLost oneRank
-            read-yes e = record { says = rw (g, le-ltb _ _ h, lt-leb _ _ k, lt-leb _ _ l, lt-leb _ _ m, e) }
 
 -- ---- search
 

@@ -14,14 +14,14 @@ use Rattle.ground.specs.declared.answers.Done.{Done}
 use Rattle.ground.specs.declared.answers.Answer.{Answer}
 use Rattle.ground.specs.declared.answers.Total.{Total}
 use Rattle.stopper.specs.Paper.Table.{goodTable, characters}
+use Rattle.stopper.specs.Paper.Reading.{Reading}
 use Rattle.stopper.specs.declared.table.Table.{Table}
 use Rattle.symbols.specs.Paper.Symbols.{room}
 use Rattle.texts.specs.Paper.Characters.{firstForeign}
 use Rattle.texts.specs.Paper.Directory.{entries, directoryOf, firstWrong}
 use Rattle.texts.specs.Paper.Hits.{hits, goodPattern, listed}
 use Rattle.texts.specs.Paper.Edited.{edited}
-use Rattle.sound.specs.Paper.Roll.{symbolsFor, recordOf, rowUpto, reading, isBad, firstBad, ranksRead, textOf, unusedOf}
-use Rattle.sound.specs.Paper.Codewords.{One, oneFrom, oneIsLost, oneLost, oneRank}
+use Rattle.sound.specs.Paper.Roll.{symbolsFor, recordOf, readingFrom, reading, isBad, ranksRead, firstBad, textOf, unusedOf}
 use Rattle.sound.specs.Paper.Lengths.{lengthsOf}
 use Rattle.sound.specs.declared.records.Roll.{Roll}
 use Rattle.store.specs.Paper.Fitting.{firstOver}
@@ -65,7 +65,7 @@ abbrev pub checkRows : Roll → List ℕ → List Row
 checkRows r buf =
     refuse 1 0 (not (goodTable (r .table)))
     ∷ refuse 5 (r .h) (ltb (room (r .table .code .k) (length buf)) (r .h))
-    ∷ refuse 6 (firstBad (reading r buf)) (isBad (reading r buf))
+    ∷ refuse 6 (firstBad (r .h) (reading r buf)) (isBad (reading r buf))
     ∷ refuse 7 (length (ranksRead (reading r buf))) (not (eqb (length (ranksRead (reading r buf))) (r .n)))
     ∷ refuse 8 0 (not (allZero (unusedOf r buf)))
     ∷ []
@@ -111,9 +111,9 @@ pub record Making (r : Roll) (buf dir : List ℕ) (answer : Done) (after : List 
 
 -- ---- read one: 1, 5, 10, 9, 6
 
--- the codeword read for a place: from the entry on, behind place mod 32 others
-abbrev pub oneRead : Roll → List ℕ → List ℕ → ℕ → One
-oneRead r buf dir place = oneFrom (r .table .code) (r .table .sigma) (rowUpto (r .table .code) (r .h) buf) (getD dir (place / 32) 0) (place % 32)
+-- the roll read from the entry for a place on
+abbrev pub fromEntry : Roll → List ℕ → List ℕ → ℕ → Reading
+fromEntry r buf dir place = readingFrom r buf (getD dir (place / 32) 0)
 
 abbrev pub readRows : Roll → List ℕ → List ℕ → ℕ → List Row
 readRows r buf dir place =
@@ -121,11 +121,15 @@ readRows r buf dir place =
     ∷ refuse 5 (r .h) (ltb (room (r .table .code .k) (length buf)) (r .h))
     ∷ refuse 10 0 (leb (r .n) place)
     ∷ refuse 9 (place / 32) (leb (length dir) (place / 32) || leb (r .h) (getD dir (place / 32) 0))
-    ∷ refuse 6 (oneLost (oneRead r buf dir place)) (oneIsLost (oneRead r buf dir place))
+    ∷ refuse 6 (firstBad (r .h) (fromEntry r buf dir place)) (leb (length (ranksRead (fromEntry r buf dir place))) (place % 32))
     ∷ []
 
+-- the character of the codeword behind place mod 32 others
+abbrev pub oneRead : Roll → List ℕ → List ℕ → ℕ → ℕ
+oneRead r buf dir place = getD (r .table .places) (getD (ranksRead (fromEntry r buf dir place)) (place % 32) 0) 0
+
 unfoldable pub readSays : Roll → List ℕ → List ℕ → ℕ → Outcome ℕ
-readSays r buf dir place = judged (readRows r buf dir place) (getD (r .table .places) (oneRank (oneRead r buf dir place)) 0)
+readSays r buf dir place = judged (readRows r buf dir place) (oneRead r buf dir place)
 
 pub record ReadingOne (r : Roll) (buf dir : List ℕ) (place : ℕ) (answer : Answer) : Type 0 where
   pub says : answerSays answer ≡ readSays r buf dir place

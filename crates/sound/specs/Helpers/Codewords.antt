@@ -1,15 +1,20 @@
 -- What reading asks of a buffer, and what it answers.
 -- Assumes nothing.
 use mathlib.Core.List.{List}
-use Prim.Native.Nat.{ℕ, _≤_}
+use Prim.Native.Nat.{ℕ, zero, suc, _+_, _≤_}
 use lib.Dec.{T}
-use lib.ListN.{length}
-use Rattle.stopper.specs.Paper.Table.{goodCode}
+use lib.ListN.{length, drop}
+use Rattle.stopper.specs.Paper.Table.{base, stoppers, goodCode}
 use Rattle.stopper.specs.Paper.Reading.{Reading, done, bad}
+use Rattle.stopper.specs.Helpers.First.{First, whole, broken, firstWord}
 use Rattle.stopper.specs.declared.code.Code.{Code}
 use Rattle.symbols.specs.Paper.Symbols.{symbolsOf}
+use Rattle.sound.specs.declared.reading.Found.{Found}
+use Rattle.sound.specs.declared.reading.Found.the-variants.{Word, Bad}
 use Rattle.sound.specs.declared.reading.Scan.{Scan}
 use Rattle.sound.specs.declared.reading.Scan.the-variants.{Whole, Bad as scan-bad}
+use Rattle.sound.specs.declared.reading.Passed.{Passed}
+use Rattle.sound.specs.declared.reading.Passed.the-variants.{At, Bad as passed-bad}
 
 -- a place up to symbol h of a buffer that holds so many (the limit is at most 2 ^ 24, so h is)
 pub record Reads (c : Code) (σ : ℕ) (buf : List ℕ) (h p : ℕ) : Type 0 where
@@ -19,6 +24,24 @@ pub record Reads (c : Code) (σ : ℕ) (buf : List ℕ) (h p : ℕ) : Type 0 whe
   pub small : h ≤ 16777216
   pub upto : p ≤ h
 
+-- the code does not say why a codeword is bad: it stops once σ is reached, before it can know
+unfoldable pub foundIn : ℕ → First → Found
+foundIn p (whole rank n) = Word rank (p + n)
+foundIn p (broken f) = Bad
+
+-- the codeword that starts at symbol p of a row
+unfoldable pub foundAt : Code → ℕ → List ℕ → ℕ → Found
+foundAt c σ row p = foundIn p (firstWord (base c) (stoppers c) σ (drop p row))
+
+-- after `count` codewords from symbol p on
+abbrev pub passStep : (ℕ → Passed) → ℕ → Found → Passed
+passStep later p (Word rank next) = later next
+passStep later p Bad = passed-bad p
+
+unfoldable pub passedFrom : Code → ℕ → List ℕ → ℕ → ℕ → Passed
+passedFrom c σ row p zero = At p
+passedFrom c σ row p (suc count) = passStep (λ next. passedFrom c σ row next count) p (foundAt c σ row p)
+
 unfoldable pub scanned : Reading → Scan
 scanned (done rs) = Whole (length rs)
-scanned (bad p rs) = scan-bad p
+scanned (bad f p rs) = scan-bad p

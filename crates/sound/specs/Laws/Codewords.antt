@@ -1,25 +1,29 @@
 -- The laws of codewords where they lie.
 -- Assumes nothing.
-use mathlib.Core.Path.{_≡_, refl, sym, ap, _∙_}
+use mathlib.Core.Path.{_≡_, refl, sym, ap, subst, _∙_}
 use mathlib.Core.List.{List, [], _++_, append-nil}
 use Prim.Native.Nat.{ℕ, zero, suc, _+_, _≤_, _<_}
-use native.Mathlib.Nat.{add-zero, add-suc, suc-add}
+use native.Mathlib.Nat.{add-zero, add-suc, suc-add, lt-of-not-le}
+use native.Mathlib.Decide.{decLe}
 use native.Mathlib.Omega.{arith}
 use lib.Dec.{T}
-use lib.ListN.{length, take, drop, getD, take-append-drop, length-append, length-drop}
-use lib.Seq.{drop-cons, drop-drop, take-suc}
+use lib.ListN.{length, take, drop, getD, take-append-drop, length-append, length-drop, drop-of-length-le}
+use lib.Seq.{drop-cons, drop-drop, take-suc, getD-drop}
 use Rattle.ground.specs.Helpers.Below.{Below}
 use Rattle.ground.specs.Laws.Rows.{below-at}
 use Rattle.stopper.specs.Paper.Code.{codeword}
 use Rattle.stopper.specs.Paper.Table.{base, stoppers, goodCode}
-use Rattle.stopper.specs.Paper.Reading.{bad, ahead, readFrom, write}
+use Rattle.stopper.specs.Paper.Reading.{Fault, bad, ahead, readFrom, write}
 use Rattle.stopper.specs.Helpers.First.{First, whole, broken, firstWord}
 use Rattle.stopper.specs.Laws.Table.{code-good}
 use Rattle.stopper.specs.Laws.Reading.{first-whole, first-broken, first-codeword, write-append, drop-write}
 use Rattle.stopper.specs.declared.code.Code.{Code}
-use Rattle.sound.specs.Paper.Codewords.{foundIn, foundAt, passStep, passedFrom, one, lost, oneFound, onePassed, oneFrom}
+use Rattle.sound.specs.Paper.Roll.{readRow, ranksRead, firstBad}
+use Rattle.sound.specs.Helpers.Codewords.{foundIn, foundAt, passStep, passedFrom}
+use Rattle.sound.specs.Laws.Reading.{ranks-ahead, bad-ahead}
 use Rattle.sound.specs.declared.reading.Found.{Found}
 use Rattle.sound.specs.declared.reading.Found.the-variants.{Word, Bad}
+use Rattle.sound.specs.declared.reading.Passed.{Passed}
 use Rattle.sound.specs.declared.reading.Passed.the-variants.{At, Bad as passed-bad}
 
 -- ---- a codeword found, or none
@@ -27,19 +31,28 @@ use Rattle.sound.specs.declared.reading.Passed.the-variants.{At, Bad as 
 found-in : (p : ℕ) (f : First) {k q : ℕ} → Word k q ≡ foundIn p f → (n : ℕ) × (f ≡ whole k n) × (q ≡ p + n)
 unfolding foundIn
 found-in p (whole r n) e = (n, cc, cc)
-found-in p broken e = let z : _≡_ {A = ℕ} 0 1 = cc in absurd (omega arith)
+found-in p (broken f) e = let z : _≡_ {A = ℕ} 0 1 = cc in absurd (omega arith)
 
-none-in : (p : ℕ) (f : First) → Bad ≡ foundIn p f → f ≡ broken
+none-in : (p : ℕ) (f : First) → Bad ≡ foundIn p f → (e : Fault) × (f ≡ broken e)
 unfolding foundIn
 none-in p (whole r n) e = let z : _≡_ {A = ℕ} 0 1 = cc in absurd (omega arith)
-none-in p broken e = refl
+none-in p (broken f) e = (f, refl)
 
 -- a codeword of rank k from symbol p up to symbol q, and what reading from there on gives
 pub record Stands (c : Code) (σ : ℕ) (row : List ℕ) (k p q : ℕ) : Type 0 where
   pub rank : k < σ
   pub some : p < q
   pub upto : q ≤ length row
-  pub reads : readFrom (base c) (stoppers c) σ p 0 0 (drop p row) ≡ ahead k (readFrom (base c) (stoppers c) σ q 0 0 (drop q row))
+  pub reads : readRow c σ row p ≡ ahead k (readRow c σ row q)
+
+module _ (c : Code) (σ : ℕ) (row : List ℕ) (p : ℕ) where
+  pub word-found : {k n : ℕ} → firstWord (base c) (stoppers c) σ (drop p row) ≡ whole k n → Word k (p + n) ≡ foundAt c σ row p
+  unfolding foundAt foundIn
+  word-found e = rw e
+
+  pub none-found : {f : Fault} → firstWord (base c) (stoppers c) σ (drop p row) ≡ broken f → Bad ≡ foundAt c σ row p
+  unfolding foundAt foundIn
+  none-found e = rw e
 
 module _ (c : Code) (g : T (goodCode c)) (σ : ℕ) (row : List ℕ) where
   pub found-word : {k p q : ℕ} → Word k q ≡ foundAt c σ row p → p ≤ length row → Stands c σ row k p q
@@ -51,38 +64,72 @@ module _ (c : Code) (g : T (goodCode c)) (σ : ℕ) (row : List ℕ) where
       rw (f .2)
       (record { rank = w .0; some = omega (arith, w .1); upto = omega (arith, w .2, length-drop p row); reads = rw drop-drop at (w .3) })
 
-  pub found-bad : {p : ℕ} → Bad ≡ foundAt c σ row p → p < length row → readFrom (base c) (stoppers c) σ p 0 0 (drop p row) ≡ bad p []
+  pub found-bad : {p : ℕ} → Bad ≡ foundAt c σ row p → p < length row → (f : Fault) × (readRow c σ row p ≡ bad f p [])
   unfolding foundAt
   found-bad {p} e h =
-      first-broken (base c) (stoppers c) (code-good c g) σ p (drop p row) (none-in p (firstWord (base c) (stoppers c) σ (drop p row)) e)
-      (omega (arith, length-drop p row))
+      let (f, b) = none-in p (firstWord (base c) (stoppers c) σ (drop p row)) e in
+      (f, first-broken (base c) (stoppers c) (code-good c g) σ p (drop p row) b (omega (arith, length-drop p row)))
 
-  -- passing over codewords does not leave the row
-  pub passed-upto : (p count : ℕ) {q : ℕ} → At q ≡ passedFrom c σ row p count → p ≤ length row → q ≤ length row
-  unfolding passedFrom
-  passed-upto p zero {q} e h = let x : q ≡ p = cc in omega arith
-  passed-upto p (suc count) {q} e h = go (foundAt c σ row p) refl (λ next. passed-upto next count) e
+  -- ---- codewords passed over
+
+  -- after `count` codewords from symbol p on, a reading is over: no more ranks, and a bad codeword at symbol q or the row's end there
+  abbrev Over : ℕ → ℕ → ℕ → Type 0
+  Over p count q = (drop count (ranksRead (readRow c σ row p)) ≡ []) × (firstBad (length row) (readRow c σ row p) ≡ q)
+
+  found-over : {p : ℕ} → Bad ≡ foundAt c σ row p → p ≤ length row → Over p 0 p
+  unfolding readFrom ranksRead firstBad
+  found-over {p} e h =
+      elim (decLe (length row) p) [
+        | yes k ↦ let n : length row ≡ p = omega arith in rw (drop-of-length-le row k) (refl, n)
+        | no k ↦ let (f, b) = found-bad e (lt-of-not-le k) in rw b (refl, refl)
+      ]
+
+  -- or it goes on at symbol q
+  unfoldable Went : ℕ → ℕ → Passed → Type 0
+  Went p count (At q) =
+      (q ≤ length row) × (drop count (ranksRead (readRow c σ row p)) ≡ ranksRead (readRow c σ row q))
+      × (firstBad (length row) (readRow c σ row p) ≡ firstBad (length row) (readRow c σ row q))
+  Went p count (passed-bad q) = Over p count q
+
+  went-ahead : {k p q : ℕ} (count : ℕ) (v : Passed) → Stands c σ row k p q → Went q count v → Went p (suc count) v
+  unfolding Went
+  went-ahead {k} count (At n) s (u, a, b) = (u, rw (s .reads, ranks-ahead k _) a, rw (s .reads) (bad-ahead (length row) k _ ∙ b))
+  went-ahead {k} count (passed-bad n) s (a, b) = (rw (s .reads, ranks-ahead k _) a, rw (s .reads) (bad-ahead (length row) k _ ∙ b))
+
+  went : (p count : ℕ) → p ≤ length row → Went p count (passedFrom c σ row p count)
+  unfolding passedFrom Went
+  went p zero h = (h, refl, refl)
+  went p (suc count) h = go (foundAt c σ row p) refl (λ next. went next count)
     where
-      go : (f : Found) → f ≡ foundAt c σ row p → ((next : ℕ) → At q ≡ passedFrom c σ row next count → next ≤ length row → q ≤ length row)
-          → At q ≡ passStep (λ next. passedFrom c σ row next count) p f → q ≤ length row
-      go (Word k next) w later e = later next e (found-word w h .upto)
-      go Bad w later e = let z : _≡_ {A = ℕ} 0 1 = cc in absurd (omega arith)
+      go : (f : Found) → f ≡ foundAt c σ row p → ((next : ℕ) → next ≤ length row → Went next count (passedFrom c σ row next count))
+          → Went p (suc count) (passStep (λ next. passedFrom c σ row next count) p f)
+      go (Word k next) w later = let s = found-word w h in went-ahead count (passedFrom c σ row next count) s (later next (s .upto))
+      go Bad w later = let (a, b) = found-over w h in (rw a, b)
 
--- ---- the codeword behind others
+  module _ (p count : ℕ) (h : p ≤ length row) where
+    pub passed-over : {q : ℕ} → passed-bad q ≡ passedFrom c σ row p count → Over p count q
+    unfolding Went
+    passed-over e = subst (Went p count) (sym e) (went p count h)
 
-module _ (c : Code) (σ : ℕ) (row : List ℕ) (p count : ℕ) where
-  pub one-passed : {at : ℕ} → passed-bad at ≡ passedFrom c σ row p count → oneFrom c σ row p count ≡ lost at
-  unfolding oneFrom onePassed
-  one-passed e = rw (← e)
+    module _ {q : ℕ} (e : At q ≡ passedFrom c σ row p count) where
+      passed-at : Went p count (At q)
+      passed-at = subst (Went p count) (sym e) (went p count h)
 
-  module _ {at : ℕ} (e : At at ≡ passedFrom c σ row p count) where
-    pub one-bad : Bad ≡ foundAt c σ row at → oneFrom c σ row p count ≡ lost at
-    unfolding oneFrom onePassed oneFound
-    one-bad f = rw (← e, ← f)
+      pub passed-upto : q ≤ length row
+      unfolding Went
+      passed-upto = passed-at .0
 
-    pub one-word : {rank next : ℕ} → Word rank next ≡ foundAt c σ row at → oneFrom c σ row p count ≡ one rank
-    unfolding oneFrom onePassed oneFound
-    one-word f = rw (← e, ← f)
+      pub passed-none : Bad ≡ foundAt c σ row q → Over p count q
+      unfolding Went
+      passed-none f = let (u, a, b) = passed-at in let (x, y) = found-over f u in (a ∙ x, b ∙ y)
+
+      pub passed-word : {k next : ℕ} → Word k next ≡ foundAt c σ row q → (count < length (ranksRead (readRow c σ row p))) × (getD (ranksRead (readRow c σ row p)) count 0 ≡ k)
+      unfolding Went
+      passed-word {k} f =
+          let (u, a, b) = passed-at in
+          let rs = ranksRead (readRow c σ row p) in
+          let r = a ∙ ap ranksRead (found-word f u .reads) ∙ ranks-ahead k _ in
+          (omega (arith, sym (length-drop count rs) ∙ ap length r), rw add-zero at (sym (getD-drop count rs 0 0)) ∙ ap (λ (l : List ℕ). getD l 0 0) r)
 
 -- ---- the codewords of a row of ranks
 

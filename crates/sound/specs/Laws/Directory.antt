@@ -20,7 +20,7 @@ use Rattle.stopper.specs.declared.code.Code.{Code}
 use Rattle.texts.specs.Paper.Directory.{entries, sum, startAt, directoryOf, firstWrong}
 use Rattle.texts.specs.Laws.Directory.{entries-upto, entries-before, directory-length, directory-at, entries-inside, none-wrong, wrong-none}
 use Rattle.sound.specs.Paper.Roll.{rowUpto, reading, ranksRead, Sound}
-use Rattle.sound.specs.Paper.Codewords.{passedFrom}
+use Rattle.sound.specs.Helpers.Codewords.{passedFrom}
 use Rattle.sound.specs.Paper.Lengths.{lengthsOf, Right}
 use Rattle.sound.specs.Helpers.Ends.{Ending, endFrom}
 use Rattle.sound.specs.Laws.Codewords.{startOf, found-word, passed-ranks}

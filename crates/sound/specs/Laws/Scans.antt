@@ -4,13 +4,11 @@ use mathlib.Core.Path.{_≡_, refl, ap, _∙_}
 use mathlib.Core.List.{List, []}
 use Prim.Native.Nat.{ℕ, suc, _+_, _-_, _≤_, _<_}
 use native.Mathlib.Omega.{arith}
-use lib.ListN.{length, drop, drop-of-length-le}
-use Rattle.stopper.specs.Paper.Table.{base, stoppers}
-use Rattle.stopper.specs.Paper.Reading.{Reading, done, bad, ahead, readFrom, read}
+use lib.ListN.{length, drop-of-length-le}
+use Rattle.stopper.specs.Paper.Reading.{Fault, Reading, done, bad, ahead, readFrom}
 use Rattle.stopper.specs.declared.code.Code.{Code}
 use Rattle.sound.specs.Paper.Roll.{readRow}
-use Rattle.sound.specs.Paper.Codewords.{foundAt, passedFrom}
-use Rattle.sound.specs.Helpers.Codewords.{scanned}
+use Rattle.sound.specs.Helpers.Codewords.{foundAt, passedFrom, scanned}
 use Rattle.sound.specs.Laws.Codewords.{Stands}
 use Rattle.sound.specs.declared.reading.Found.the-variants.{Word, Bad as none-found}
 use Rattle.sound.specs.declared.reading.Scan.{Scan}
@@ -24,12 +22,12 @@ plus count (Bad p) = Bad p
 
 -- all codewords, of which `count` stand before symbol p
 unfoldable pub scanFrom : Code → ℕ → List ℕ → ℕ → ℕ → Scan
-scanFrom c σ row p count = plus count (scanned (readFrom (base c) (stoppers c) σ p 0 0 (drop p row)))
+scanFrom c σ row p count = plus count (scanned (readRow c σ row p))
 
 plus-ahead : (n r : ℕ) (o : Reading) → plus n (scanned (ahead r o)) ≡ plus (n + 1) (scanned o)
 unfolding plus scanned ahead
 plus-ahead n r (done rs) = ap {B = Scan} (λ (k : ℕ). Whole k) (omega arith)
-plus-ahead n r (bad p rs) = refl
+plus-ahead n r (bad f p rs) = refl
 
 plus-none : (v : Scan) → v ≡ plus 0 v
 unfolding plus
@@ -37,15 +35,15 @@ plus-none (Whole n) = ap {B = Scan} (λ (k : ℕ). Whole k) (omega arith)
 plus-none (Bad p) = refl
 
 module _ (c : Code) (σ : ℕ) (row : List ℕ) where
-  pub scan-first : scanned (readRow c σ row) ≡ scanFrom c σ row 0 0
-  unfolding scanFrom read
+  pub scan-first : scanned (readRow c σ row 0) ≡ scanFrom c σ row 0 0
+  unfolding scanFrom
   scan-first = plus-none _
 
   pub scan-word : {k p q : ℕ} (count : ℕ) → Stands c σ row k p q → scanFrom c σ row p count ≡ scanFrom c σ row q (count + 1)
   unfolding scanFrom
   scan-word count s = rw (s .reads) (plus-ahead count _ _)
 
-  pub scan-bad : {p : ℕ} (count : ℕ) → readFrom (base c) (stoppers c) σ p 0 0 (drop p row) ≡ bad p [] → scanFrom c σ row p count ≡ Bad p
+  pub scan-bad : {f : Fault} {p : ℕ} (count : ℕ) → readRow c σ row p ≡ bad f p [] → scanFrom c σ row p count ≡ Bad p
   unfolding scanFrom scanned plus
   scan-bad count e = rw e
 

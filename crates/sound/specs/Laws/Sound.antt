@@ -13,13 +13,12 @@ use Rattle.ground.specs.Laws.Rows.{below-take}
 use Rattle.stopper.specs.Paper.Table.{base, stoppers, goodTable}
 use Rattle.stopper.specs.Paper.Reading.{write}
 use Rattle.stopper.specs.Laws.Table.{table-code, table-few, code-good}
-use Rattle.stopper.specs.Laws.Reading.{read-below, write-read}
+use Rattle.stopper.specs.Laws.Reading.{write-read}
 use Rattle.symbols.specs.Paper.Symbols.{room, symbolsOf}
 use Rattle.symbols.specs.Laws.Sizes.{room-limit}
 use Rattle.symbols.specs.Laws.Rows.{symbols-below, room-row}
-use Rattle.sound.specs.Paper.Roll.{rowUpto, reading, ranksRead, textOf, Sound}
-use Rattle.sound.specs.Paper.Codewords.{foundAt}
-use Rattle.sound.specs.Helpers.Codewords.{Reads}
+use Rattle.sound.specs.Paper.Roll.{rowUpto, readingFrom, reading, ranksRead, textOf, Sound}
+use Rattle.sound.specs.Helpers.Codewords.{Reads, foundAt}
 use Rattle.sound.specs.Laws.Reading.{whole-is}
 use Rattle.sound.specs.Laws.Codewords.{startOf, found-rank, start-upto}
 use Rattle.sound.specs.declared.records.Roll.{Roll}
@@ -60,19 +59,19 @@ module _ (r : Roll) (buf : List ℕ) (s : Sound r buf) where
   pub sound-length : length (row r buf) ≡ r .h
   sound-length = row-length r buf (s .fits)
 
-  pub sound-below : Below (r .table .sigma) (ranks r buf)
-  unfolding reading
-  sound-below =
+  sound-written : Below (r .table .sigma) (ranks r buf) × (write (base (r .table .code)) (stoppers (r .table .code)) (ranks r buf) ≡ row r buf)
+  unfolding readingFrom
+  sound-written =
       let c = r .table .code in
-      read-below (base c) (stoppers c) (code-good c (table-code (r .table) (s .table))) (r .table .sigma) (row r buf) (ranks r buf) (whole-is (reading r buf) (s .reads))
+      write-read (base c) (stoppers c) (code-good c (table-code (r .table) (s .table))) (r .table .sigma) (below-take (symbols-below (c .k) buf) (r .h)) 0 (ranks r buf)
+      (whole-is (reading r buf) (s .reads))
+
+  pub sound-below : Below (r .table .sigma) (ranks r buf)
+  sound-below = sound-written .0
 
   -- the symbols up to symbol h are the codewords of the ranks
   pub sound-row : row r buf ≡ write (base (r .table .code)) (stoppers (r .table .code)) (ranks r buf)
-  unfolding reading
-  sound-row =
-      let c = r .table .code in
-      sym (write-read (base c) (stoppers c) (code-good c (table-code (r .table) (s .table))) (r .table .sigma) (below-take (symbols-below (c .k) buf) (r .h)) (ranks r buf)
-      (whole-is (reading r buf) (s .reads)))
+  sound-row = sym (sound-written .1)
 
   -- codeword j, and where it starts
   pub sound-found : (j : ℕ) → j < r .n

@@ -110,6 +110,17 @@ module _ (m : ℕ) (s : ℕ → ℕ) (g : Good m s) where
       let e : shorter m s i + (q / s i * s i + q % s i) ≡ r = rw div-add-mod' (add-sub-of-le (w .above)) in
       subst P e (f i (q / s i) (q % s i) (div-lt-iff-lt-mul (g .low i) .1 hq) (mod-lt q (g .low i)))
 
+  -- what each continuer hands on to its digit, a spelling does
+  pub through {ℓ} : {X : Type ℓ} (f : ℕ → ℕ → List ℕ → X)
+      → ((i x y : ℕ) (w : List ℕ) → s i ≤ y → y < m → f i x (y ∷ w) ≡ f (suc i) (x * (m - s i) + (y - s i)) w)
+      → (i x : ℕ) (w : List ℕ) → x < opens m s i → f 0 0 (spell m s i x w) ≡ f i x w
+  unfolding spell opens
+  through f on zero x w h = rw (lt-one h)
+  through f on (suc i) x w h =
+      through f on i (x / (m - s i)) _ (div-lt-iff-lt-mul (conts-pos i) .1 h)
+      ∙ on i (x / (m - s i)) _ w (omega arith) (omega (arith, mod-lt x (conts-pos i)))
+      ∙ rw (add-sub-cancel-left, div-add-mod')
+
   -- ---- L1: a codeword is continuers and then one stopper
 
   spell-word : (i : ℕ) {x : ℕ} {w : List ℕ} → x < opens m s i → IsCodeword m s i w → IsCodeword m s 0 (spell m s i x w)
@@ -132,17 +143,9 @@ module _ (m : ℕ) (s : ℕ → ℕ) (g : Good m s) where
   unfolding rankFrom
   rank-more i x y w h = cond-no (ltb y (s i)) _ _ (no-ltb h)
 
-  rank-spell : (i x : ℕ) (w : List ℕ) → x < opens m s i → rankFrom m s 0 0 (spell m s i x w) ≡ rankFrom m s i x w
-  unfolding spell opens
-  rank-spell zero x w h = rw (lt-one h)
-  rank-spell (suc i) x w h =
-      rank-spell i (x / (m - s i)) _ (div-lt-iff-lt-mul (conts-pos i) .1 h)
-      ∙ rank-more i (x / (m - s i)) _ w (omega arith)
-      ∙ rw (add-sub-cancel-left, div-add-mod')
-
   pub rank-codeword : (r : ℕ) → rankOf m s (codeword m s r) ≡ r
   unfolding rankOf
-  rank-codeword = by-parts (λ r. rankOf m s (codeword m s r) ≡ r) (λ i x y hx hy. rw (codeword-at i hx hy) (rank-spell i x (y ∷ []) hx ∙ rank-stop i x y [] hy))
+  rank-codeword = by-parts (λ r. rankOf m s (codeword m s r) ≡ r) (λ i x y hx hy. rw (codeword-at i hx hy) (through (rankFrom m s) (λ i x y w a _. rank-more i x y w a) i x (y ∷ []) hx ∙ rank-stop i x y [] hy))
 
   -- ---- L3: a codeword is the codeword of its rank
 

@@ -51,5 +51,3 @@ chosen k count = codeFor k (least (totalFor k count) (2 ^ k - 2))
 -- and its table
 unfoldable pub chosenTable : ℕ → (ℕ → ℕ) → Table
 chosenTable k count = tableOf (chosen k count) (ranked count)
-
--- ---- what the functions of ranking.rt answer

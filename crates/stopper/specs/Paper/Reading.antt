@@ -6,29 +6,30 @@ use Prim.Native.Nat.{ℕ, zero, suc, _+_, _-_, _*_}
 use lib.Dec.{ltb}
 use Rattle.stopper.specs.Paper.Code.{codeword, rankAt}
 
--- what reading gives: all read, with the ranks in order; or a bad codeword (unfinished, or of rank σ or more), with the number
--- of its first symbol and the ranks read before it
+-- why a codeword is bad: unfinished at the row's end, or of rank σ or more
+pub data Fault : Type 0 where
+  unfinished : Fault
+  beyond : Fault
+
+-- what reading gives: all read, with the ranks in order; or a bad codeword, with the number of its first symbol and the ranks read before it
 pub data Reading : Type 0 where
   done : List ℕ → Reading
-  bad : ℕ → List ℕ → Reading
+  bad : Fault → ℕ → List ℕ → Reading
 
 unfoldable pub ahead : ℕ → Reading → Reading
 ahead r (done rs) = done (r ∷ rs)
-ahead r (bad p rs) = bad p (r ∷ rs)
+ahead r (bad f p rs) = bad f p (r ∷ rs)
 
 -- reading goes on at place i of a codeword that starts at symbol `from`, after continuers that spell x
 unfoldable pub readFrom : ℕ → (ℕ → ℕ) → ℕ → ℕ → ℕ → ℕ → List ℕ → Reading
 readFrom m s σ from zero x [] = done []
-readFrom m s σ from (suc i) x [] = bad from []
+readFrom m s σ from (suc i) x [] = bad unfinished from []
 readFrom m s σ from i x (y ∷ w) =
     let r : ℕ = rankAt m s i x y in
     let next : Reading = ahead r (readFrom m s σ (from + suc i) 0 0 w) in
     let later : Reading = readFrom m s σ from (suc i) (x * (m - s i) + (y - s i)) w in
-    let stopped : Reading = cond (ltb r σ) next (bad from []) in
+    let stopped : Reading = cond (ltb r σ) next (bad beyond from []) in
     cond (ltb y (s i)) stopped later
-
-unfoldable pub read : ℕ → (ℕ → ℕ) → ℕ → List ℕ → Reading
-read m s σ w = readFrom m s σ 0 0 0 w
 
 -- the codewords of a row of ranks, one after the other
 unfoldable pub write : ℕ → (ℕ → ℕ) → List ℕ → List ℕ

@@ -15,7 +15,7 @@ use Rattle.symbols.specs.Paper.Symbols.{Width, per, bytesFor, room, symbolsOf}
 use Rattle.symbols.specs.Laws.Width.{per-few}
 use Rattle.symbols.specs.Laws.Sizes.{bytesFor-enough, bytesFor-least}
 use Rattle.symbols.specs.Laws.Rows.{ends-inside}
-use Rattle.sound.specs.Paper.Roll.{reading, unusedOf}
+use Rattle.sound.specs.Paper.Roll.{readingFrom, reading, unusedOf}
 use Rattle.sound.specs.Helpers.Codewords.{Reads, scanned}
 use Rattle.sound.specs.Laws.Sound.{table-reads}
 use Rattle.sound.specs.declared.reading.Scan.the-variants.{Whole}
@@ -52,7 +52,7 @@ reads c =
 
 -- all codewords are read
 whole : (c : tie.After-read2) → let a = start (tabled (fitted c)) .args in Whole (c .read2 .given .0 .0) ≡ scanned (reading (a .roll) (a .buf .now))
-unfolding reading
+unfolding readingFrom
 whole c = sym (c .read2 .given .1) ∙ c .before .before .read-all .ensures
 
 -- the unused symbols end with the last byte
@@ -110,7 +110,7 @@ returns-4 c =
     record { says = sym (check-last _ _ (good (tabled f)) (fits f) (whole w) (n .if3 .left) ∙ rw (sym (zero-is (c .before)) ∙ not-true _ (c .if4 .taken))) }
 
 returns-5 : tie.Need-returns-5
-unfolding reading
+unfolding readingFrom
 returns-5 c =
     let y = c .before .before .before in
     let f = y .before .before in

@@ -1,26 +1,27 @@
 -- `roll::read_one::read_one` meets its contract.
 -- Assumes nothing.
-use mathlib.Core.Path.{_≡_, sym, _∙_}
+use mathlib.Core.Path.{_≡_, sym, ap, _∙_}
 use mathlib.Core.Bool.{true}
-use mathlib.Core.List.{List}
+use mathlib.Core.List.{List, []}
 use Prim.Native.Nat.{ℕ, _/_, _%_, _≤_}
 use native.Mathlib.Omega.{arith}
 use borrow.Author.Needs.{needs}
-use borrow.Author.Tests.{not-true, not-false}
-use lib.ListN.{length, getD}
+use borrow.Author.Tests.{lt-ltb, le-ltb, lt-leb, le-leb, not-true, not-false}
+use lib.Dec.{T}
+use lib.ListN.{length, drop, getD, length-drop}
+use Rattle.ground.specs.Laws.Tests.{true-yes}
 use Rattle.ground.specs.declared.answers.Answer.the-variants.{Refused}
-use Rattle.stopper.specs.Paper.Table.{goodTable}
+use Rattle.stopper.specs.Paper.Table.{goodCode, goodTable}
 use Rattle.stopper.specs.Laws.Table.{is-good, table-code, code-width}
 use Rattle.symbols.specs.Paper.Symbols.{room}
-use Rattle.sound.specs.Paper.Roll.{rowUpto}
-use Rattle.sound.specs.Paper.Codewords.{foundAt, passedFrom, lost}
-use Rattle.sound.specs.Helpers.Codewords.{Reads}
-use Rattle.sound.specs.Laws.Codewords.{found-word, passed-upto, one-passed, one-bad, one-word}
+use Rattle.sound.specs.Paper.Roll.{rowUpto, readingFrom, ranksRead, firstBad}
+use Rattle.sound.specs.Helpers.Codewords.{Reads, foundAt, passedFrom}
+use Rattle.sound.specs.Laws.Codewords.{found-word, passed-upto, passed-over, passed-none, passed-word}
 use Rattle.sound.specs.Laws.Sound.{row-length, table-reads}
 use Rattle.sound.specs.declared.reading.Found.the-variants.{Word}
 use Rattle.sound.specs.declared.reading.Passed.the-variants.{At}
-use Rattle.roll.specs.Paper.Operations.{oneRead, ReadingOne}
-use Rattle.roll.specs.Laws.Operations.{read-1, read-5, read-10, read-9-missing, read-9-wrong, read-6, read-yes}
+use Rattle.roll.specs.Paper.Operations.{fromEntry, readSays, ReadingOne}
+use Rattle.roll.specs.Laws.Accepting.{ReadsOne, reads-is}
 use Rattle.roll.proofs.read_one.read_one.Statement.{statement}
 use Rattle.roll.proofs.read_one.read_one.Tie as tie
 
@@ -57,29 +58,40 @@ reads c = let a = start (tabled c) .args in table-reads (a .roll) (a .buf .now) 
 abbrev row : tie.Start → List ℕ
 row s = rowUpto (s .args .roll .table .code) (s .args .roll .h) (s .args .buf .now)
 
-one-is-lost : (c : tie.After-pass-over) {at : ℕ} → let a = begun c .args in
-    oneRead (a .roll) (a .buf .now) (a .dir .now) (a .place) ≡ lost at → ReadingOne (a .roll) (a .buf .now) (a .dir .now) (a .place) (Refused 6 at)
-one-is-lost c e =
+long : (c : tie.After-pass-over) → length (row (begun c)) ≡ begun c .args .roll .h
+long c = let a = begun c .args in row-length (a .roll) (a .buf .now) (fits (fitted (placed (entered c))))
+
+-- reading is over before the codeword
+is-over : (c : tie.After-pass-over) {at : ℕ} → let a = begun c .args in let o = fromEntry (a .roll) (a .buf .now) (a .dir .now) (a .place) in
+    (drop (a .place % 32) (ranksRead o) ≡ []) × (firstBad (length (row (begun c))) o ≡ at) → ReadingOne (a .roll) (a .buf .now) (a .dir .now) (a .place) (Refused 6 at)
+unfolding readSays
+is-over c (none, e) =
     let w = entered c in
     let p = placed w in
     let f = fitted p in
     let a = begun c .args in
-    read-6 (a .roll) (a .buf .now) (a .dir .now) (a .place) (good (tabled f)) (fits f) (p .if3 .left) (w .before .before .if4 .left) (w .if5 .left) e
+    let o = fromEntry (a .roll) (a .buf .now) (a .dir .now) (a .place) in
+    let short : length (ranksRead o) ≤ a .place % 32 = omega (arith, sym (length-drop (a .place % 32) (ranksRead o)) ∙ ap length none) in
+    record {
+      says = rw (good (tabled f), le-ltb _ _ (fits f), lt-leb _ _ (p .if3 .left), lt-leb _ _ (w .before .before .if4 .left), lt-leb _ _ (w .if5 .left), le-leb _ _ short, rw (long c) at e);
+    }
 
 -- up to a place of the row
 passed-is : (c : tie.After-passed2) → let s = begun (c .before .before) in
     At (c .passed2 .given .0 .0) ≡ passedFrom (s .args .roll .table .code) (s .args .roll .table .sigma) (row s) (getD (s .args .dir .now) (s .args .place / 32) 0) (s .args .place % 32)
 passed-is c = sym (c .passed2 .given .1) ∙ c .before .before .pass-over .ensures
 
-long : (c : tie.After-pass-over) → length (row (begun c)) ≡ begun c .args .roll .h
-long c = let a = begun c .args in row-length (a .roll) (a .buf .now) (fits (fitted (placed (entered c))))
+code-is : (c : tie.After-pass-over) → T (goodCode (begun c .args .roll .table .code))
+code-is c = reads (fitted (placed (entered c))) 0 (omega arith) .good
+
+entry-upto : (c : tie.After-pass-over) → let a = begun c .args in getD (a .dir .now) (a .place / 32) 0 ≤ length (row (begun c))
+entry-upto c = omega (arith, long c, entered c .if5 .left)
 
 at-upto : (c : tie.After-passed2) → c .passed2 .given .0 .0 ≤ length (row (begun (c .before .before)))
 at-upto c =
     let y = c .before .before in
     let a = begun y .args in
-    passed-upto (a .roll .table .code) (reads (fitted (placed (entered y))) 0 (omega arith) .good) (a .roll .table .sigma) (row (begun y))
-    (getD (a .dir .now) (a .place / 32) 0) (a .place % 32) (passed-is c) (omega (arith, long y, entered y .if5 .left))
+    passed-upto (a .roll .table .code) (code-is y) (a .roll .table .sigma) (row (begun y)) (getD (a .dir .now) (a .place / 32) 0) (a .place % 32) (entry-upto y) (passed-is c)
 
 -- the codeword there
 word-is : (c : tie.After-found) → let p = c .before .before .before .before in let s = begun (p .before .before) in
@@ -87,9 +99,8 @@ word-is : (c : tie.After-found) → let p = c .before .before .before .before in
 word-is c = sym (c .found .given .1) ∙ c .before .before .codeword-at .ensures
 
 returns : tie.Need-returns
-returns c =
-    let a = c .before .before .before .before .before .args in
-    read-1 (a .roll) (a .buf .now) (a .dir .now) (a .place) (sym (c .before .good-table .ensures) ∙ not-true _ (c .if1 .taken))
+unfolding readSays
+returns c = record { says = rw (sym (c .before .good-table .ensures) ∙ not-true _ (c .if1 .taken)) }
 
 room-of-requires : tie.Need-room-of-requires
 room-of-requires c κs =
@@ -98,32 +109,28 @@ room-of-requires c κs =
     code-width (t .code) (table-code t (is-good t (good e)))
 
 returns-2 : tie.Need-returns-2
-returns-2 c =
-    let e = c .before .before .before .before in
-    let a = start e .args in
-    read-5 (a .roll) (a .buf .now) (a .dir .now) (a .place) (good e) (omega (arith, c .if2 .taken, c .before .room-of .ensures))
+unfolding readSays
+returns-2 c = record { says = rw (good (c .before .before .before .before), lt-ltb _ _ (rw (c .before .room-of .ensures) at (c .if2 .taken))) }
 
 returns-3 : tie.Need-returns-3
-returns-3 c =
-    let f = c .before .before in
-    let a = start (tabled f) .args in
-    read-10 (a .roll) (a .buf .now) (a .dir .now) (a .place) (good (tabled f)) (fits f) (c .if3 .taken)
+unfolding readSays
+returns-3 c = let f = c .before .before in record { says = rw (good (tabled f), le-ltb _ _ (fits f), le-leb _ _ (c .if3 .taken)) }
 
 returns-4 : tie.Need-returns-4
+unfolding readSays
 returns-4 c =
     let f = fitted (c .before) in
-    let a = start (tabled f) .args in
-    read-9-missing (a .roll) (a .buf .now) (a .dir .now) (a .place) (good (tabled f)) (fits f) (c .before .if3 .left) (c .if4 .taken)
+    record { says = rw (good (tabled f), le-ltb _ _ (fits f), lt-leb _ _ (c .before .if3 .left), le-leb _ _ (c .if4 .taken)) }
 
 cast-first : tie.Need-cast-first
 cast-first c = let a = start (tabled (fitted (c .before .before))) .args in omega (arith, c .shared-slice-known3 .given (a .place / 32))
 
 returns-5 : tie.Need-returns-5
+unfolding readSays
 returns-5 c =
     let e = c .before .before in
     let f = fitted (e .before) in
-    let a = start (tabled f) .args in
-    read-9-wrong (a .roll) (a .buf .now) (a .dir .now) (a .place) (good (tabled f)) (fits f) (e .before .if3 .left) (e .if4 .left) (c .if5 .taken)
+    record { says = rw (good (tabled f), le-ltb _ _ (fits f), lt-leb _ _ (e .before .if3 .left), lt-leb _ _ (e .if4 .left), le-leb _ _ (c .if5 .taken)) }
 
 pass-over-requires : tie.Need-pass-over-requires
 pass-over-requires c κs = let e = c .before .before in reads (fitted (placed e)) _ (omega (arith, e .if5 .left))
@@ -140,35 +147,41 @@ array-read-t33 c =
     let y = p .before .before in
     let a = begun y .args in
     let g = reads (fitted (placed (entered y))) 0 (omega arith) in
-    let w = found-word (a .roll .table .code) (g .good) (a .roll .table .sigma) (row (begun y)) (word-is (c .before)) (at-upto p) in
+    let w = found-word (a .roll .table .code) (code-is y) (a .roll .table .sigma) (row (begun y)) (word-is (c .before)) (at-upto p) in
     omega (arith, w .rank, g .few)
 
 returns-6 : tie.Need-returns-6
+unfolding readingFrom
 returns-6 c =
     let y = c .before .before .before in
     let a = begun y .args in
-    one-is-lost y
-    (one-passed (a .roll .table .code) (a .roll .table .sigma) (row (begun y)) (getD (a .dir .now) (a .place / 32) 0) (a .place % 32)
+    is-over y
+    (passed-over (a .roll .table .code) (code-is y) (a .roll .table .sigma) (row (begun y)) (getD (a .dir .now) (a .place / 32) 0) (a .place % 32) (entry-upto y)
     (sym (c .before .passed .given .1) ∙ y .pass-over .ensures))
 
 returns-7 : tie.Need-returns-7
+unfolding readingFrom
 returns-7 c =
     let p = c .before .before .before .before .before in
     let y = p .before .before in
     let e = entered y in
     let f = fitted (placed e) in
     let a = begun y .args in
-    read-yes (a .roll) (a .buf .now) (a .dir .now) (a .place) (good (tabled f)) (fits f) (placed e .if3 .left) (e .before .before .if4 .left) (e .if5 .left)
-    (one-word (a .roll .table .code) (a .roll .table .sigma) (row (begun y)) (getD (a .dir .now) (a .place / 32) 0) (a .place % 32) (passed-is p) (word-is (c .before)))
+    let (held, rank) = passed-word (a .roll .table .code) (code-is y) (a .roll .table .sigma) (row (begun y)) (getD (a .dir .now) (a .place / 32) 0) (a .place % 32) (entry-upto y)
+    (passed-is p) (word-is (c .before)) in
+    let p : ReadsOne (a .roll) (a .buf .now) (a .dir .now) (a .place)
+    = record { good = true-yes _ (good (tabled f)); fits = fits f; inside = placed e .if3 .left; held = e .before .before .if4 .left; below = e .if5 .left; reached = held } in
+    rw (← rank) (record { says = sym (reads-is (a .roll) (a .buf .now) (a .dir .now) (a .place) .0 p) })
 
 returns-8 : tie.Need-returns-8
+unfolding readingFrom
 returns-8 c =
     let k = c .before .before in
     let p = k .before .before in
     let y = p .before .before in
     let a = begun y .args in
-    one-is-lost y
-    (one-bad (a .roll .table .code) (a .roll .table .sigma) (row (begun y)) (getD (a .dir .now) (a .place / 32) 0) (a .place % 32) (passed-is p)
+    is-over y
+    (passed-none (a .roll .table .code) (code-is y) (a .roll .table .sigma) (row (begun y)) (getD (a .dir .now) (a .place / 32) 0) (a .place % 32) (entry-upto y) (passed-is p)
     (sym (c .enum-told .given .1) ∙ k .codeword-at .ensures))
 
 pub read-one-spec : {M : Type 1} → statement M

@@ -14,8 +14,8 @@ use Rattle.ground.specs.Laws.Rows.{map-at, below-at}
 use Rattle.ground.specs.Laws.Runs.{front-length, front-more}
 use Rattle.stopper.specs.Laws.Table.{table-code, table-few}
 use Rattle.stopper.specs.declared.code.Code.{Code}
-use Rattle.sound.specs.Paper.Roll.{rowUpto, readRow, reading, ranksRead, textOf}
-use Rattle.sound.specs.Paper.Codewords.{foundAt}
+use Rattle.sound.specs.Paper.Roll.{rowUpto, readRow, readingFrom, ranksRead, textOf}
+use Rattle.sound.specs.Helpers.Codewords.{foundAt}
 use Rattle.sound.specs.Laws.Codewords.{startOf}
 use Rattle.sound.specs.Laws.Sound.{sound-reads, sound-below, sound-found, sound-start}
 use Rattle.sound.specs.Laws.Ends.{sound-end, sound-first}
@@ -25,7 +25,7 @@ use Rattle.sound.proofs.range.unpack_sound.Tie as tie
 
 -- the ranks that are read, and their characters
 abbrev ranks : Code → ℕ → List ℕ → ℕ → List ℕ
-ranks code sigma buf h = ranksRead (readRow code sigma (rowUpto code h buf))
+ranks code sigma buf h = ranksRead (readRow code sigma (rowUpto code h buf) 0)
 
 abbrev characters : List ℕ → List ℕ → List ℕ
 characters places rs = map (λ rank. getD places rank 0) rs
@@ -53,7 +53,7 @@ abbrev text : tie.Start Inv-loop μ-loop → List ℕ
 text s = drop (s .args .start) (characters (s .args .roll .table .places) (rs s))
 
 many : (s : tie.Start Inv-loop μ-loop) → length (rs s) ≡ s .args .roll .n
-unfolding reading
+unfolding readingFrom
 many s = s .pre .0 .count
 
 long : (s : tie.Start Inv-loop μ-loop) → length (text s) ≡ s .args .roll .n - s .args .start
@@ -62,7 +62,7 @@ long s = length-drop (s .args .start) _ ∙ rw (length-map, many s)
 -- where character `start` starts
 first-is : (c : tie.After-pass-ends Inv-loop μ-loop) → let s = begun (c .before .before .before) in
     c .pass-ends .result ≡ startOf (s .args .roll .table .code) (rs s) (s .args .start)
-unfolding reading
+unfolding readingFrom
 first-is c =
     let s = begun (c .before .before .before) in
     c .pass-ends .ensures ∙ sound-end (s .args .roll) (s .args .buf .now) (s .pre .0) (s .args .start) (omega (arith, s .pre .1, s .pre .2))
@@ -74,7 +74,7 @@ inside c = let s = entered (c .before) in omega (arith, s .pre .1, s .pre .2, c 
 found-is : (c : tie.After-codeword-at Inv-loop μ-loop) → let l = c .before .before in let s = entered l in
     c .codeword-at .result
     ≡ Word (getD (rs s) (s .args .start + l .loop .i) 0) (startOf (s .args .roll .table .code) (rs s) (suc (s .args .start + l .loop .i)))
-unfolding reading
+unfolding readingFrom
 found-is c =
     let l = c .before .before in
     let s = entered l in
@@ -127,7 +127,7 @@ sub-loop : tie.Need-sub-loop Inv-loop μ-loop
 sub-loop c = entered c .pre .1
 
 codeword-at-requires : tie.Need-codeword-at-requires Inv-loop μ-loop
-unfolding reading
+unfolding readingFrom
 codeword-at-requires c κs =
     let l = c .before in
     let s = entered l in
@@ -143,7 +143,7 @@ returns c =
     absurd (omega arith)
 
 array-read-out : tie.Need-array-read-out Inv-loop μ-loop
-unfolding reading
+unfolding readingFrom
 array-read-out c =
     let n = c .before .before .before .before in
     let l = n .before in
@@ -170,7 +170,7 @@ same-length-2 : tie.Need-same-length-2 Inv-loop μ-loop
 same-length-2 c = same (c .before)
 
 returns-2 : tie.Need-returns-2 Inv-loop μ-loop
-unfolding textOf reading
+unfolding textOf readingFrom
 returns-2 c =
     let l = c .before in
     let s = entered l in

@@ -8,7 +8,7 @@ use borrow.Author.Needs.{needs}
 use lib.Seq.{length-take-le}
 use Rattle.symbols.specs.Paper.Symbols.{symbolsOf}
 use Rattle.sound.specs.Paper.Roll.{rowUpto}
-use Rattle.sound.specs.Paper.Codewords.{passedFrom}
+use Rattle.sound.specs.Helpers.Codewords.{passedFrom}
 use Rattle.sound.specs.Laws.Codewords.{found-word}
 use Rattle.sound.specs.Laws.Scans.{pass-word, pass-bad, pass-none}
 use Rattle.sound.proofs.reading.pass_over.Statement.{statement}

@@ -17,7 +17,7 @@ use Rattle.sound.proofs.reading.read_all.Tie as tie
 
 abbrev Inv-loop : tie.InvT-loop
 Inv-loop code sigma buf h p₀ count₀ p count =
-    (p ≤ h) × (count ≤ p) × (scanned (readRow code sigma (rowUpto code h buf)) ≡ scanFrom code sigma (rowUpto code h buf) p count)
+    (p ≤ h) × (count ≤ p) × (scanned (readRow code sigma (rowUpto code h buf) 0) ≡ scanFrom code sigma (rowUpto code h buf) p count)
 
 abbrev μ-loop : tie.MeasureT-loop
 μ-loop code sigma buf h p₀ count₀ p count = h - p
@@ -62,9 +62,8 @@ returns c =
     let f = c .before .before in
     let l = f .before .before in
     let s = l .before .before in
-    sym (l .loop .inv .2
-    ∙ scan-bad (s .args .code) (s .args .sigma) (row s) (l .loop .count)
-    (found-bad (s .args .code) (s .pre .good) (s .args .sigma) (row s) (sym (c .enum-told .given .1) ∙ f .codeword-at .ensures) (omega (arith, long s, f .before .loop-test .taken))))
+    let b = found-bad (s .args .code) (s .pre .good) (s .args .sigma) (row s) (sym (c .enum-told .given .1) ∙ f .codeword-at .ensures) (omega (arith, long s, f .before .loop-test .taken)) in
+    sym (l .loop .inv .2 ∙ scan-bad (s .args .code) (s .args .sigma) (row s) (l .loop .count) (b .1))
 
 returns-2 : tie.Need-returns-2 Inv-loop μ-loop
 returns-2 c =

@@ -7,17 +7,16 @@ use native.Mathlib.Omega.{arith}
 use borrow.Author.Needs.{needs}
 use lib.ListN.{take, getD}
 use lib.Seq.{length-take-le, getD-take}
-use Rattle.stopper.specs.Laws.State.{state-small}
+use Rattle.stopper.specs.Laws.Seen.{Seen, seen-none, seen-small, seen-open}
 use Rattle.stopper.specs.declared.code.Code.{Code}
 use Rattle.stopper.specs.declared.reading.Reader.{Reader}
-use Rattle.stopper.proofs.Words.{Seen, start, ended, too-big, is-bad, is-rank, is-open}
+use Rattle.stopper.proofs.Words.{ended, too-big, is-bad, is-rank}
 use Rattle.stopper.proofs.character_of.rank_of_word.Statement.{statement}
 use Rattle.stopper.proofs.character_of.rank_of_word.Tie as tie
 
 pub record At (c : Code) (σ n : ℕ) (symbols : List ℕ) (i : ℕ) (r : Reader) : Type 0 where
   pub long : lib.ListN.length (take n symbols) ≡ n
   pub room : n ≤ 86
-  pub upto : i ≤ n
   pub seen : Seen c σ (take n symbols) i r
 
 abbrev Inv-loop : tie.InvT-loop
@@ -47,8 +46,7 @@ loop-holds c =
     record {
       long = long s;
       room = s .pre .2;
-      upto = omega arith;
-      seen = rw (c .opening .ensures) (start (s .args .code) (s .args .sigma) (word s));
+      seen = rw (c .opening .ensures) (seen-none (s .args .code) (s .args .sigma) (word s));
     }
 
 returns : tie.Need-returns Inv-loop μ-loop
@@ -62,8 +60,7 @@ read-symbol-requires : tie.Need-read-symbol-requires Inv-loop μ-loop
 read-symbol-requires c κs =
     let l = c .before .before .before in
     let s = l .before .before .before in
-    let v = l .loop .inv .seen in
-    (s .pre .0, s .pre .1, rw (v .state) (state-small (s .args .code) (s .pre .0) (s .args .sigma) (s .pre .1) (l .loop .i) (v .x) (v .value)))
+    (s .pre .0, s .pre .1, seen-small (s .args .code) (s .pre .0) (s .args .sigma) (word s) (l .loop .inv .seen) (s .pre .1))
 
 returns-2 : tie.Need-returns-2 Inv-loop μ-loop
 returns-2 c =
@@ -90,8 +87,7 @@ loop-again c =
     record {
       long = n .before .loop .inv .long;
       room = n .before .loop .inv .room;
-      upto = omega (arith, n .loop-test .taken);
-      seen = is-open (s .args .code) (s .pre .0) (s .args .sigma) (word s) (n .before .loop .inv .seen) (inside n) (here n)
+      seen = seen-open (s .args .code) (s .pre .0) (s .args .sigma) (word s) (n .before .loop .inv .seen) (inside n) (here n)
           (omega (arith, y .before .before .wide .ensures, n .before .before .before .base-of .ensures, y .before .if1 .left))
           (sym (x .next2 .given .1) ∙ y .read-symbol .ensures);
     }
@@ -100,7 +96,7 @@ returns-4 : tie.Need-returns-4 Inv-loop μ-loop
 returns-4 c =
     let s = c .before .before .before .before in
     let v = c .before .loop .inv in
-    ended (s .args .code) (s .args .sigma) (word s) (v .seen) (omega (arith, v .long, v .upto)) (omega (arith, v .long, c .loop-test .left))
+    ended (s .args .code) (s .pre .0) (s .args .sigma) (word s) (v .seen) (omega (arith, v .long, c .loop-test .left))
 
 pub rank-of-word-spec : {M : Type 1} → statement M
 rank-of-word-spec =
