@@ -4,18 +4,21 @@ use ground::answers::Done;
 use sound::lookup::first_wrong;
 use sound::lookup::start_of;
 use sound::records::Roll;
+use store::measure::Extent;
+use store::measure::measure;
 use store::replace::Run;
 use store::replace::first_over;
 use store::replace::replace;
-use store::words::first_foreign;
-use store::words::fitting;
-use store::words::spell_all;
 use symbols::size::room_of;
 use texts::entries::entries_for;
 ghost use mathlib.Core.Path.{_≡_};
-ghost use Prim.Native.Nat.{_≤_};
+ghost use Prim.Native.Nat.{_+_, _≤_};
+ghost use lib.ListN.{length};
+ghost use Rattle.symbols.specs.Paper.Symbols.{room};
 ghost use Rattle.sound.specs.Paper.Lengths.{Right};
 ghost use Rattle.sound.specs.Paper.Roll.{Sound};
+ghost use Rattle.store.specs.Helpers.Measured.{Spelled};
+ghost use Rattle.store.specs.Helpers.Replacing.{Located};
 ghost use Rattle.roll.specs.Paper.Operations.{DirectoryChecked, Editing};
 ghost use Rattle.roll.specs.Helpers.Refused.{refusedEdit};
 
@@ -48,8 +51,40 @@ fn check_directory(roll: Roll, buf: &[u8], dir: &[u32]) -> Done
     Done::Yes
 }
 
-// A run of a sound roll with a right directory is replaced, or refused 3, 4 or 12. One pass over the text asks both whether its characters
-// are in the table and whether they fit; if it stops, the rest is looked through for a character that is not, as 3 comes before 4.
+// A text that fits from the run's first symbol on takes the run's place, or is refused: 4 for what stands behind it, or 12.
+fn put_in(
+    roll: Roll,
+    lengths: &[u8],
+    words: &[u8],
+    buf: &mut [u8],
+    dir: &mut [u32],
+    run: Run,
+    text: &[u8],
+    taken: usize,
+) -> Edited
+    requires { ⌜ Located roll (now buf) (now dir) run × Spelled (roll .table) (now lengths) (now words) (now text) taken × (run .first + taken ≤ room (roll .table .code .k) (length (now buf))) ⌝ }
+    ensures { λ r. ⌜ Editing roll (now (buf .entry)) (now (dir .entry)) (run .start) (run .end) (now (text .entry)) r (now (buf .exit)) (now (dir .exit)) ⌝ }
+{
+    let table = roll.table;
+    let code = table.code;
+    let left = room_of(code.k, buf.len()) - (run.first + taken);
+    if left < roll.h as usize - run.last {
+        let over = first_over(roll, buf, run.end, run.last, left);
+        return refused(roll, 4, (run.start + text.len() + (over - run.end)) as u64);
+    }
+    let count = run.start + text.len() + (roll.n as usize - run.end);
+    let needed = entries_for(count as u32);
+    if dir.len() < needed {
+        return refused(roll, 12, needed as u64);
+    }
+    let after = replace(roll, lengths, words, buf, dir, run, text, taken);
+    Edited {
+        answer: Done::Yes,
+        roll: after,
+    }
+}
+
+// A run of a sound roll with a right directory is replaced, or refused 3, 4 or 12.
 fn change(
     roll: Roll,
     buf: &mut [u8],
@@ -63,44 +98,24 @@ fn change(
 {
     let table = roll.table;
     let code = table.code;
-    let sigma = table.sigma;
-    let places = table.places;
-    let mut lengths = [0u8; 256];
-    let mut words = [0u8; 22016];
-    spell_all(code, sigma, places, &mut lengths, &mut words);
     let first = start_of(roll, buf, dir, start);
     let last = start_of(roll, buf, dir, end);
     let space = room_of(code.k, buf.len()) - first;
-    let fit = fitting(&lengths, space, text);
-    let upto = fit.upto;
-    if upto < text.len() {
-        let foreign = first_foreign(&lengths, text, upto);
-        if foreign < text.len() {
-            return refused(roll, 3, foreign as u64);
+    let mut lengths = [0u8; 256];
+    let mut words = [0u8; 22016];
+    let extent = measure(table, space, text, &mut lengths, &mut words);
+    match extent {
+        Extent::Foreign(place) => refused(roll, 3, place as u64),
+        Extent::Over(upto) => refused(roll, 4, (start + upto) as u64),
+        Extent::Fits(taken) => {
+            let run = Run {
+                start,
+                end,
+                first,
+                last,
+            };
+            put_in(roll, &lengths, &words, buf, dir, run, text, taken)
         }
-        return refused(roll, 4, (start + upto) as u64);
-    }
-    let taken = fit.taken;
-    let left = space - taken;
-    if left < roll.h as usize - last {
-        let over = first_over(roll, buf, end, last, left);
-        return refused(roll, 4, (start + text.len() + (over - end)) as u64);
-    }
-    let count = start + text.len() + (roll.n as usize - end);
-    let needed = entries_for(count as u32);
-    if dir.len() < needed {
-        return refused(roll, 12, needed as u64);
-    }
-    let run = Run {
-        start,
-        end,
-        first,
-        last,
-    };
-    let after = replace(roll, &lengths, &words, buf, dir, run, text, taken);
-    Edited {
-        answer: Done::Yes,
-        roll: after,
     }
 }
 

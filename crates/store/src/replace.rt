@@ -4,9 +4,9 @@ use crate::words::write_text;
 use sound::ends::end_at;
 use sound::records::Roll;
 use symbols::run::clear;
+use symbols::run::clear_unused;
 use symbols::run::down;
 use symbols::run::up;
-use symbols::size::unused;
 use texts::entries::clear_entries;
 use texts::entries::entries_for;
 ghost use mathlib.Core.Path.{_≡_};
@@ -20,6 +20,14 @@ ghost use Rattle.sound.specs.Paper.Lengths.{lengthsOf};
 ghost use Rattle.store.specs.Paper.Fitting.{firstOver};
 ghost use Rattle.store.specs.Paper.Stored.{bytesAfter, directoryAfter};
 ghost use Rattle.store.specs.Helpers.Replacing.{replacedBytes, Replaces, changedUpto, Replaceable};
+
+// Characters from start up to end, and the symbols from first up to last that they take.
+pub struct Run {
+    pub start: usize,
+    pub end: usize,
+    pub first: usize,
+    pub last: usize,
+}
 
 // The number of the first character from `from`, which starts at symbol first, whose codeword does not fit in the room left; or n.
 pub fn first_over(roll: Roll, buf: &[u8], from: usize, first: usize, room: usize) -> usize
@@ -53,16 +61,15 @@ fn grow(
     taken: usize,
     buf: &mut [u8],
     h: usize,
-    p: usize,
-    q: usize,
+    run: Run,
 )
-    requires { ⌜ Replaces k (now lengths) (now words) (now text) taken (now buf) h p q × (q - p < taken) ⌝ }
-    ensures { λ _. ⌜ now (buf .exit) ≡ replacedBytes k (now (lengths .entry)) (now (words .entry)) (now (text .entry)) (now (buf .entry)) h p q ⌝ }
+    requires { ⌜ Replaces k (now lengths) (now words) (now text) taken (now buf) h run × (run .last - run .first < taken) ⌝ }
+    ensures { λ _. ⌜ now (buf .exit) ≡ replacedBytes k (now (lengths .entry)) (now (words .entry)) (now (text .entry)) (now (buf .entry)) h run ⌝ }
 {
-    let by = taken - (q - p);
-    up(k, buf, q, h, by);
-    write_text(k, lengths, words, text, buf, p);
-    clear(k, buf, h + by, h + by + unused(k, h + by));
+    let by = taken - (run.last - run.first);
+    up(k, buf, run.last, h, by);
+    write_text(k, lengths, words, text, buf, run.first);
+    clear_unused(k, buf, h + by);
 }
 
 // The new symbols are fewer than the old: the tail goes down, and what it leaves behind is cleared.
@@ -74,19 +81,18 @@ fn shrink(
     taken: usize,
     buf: &mut [u8],
     h: usize,
-    p: usize,
-    q: usize,
+    run: Run,
 )
-    requires { ⌜ Replaces k (now lengths) (now words) (now text) taken (now buf) h p q × (taken < q - p) ⌝ }
-    ensures { λ _. ⌜ now (buf .exit) ≡ replacedBytes k (now (lengths .entry)) (now (words .entry)) (now (text .entry)) (now (buf .entry)) h p q ⌝ }
+    requires { ⌜ Replaces k (now lengths) (now words) (now text) taken (now buf) h run × (taken < run .last - run .first) ⌝ }
+    ensures { λ _. ⌜ now (buf .exit) ≡ replacedBytes k (now (lengths .entry)) (now (words .entry)) (now (text .entry)) (now (buf .entry)) h run ⌝ }
 {
-    let by = q - p - taken;
-    down(k, buf, q, h, by);
-    write_text(k, lengths, words, text, buf, p);
+    let by = run.last - run.first - taken;
+    down(k, buf, run.last, h, by);
+    write_text(k, lengths, words, text, buf, run.first);
     clear(k, buf, h - by, h);
 }
 
-// The symbols from p up to q give way to those of a text; the tail, up to symbol h, moves by as much as they differ.
+// The symbols of a run give way to those of a text; the tail, up to symbol h, moves by as much as they differ.
 fn replace_symbols(
     k: u8,
     lengths: &[u8],
@@ -95,29 +101,20 @@ fn replace_symbols(
     taken: usize,
     buf: &mut [u8],
     h: usize,
-    p: usize,
-    q: usize,
+    run: Run,
 )
-    requires { ⌜ Replaces k (now lengths) (now words) (now text) taken (now buf) h p q ⌝ }
-    ensures { λ _. ⌜ now (buf .exit) ≡ replacedBytes k (now (lengths .entry)) (now (words .entry)) (now (text .entry)) (now (buf .entry)) h p q ⌝ }
+    requires { ⌜ Replaces k (now lengths) (now words) (now text) taken (now buf) h run ⌝ }
+    ensures { λ _. ⌜ now (buf .exit) ≡ replacedBytes k (now (lengths .entry)) (now (words .entry)) (now (text .entry)) (now (buf .entry)) h run ⌝ }
 {
-    if q - p < taken {
-        grow(k, lengths, words, text, taken, buf, h, p, q);
+    if run.last - run.first < taken {
+        grow(k, lengths, words, text, taken, buf, h, run);
         return;
     }
-    if taken < q - p {
-        shrink(k, lengths, words, text, taken, buf, h, p, q);
+    if taken < run.last - run.first {
+        shrink(k, lengths, words, text, taken, buf, h, run);
         return;
     }
-    write_text(k, lengths, words, text, buf, p);
-}
-
-// Characters from start up to end, and the symbols from first up to last that they take.
-pub struct Run {
-    pub start: usize,
-    pub end: usize,
-    pub first: usize,
-    pub last: usize,
+    write_text(k, lengths, words, text, buf, run.first);
 }
 
 // Up to which character entries change: with as many characters and symbols as before, those behind the run stay.
@@ -155,7 +152,7 @@ pub fn replace(
     let k = code.k;
     let h = roll.h as usize;
     let n = roll.n as usize;
-    replace_symbols(k, lengths, words, text, taken, buf, h, run.first, run.last);
+    replace_symbols(k, lengths, words, text, taken, buf, h, run);
     let count = run.start + text.len() + (n - run.end);
     let after = Roll {
         table,

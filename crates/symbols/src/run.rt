@@ -5,12 +5,12 @@ use crate::size;
 use crate::symbol::get;
 use crate::whole;
 ghost use mathlib.Core.Path.{_≡_};
-ghost use Prim.Native.Nat.{_+_, _^_, _≤_, _<_};
+ghost use Prim.Native.Nat.{_+_, _*_, _^_, _≤_, _<_};
 ghost use lib.ListN.{length};
 ghost use Rattle.ground.specs.Paper.Runs.{run};
 ghost use Rattle.ground.specs.Paper.Rows.{allZero};
 ghost use Rattle.ground.specs.Helpers.Moved.{cleared, movedUp, movedDown};
-ghost use Rattle.symbols.specs.Paper.Symbols.{Width, symbolsOf};
+ghost use Rattle.symbols.specs.Paper.Symbols.{Width, per, bytesFor, symbolsOf};
 
 pub fn clear(k: u8, buf: &mut [u8], from: usize, to: usize)
     requires { ⌜ (Width k) × (from ≤ to) × (to ≤ length (symbolsOf k (now buf))) ⌝ }
@@ -26,6 +26,14 @@ pub fn clear(k: u8, buf: &mut [u8], from: usize, to: usize)
     each::clear(k, buf, from, first * per);
     whole::clear(buf, first, last);
     each::clear(k, buf, last * per, to);
+}
+
+// The unused symbols of the last byte that h symbols take.
+pub fn clear_unused(k: u8, buf: &mut [u8], h: usize)
+    requires { ⌜ (Width k) × (h ≤ length (symbolsOf k (now buf))) × (h ≤ 16777216) ⌝ }
+    ensures { λ _. ⌜ symbolsOf k (now (buf .exit)) ≡ cleared (symbolsOf k (now (buf .entry))) h (bytesFor k h * per k) ⌝ }
+{
+    clear(k, buf, h, h + size::unused(k, h));
 }
 
 // From the last symbol to the first, so that none is overwritten before it is moved.

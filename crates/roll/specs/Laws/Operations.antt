@@ -1,20 +1,18 @@
 -- The promises: a law for a refused call and one for an accepted call.
 -- Assumes nothing.
-use mathlib.Core.Path.{_≡_, refl, sym, ap, _∙_, ap₂}
+use mathlib.Core.Path.{_≡_, refl, sym, _∙_}
 use mathlib.Core.Logic.{_≢_}
 use mathlib.Core.Bool.{true, false, not}
 use mathlib.Core.List.{List, [], _∷_, _++_}
-use Prim.Native.Nat.{ℕ, _-_, _≤_, _<_, _*_, _^_}
-use native.Mathlib.Nat.{zero-add, le-of-eq}
+use Prim.Native.Nat.{ℕ, _-_, _≤_, _<_}
+use native.Mathlib.Nat.{le-of-eq}
 use native.Mathlib.Omega.{arith}
 use borrow.Author.Tests.{lt-ltb, le-ltb, eq-eqb, ne-eqb}
 use lib.Dec.{T, ltb}
 use lib.ListN.{length, drop}
 use Rattle.ground.specs.Paper.Refusals.{refuse, refused, judged}
-use Rattle.ground.specs.Paper.Runs.{over as laid-over, run}
+use Rattle.ground.specs.Paper.Runs.{run}
 use Rattle.ground.specs.Paper.Rows.{allZero}
-use Rattle.ground.specs.Helpers.Moved.{cleared, laidFrom}
-use Rattle.ground.specs.Helpers.Below.{Below}
 use Rattle.ground.specs.Laws.Answers.{says-as}
 use Rattle.ground.specs.Laws.Refusals.{Accepted}
 use Rattle.ground.specs.declared.answers.Done.{Done}
@@ -23,8 +21,7 @@ use Rattle.ground.specs.declared.answers.Total.the-variants.{Of, Refused as tot
 use Rattle.stopper.specs.Paper.Table.{goodTable, characters}
 use Rattle.stopper.specs.Paper.Reading.{Reading, done, bad}
 use Rattle.stopper.specs.declared.table.Table.{Table}
-use Rattle.symbols.specs.Paper.Symbols.{room, Width, per, bytesFor, symbolsOf}
-use Rattle.symbols.specs.Laws.Packing.{packed-cleared}
+use Rattle.symbols.specs.Paper.Symbols.{room}
 use Rattle.texts.specs.Paper.Characters.{firstForeign}
 use Rattle.texts.specs.Paper.Directory.{entries, directoryOf}
 use Rattle.texts.specs.Paper.Edited.{edited}
@@ -66,22 +63,12 @@ module _ (t : Table) (text buf : List ℕ) where
       unfolding packSays
       pack-4 {v = v} o h = pack-refused 4 v (rw (o, g, le-ltb _ _ (le-of-eq (sym f)), lt-ltb _ _ (rw o at h)))
 
-      pub pack-yes : firstOver (t .code) (characters t) (room (t .code .k) (length buf)) text ≡ length text → {h : ℕ} → h ≡ length (symbolsFor t text)
-          → {after : List ℕ} → after ≡ packedInto (t .code .k) (symbolsFor t text) buf
-          → Packing t text buf (record { answer = Yes; roll = record { table = t; n = length text; h = h } }) after
+      pub pack-yes : firstOver (t .code) (characters t) (room (t .code .k) (length buf)) text ≡ length text → {q : Roll} → q ≡ recordOf t text
+          → {after : List ℕ} → after ≡ packedInto (t .code .k) (symbolsFor t text) buf → Packing t text buf (record { answer = Yes; roll = q }) after
       unfolding packSays
       pack-yes o p q =
           let e : Accepted (packSays t text buf) = rw (g, le-ltb _ _ (le-of-eq (sym f)), le-ltb _ _ (le-of-eq (sym o))) in
-          record { says = rw e; roll = rw (e, p); leaves = rw e q }
-
--- a row laid over the front of a buffer, and the rest of its last byte cleared
-pub packed-front : {k : ℕ} → Width k → {xs ys buf row after : List ℕ} {h end : ℕ} → Below (2 ^ k) xs → Below 256 buf → Below 256 after
-    → row ≡ laidFrom (symbolsOf k buf) 0 ys → ys ≡ xs → h ≡ length xs → end ≡ bytesFor k h * per k → symbolsOf k after ≡ cleared row h end → after ≡ packedInto k xs buf
-packed-front {k} w {xs = xs} {buf = buf} {row = row} {h = h} b x y m q e f c =
-    packed-cleared w b x y
-    (c
-    ∙ ap (cleared row h) f
-    ∙ ap₂ (λ (r : List ℕ) (n : ℕ). cleared r n (bytesFor k n * per k)) (m ∙ ap (laidFrom (symbolsOf k buf) 0) q ∙ ap (laid-over (symbolsOf k buf) 0 xs) (zero-add (length xs))) e)
+          record { says = rw e; roll = rw e p; leaves = rw e q }
 
 -- ---- check
 

@@ -8,35 +8,33 @@ use Prim.Native.Nat.{ℕ, _+_, _-_, _≤_}
 use native.Mathlib.Omega.{arith}
 use mir.Facts.{eqb-yes}
 use lib.Dec.{T, eqb}
-use lib.ListN.{length, take, drop, length-append, take-append-drop}
+use lib.ListN.{length, take, drop, length-append}
 use lib.Seq.{take-at, drop-at, length-take-le}
 use Rattle.ground.specs.Paper.Rows.{zeros}
 use Rattle.ground.specs.Paper.Runs.{over, run, inPlace}
-use Rattle.ground.specs.Helpers.Below.{Below}
 use Rattle.ground.specs.Laws.Limit.{limit-fits}
 use Rattle.ground.specs.Laws.Rows.{map-drop}
 use Rattle.stopper.specs.Paper.Table.{characters, rankIn, lengthOf}
-use Rattle.stopper.specs.Laws.Table.{table-code, table-few}
+use Rattle.stopper.specs.Laws.Table.{table-code}
 use Rattle.stopper.specs.declared.code.Code.{Code}
 use Rattle.symbols.specs.Paper.Symbols.{bytesFor, bytesOf}
 use Rattle.symbols.specs.Laws.Sizes.{room-limit}
 use Rattle.symbols.specs.Laws.Rows.{room-row}
 use Rattle.texts.specs.Paper.Directory.{entries, sum, startAt, directoryOf}
-use Rattle.texts.specs.Laws.Characters.{characters-few, foreign-known}
+use Rattle.texts.specs.Laws.Characters.{foreign-known}
 use Rattle.texts.specs.Laws.Directory.{entries-upto}
 use Rattle.texts.specs.Laws.Mended.{mended, mended-even, mended-cleared}
-use Rattle.texts.specs.Laws.Edited.{edited-length}
 use Rattle.sound.specs.Paper.Roll.{symbolsFor, textRow, textOf, Sound}
 use Rattle.sound.specs.Paper.Lengths.{lengthsOf, lengthsFor}
-use Rattle.sound.specs.Laws.Texts.{length-parts, length-up}
-use Rattle.sound.specs.Laws.Sound.{text-length}
-use Rattle.sound.specs.Laws.Holding.{sound-h, sound-symbols}
+use Rattle.sound.specs.Laws.Texts.{length-parts}
+use Rattle.sound.specs.Laws.Holding.{sound-symbols}
 use Rattle.sound.specs.Laws.Lengths.{lengths-length, sound-lengths, start-text}
 use Rattle.sound.specs.declared.records.Roll.{Roll}
 use Rattle.store.specs.Paper.Stored.{bytesAfter, directoryAfter}
 use Rattle.store.specs.Helpers.Words.{rowOf}
-use Rattle.store.specs.Helpers.Replacing.{replacedRow, replacedBytes, Replaces, changedUpto, Replaceable}
-use Rattle.store.specs.Laws.Words.{row-count, row-known, laid}
+use Rattle.store.specs.Helpers.Replacing.{replacedRow, replacedBytes, Replaces, changedUpto, Located, Replaceable}
+use Rattle.store.specs.Laws.Words.{row-count}
+use Rattle.store.specs.Laws.Located.{first-is, last-is, size, within, run-ordered, tail, run-inside, count-after}
 use Rattle.store.specs.Laws.Editing.{edited-row, edited-lengths}
 use Rattle.store.specs.Laws.Edited.{Edits, textAfter, rollAfter, edit-sound, edit-text}
 use Rattle.store.specs.declared.replace.Run.{Run}
@@ -53,7 +51,7 @@ changed-is x long taken count = go (eqb long (x .end - x .start)) (eqb taken (x 
     go true false f g = inl refl
     go false b f g = inl refl
 
-module _ (r : Roll) (lengths words buf dir : List ℕ) (x : Run) (text : List ℕ) (taken : ℕ) (long : length (r .table .places) ≡ 256) (known : Below 256 text)
+module _ {r : Roll} {lengths words buf dir : List ℕ} {x : Run} {text : List ℕ} {taken : ℕ} (long : length (r .table .places) ≡ 256)
     (p : Replaceable r lengths words buf dir x text taken) where
   abbrev c : Code
   c = r .table .code
@@ -67,40 +65,10 @@ module _ (r : Roll) (lengths words buf dir : List ℕ) (x : Run) (text : List �
   abbrev E : List ℕ
   E = textAfter r buf (x .start) (x .end) text
 
-  abbrev parts : ℕ → ℕ
-  parts j = length (textRow c l (take j old))
-
-  -- ---- where the run is
-
-  first-is : x .first ≡ parts (x .start)
-  first-is = p .from ∙ start-text r buf long (p .sound) (x .start)
-
-  last-is : x .last ≡ parts (x .end)
-  last-is = p .upto ∙ start-text r buf long (p .sound) (x .end)
-
-  size : length old ≡ r .n
-  size = text-length (p .sound)
-
-  within : x .end ≤ length old
-  within = omega (arith, size, p .inside)
-
-  whole : length (textRow c l old) ≡ r .h
-  whole = sound-h r buf long (p .sound)
-
-  pub run-ordered : x .first ≤ x .last
-  run-ordered = omega (arith, first-is, last-is, length-up c l old (x .start) (x .end) (p .ordered))
-
-  -- what stands behind it
-  tail : parts (x .end) + length (textRow c l (drop (x .end) old)) ≡ r .h
-  tail = sym (length-parts c l (take (x .end) old) (drop (x .end) old)) ∙ ap (λ (t : List ℕ). length (textRow c l t)) (take-append-drop (x .end) old) ∙ whole
-
-  pub run-inside : x .last ≤ r .h
-  run-inside = omega (arith, tail, last-is)
+  abbrev at : Located r buf dir x
+  at = p .located
 
   -- ---- how much there is afterwards
-
-  pub count-after : length E ≡ x .start + length text + (r .n - x .end)
-  count-after = edited-length old (x .start) (x .end) text (p .ordered) within ∙ ap (λ (n : ℕ). x .start + length text + (n - x .end)) size
 
   pub symbols-after : length (symbolsFor (r .table) E) ≡ x .first + taken + (r .h - x .last)
   symbols-after =
@@ -108,10 +76,10 @@ module _ (r : Roll) (lengths words buf dir : List ℕ) (x : Run) (text : List �
         arith,
         length-parts c l (take (x .start) old) (text ++ drop (x .end) old),
         length-parts c l text (drop (x .end) old),
-        tail,
-        first-is,
-        last-is,
-        p .count,
+        tail long at,
+        first-is long at,
+        last-is long at,
+        p .spelled .count,
       )
 
   -- no number is great
@@ -119,57 +87,56 @@ module _ (r : Roll) (lengths words buf dir : List ℕ) (x : Run) (text : List �
   symbols-few = omega (arith, p .fits, room-limit (c .k) (length buf), limit-fits)
 
   pub count-few : x .start + length text + (r .n - x .end) ≤ 16777216
-  count-few = omega (arith, count-after, symbols-after, symbols-few, row-count c (table-code (r .table) (p .sound .table)) l E)
+  count-few = omega (arith, count-after long at text, symbols-after, symbols-few, row-count c (table-code (r .table) (at .sound .table)) l E)
 
   pub roll-after : {n h : ℕ} → n ≡ x .start + length text + (r .n - x .end) → h ≡ x .first + taken + (r .h - x .last)
       → record { table = r .table; n = n; h = h } ≡ rollAfter r buf (x .start) (x .end) text
-  roll-after e f = ap₂ {C = Roll} (λ (n h : ℕ). record { table = r .table; n = n; h = h }) (e ∙ sym count-after) (f ∙ sym symbols-after)
+  roll-after e f = ap₂ {C = Roll} (λ (n h : ℕ). record { table = r .table; n = n; h = h }) (e ∙ sym (count-after long at text)) (f ∙ sym symbols-after)
 
   pub edits : Edits r buf dir (x .start) (x .end) text
   edits =
       record {
-        sound = p .sound;
-        right = p .right;
-        ordered = p .ordered;
-        inside = p .inside;
-        known = foreign-known l text (p .known);
+        sound = at .sound;
+        right = at .right;
+        ordered = at .ordered;
+        inside = at .inside;
+        known = foreign-known l text (p .spelled .known);
         fits = omega (arith, symbols-after, p .fits);
-        listed = rw count-after (p .listed);
+        listed = rw (count-after long at text) (p .listed);
       }
 
   -- ---- the symbols
 
-  spelt : rowOf lengths words text ≡ textRow c l text
-  spelt = row-known c (table-code (r .table) (p .sound .table)) l lengths words (p .spelt) known (p .known)
+  count : taken ≡ length (rowOf lengths words text)
+  count = p .spelled .count ∙ ap length (sym (p .spelled .row))
 
-  pub replaces : Replaces (c .k) lengths words text taken buf (r .h) (x .first) (x .last)
+  pub replaces : Replaces (c .k) lengths words text taken buf (r .h) x
   replaces =
       record {
-        laid =
-            laid c (table-code (r .table) (p .sound .table)) l lengths words (p .spelt)
-            (omega (arith, characters-few (r .table), table-few (r .table) (p .sound .table)))
-            spelt
-            (omega (arith, p .count, p .fits, room-row (c .k) buf (x .first + taken + (r .h - x .last)) (p .fits)))
-            (omega (arith, p .count, symbols-few));
-        count = p .count ∙ ap length (sym spelt);
-        ordered = run-ordered;
-        inside = run-inside;
-        held = room-row (c .k) buf (r .h) (p .sound .fits);
+        laid = record {
+          laid = p .spelled .laid;
+          fits = omega (arith, count, room-row (c .k) buf (x .first + taken + (r .h - x .last)) (p .fits));
+          counts = omega (arith, count, symbols-few);
+        };
+        count = count;
+        ordered = run-ordered long at;
+        inside = run-inside long at;
+        held = room-row (c .k) buf (r .h) (at .sound .fits);
         fits = room-row (c .k) buf (x .first + taken + (r .h - x .last)) (p .fits);
-        small = omega (arith, p .sound .fits, room-limit (c .k) (length buf), limit-fits);
+        small = omega (arith, at .sound .fits, room-limit (c .k) (length buf), limit-fits);
         few = symbols-few;
-        clean = p .sound .unused;
+        clean = at .sound .unused;
       }
 
   pub bytes-after : {after : List ℕ}
-      → after ≡ replacedBytes (c .k) lengths words text buf (r .h) (x .first) (x .last)
+      → after ≡ replacedBytes (c .k) lengths words text buf (r .h) x
       → after ≡ bytesAfter r E buf
   unfolding replacedRow
   bytes-after e =
       e
       ∙ ap (λ (row : List ℕ). inPlace (bytesFor (c .k) (r .h)) (bytesOf (c .k) row) buf)
-      (ap₂ (λ (row new : List ℕ). over row (x .first) new (x .last)) (sym (sound-symbols r buf long (p .sound))) spelt
-      ∙ ap₂ (λ (a b : ℕ). over (textRow c l old) a (textRow c l text) b) first-is last-is
+      (ap₂ (λ (row new : List ℕ). over row (x .first) new (x .last)) (sym (sound-symbols r buf long (at .sound))) (p .spelled .row)
+      ∙ ap₂ (λ (a b : ℕ). over (textRow c l old) a (textRow c l text) b) (first-is long at) (last-is long at)
       ∙ sym (edited-row old (x .start) (x .end) text c l))
 
   -- ---- the directory
@@ -196,28 +163,28 @@ module _ (r : Roll) (lengths words buf dir : List ℕ) (x : Run) (text : List �
   lengths-after = sound-lengths q after long sound-after ∙ ap (lengthsFor (r .table)) text-after
 
   L-length : length L ≡ r .n
-  L-length = lengths-length (r .table) old ∙ size
+  L-length = lengths-length (r .table) old ∙ size long at
 
   L′-length : length L′ ≡ x .start + length text + (r .n - x .end)
-  L′-length = lengths-length (r .table) E ∙ count-after
+  L′-length = lengths-length (r .table) E ∙ count-after long at text
 
   -- the characters before the run are the same, and those behind it
   front-same : take (x .start) E ≡ take (x .start) old
-  front-same = take-at (take (x .start) old) (text ++ drop (x .end) old) (x .start) (length-take-le (x .start) old (omega (arith, within, p .ordered)))
+  front-same = take-at (take (x .start) old) (text ++ drop (x .end) old) (x .start) (length-take-le (x .start) old (omega (arith, within long at, at .ordered)))
 
   L-front : take (x .start) L ≡ take (x .start) L′
   L-front =
       sym (ap (take (x .start)) (edited-lengths old (x .start) (x .end) text (r .table))
-      ∙ take-at (take (x .start) L) _ (x .start) (length-take-le (x .start) L (omega (arith, L-length, p .ordered, p .inside))))
+      ∙ take-at (take (x .start) L) _ (x .start) (length-take-le (x .start) L (omega (arith, L-length, at .ordered, at .inside))))
 
   start-after : (j : ℕ) → startAt (lengthsOf q after) j ≡ length (symbolsFor (r .table) (take j E))
   start-after j = start-text q after long sound-after j ∙ ap (λ (t : List ℕ). length (symbolsFor (r .table) (take j t))) text-after
 
   first-after : x .first ≡ startAt (lengthsOf q after) (x .start)
-  first-after = first-is ∙ sym (start-after (x .start) ∙ ap (λ (t : List ℕ). length (symbolsFor (r .table) t)) front-same)
+  first-after = first-is long at ∙ sym (start-after (x .start) ∙ ap (λ (t : List ℕ). length (symbolsFor (r .table) t)) front-same)
 
   right-before : take (entries (length L)) dir ≡ directoryOf L
-  right-before = ap (λ (n : ℕ). take (entries n) dir) L-length ∙ p .right ∙ ap directoryOf (sound-lengths r buf long (p .sound))
+  right-before = ap (λ (n : ℕ). take (entries n) dir) L-length ∙ at .right ∙ ap directoryOf (sound-lengths r buf long (at .sound))
 
   -- the entries are written anew from the run on, to the end
   mended-all : {upto : ℕ} {mid : List ℕ} → upto ≡ x .start + length text + (r .n - x .end)
@@ -226,23 +193,23 @@ module _ (r : Roll) (lengths words buf dir : List ℕ) (x : Run) (text : List �
   mended-all e m =
       m
       ∙ ap₂ (λ (n : ℕ) (ls : List ℕ). over dir (entries (x .start)) (run (directoryOf ls) (entries (x .start)) (entries n)) (entries n)) (e ∙ sym L′-length) lengths-after
-      ∙ mended L L′ dir (x .start) (omega (arith, L-length, p .ordered, p .inside)) (omega (arith, L′-length)) L-front right-before
+      ∙ mended L L′ dir (x .start) (omega (arith, L-length, at .ordered, at .inside)) (omega (arith, L′-length)) L-front right-before
 
   -- or to the run's end, if it has as many characters and symbols as before
   module _ (characters-same : length text ≡ x .end - x .start) (symbols-same : taken ≡ x .last - x .first) where
     front-length : x .start + length text ≡ x .end
-    front-length = omega (arith, characters-same, p .ordered)
+    front-length = omega (arith, characters-same, at .ordered)
 
     E-split : E ≡ (take (x .start) old ++ text) ++ drop (x .end) old
     E-split = sym (append-assoc (take (x .start) old) text (drop (x .end) old))
 
     E-front : length (take (x .start) old ++ text) ≡ x .end
-    E-front = omega (arith, length-append (take (x .start) old) text, length-take-le (x .start) old (omega (arith, within, p .ordered)), front-length)
+    E-front = omega (arith, length-append (take (x .start) old) text, length-take-le (x .start) old (omega (arith, within long at, at .ordered)), front-length)
 
     sum-same : sum (take (x .end) L) ≡ sum (take (x .end) L′)
     unfolding startAt
     sum-same =
-        let before : sum (take (x .end) L) ≡ x .last = sym (p .upto ∙ ap (λ (ls : List ℕ). startAt ls (x .end)) (sound-lengths r buf long (p .sound))) in
+        let before : sum (take (x .end) L) ≡ x .last = sym (at .upto ∙ ap (λ (ls : List ℕ). startAt ls (x .end)) (sound-lengths r buf long (at .sound))) in
         let now : sum (take (x .end) L′) ≡ length (symbolsFor (r .table) (take (x .end) E))
         = ap (λ (ls : List ℕ). startAt ls (x .end)) (sym lengths-after) ∙ start-after (x .end) in
         let e : take (x .end) E ≡ take (x .start) old ++ text = ap (take (x .end)) E-split ∙ take-at (take (x .start) old ++ text) (drop (x .end) old) (x .end) E-front in
@@ -250,10 +217,10 @@ module _ (r : Roll) (lengths words buf dir : List ℕ) (x : Run) (text : List �
           arith,
           before,
           now ∙ ap (λ (t : List ℕ). length (symbolsFor (r .table) t)) e ∙ length-parts c l (take (x .start) old) text,
-          first-is,
-          p .count,
+          first-is long at,
+          p .spelled .count,
           symbols-same,
-          run-ordered,
+          run-ordered long at,
         )
 
     L-behind : drop (x .end) L ≡ drop (x .end) L′
@@ -270,8 +237,8 @@ module _ (r : Roll) (lengths words buf dir : List ℕ) (x : Run) (text : List �
     mended-run e m =
         m
         ∙ ap₂ (λ (n : ℕ) (ls : List ℕ). over dir (entries (x .start)) (run (directoryOf ls) (entries (x .start)) (entries n)) (entries n)) e lengths-after
-        ∙ mended-even L L′ dir (x .start) (omega (arith, L-length, p .ordered, p .inside)) (omega (arith, L′-length)) L-front right-before (x .end) (p .ordered)
-        (omega (arith, L-length, p .inside)) (omega (arith, L-length, L′-length, front-length, p .inside)) sum-same L-behind
+        ∙ mended-even L L′ dir (x .start) (omega (arith, L-length, at .ordered, at .inside)) (omega (arith, L′-length)) L-front right-before (x .end) (at .ordered)
+        (omega (arith, L-length, at .inside)) (omega (arith, L-length, L′-length, front-length, at .inside)) sum-same L-behind
 
   -- with the record and the bytes as they come
   module _ {rec : Roll} {bytes : List ℕ} (a : rec ≡ q) (b : bytes ≡ after) {upto : ℕ}
@@ -283,11 +250,11 @@ module _ (r : Roll) (lengths words buf dir : List ℕ) (x : Run) (text : List �
     -- what mending asks
     pub mends : Sound rec bytes × (x .start ≤ upto) × (upto ≤ rec .n) × (entries upto ≤ length dir) × (x .first ≡ startAt (lengthsOf rec bytes) (x .start))
     mends =
-        let n : rec .n ≡ x .start + length text + (r .n - x .end) = ap (λ (y : Roll). y .n) a ∙ count-after in
+        let n : rec .n ≡ x .start + length text + (r .n - x .end) = ap (λ (y : Roll). y .n) a ∙ count-after long at text in
         let most : upto ≤ x .start + length text + (r .n - x .end)
-        = ⊎-elim (λ s. omega (arith, u ∙ s)) (λ s. omega (arith, u ∙ s .0, s .1, p .ordered)) which in (
+        = ⊎-elim (λ s. omega (arith, u ∙ s)) (λ s. omega (arith, u ∙ s .0, s .1, at .ordered)) which in (
           rw (a, b) sound-after,
-          ⊎-elim (λ s. omega (arith, u ∙ s)) (λ s. omega (arith, u ∙ s .0, p .ordered)) which,
+          ⊎-elim (λ s. omega (arith, u ∙ s)) (λ s. omega (arith, u ∙ s .0, at .ordered)) which,
           omega (arith, n, most),
           omega (arith, entries-upto upto most, p .listed),
           first-after ∙ sym (ap₂ (λ (y : Roll) (l : List ℕ). startAt (lengthsOf y l) (x .start)) a b),

@@ -3,7 +3,7 @@
 use mathlib.Core.Path.{_≡_, refl, sym, ap, ap₂, _∙_}
 use mathlib.Core.List.{List, _++_, append-assoc}
 use Prim.Native.Nat.{ℕ, _+_, _-_, _*_, _/_, _^_, _≤_}
-use native.Mathlib.Nat.{add-mul, div-mul-le-self}
+use native.Mathlib.Nat.{zero-add, add-mul, div-mul-le-self}
 use native.Mathlib.Omega.{arith}
 use lib.Dec.{T}
 use lib.ListN.{length, take, drop, length-append}
@@ -18,10 +18,12 @@ use Rattle.symbols.specs.Paper.Symbols.{Width, per, bytesFor, symbolsOf, bytesO
 use Rattle.symbols.specs.Laws.Rows.{symbols-length, symbols-below, symbols-append, symbols-take, symbols-drop, ends-inside}
 use Rattle.symbols.specs.Laws.Whole.{symbols-zeros}
 use Rattle.symbols.specs.Laws.Sizes.{bytesFor-enough, bytesFor-mono, bytesFor-full}
-use Rattle.symbols.specs.Laws.Packing.{bytes-length, bytes-below, symbols-bytes, symbols-one}
+use Rattle.symbols.specs.Laws.Packing.{bytes-length, bytes-below, symbols-bytes, symbols-one, packed-cleared}
+use Rattle.store.specs.Paper.Stored.{packedInto}
 use Rattle.store.specs.Helpers.Replacing.{replacedRow, Replaces}
 use Rattle.store.specs.Helpers.Words.{rowOf}
 use Rattle.store.specs.Laws.Words.{row-symbols}
+use Rattle.store.specs.declared.replace.Run.{Run}
 
 module _ (row : List ℕ) (p q h : ℕ) (new : List ℕ) (pq : p ≤ q) (qh : q ≤ h) (held : h ≤ length row) where
   -- the tail moved, and the new run laid before it
@@ -180,8 +182,14 @@ module _ {k : ℕ} (w : Width k) {buf : List ℕ} (b : Below 256 buf) {h p q : �
 
 -- ---- a buffer that each way leaves
 
-module _ {k : ℕ} {lengths words text : List ℕ} {taken : ℕ} {buf : List ℕ} {h p q : ℕ} (r : Replaces k lengths words text taken buf h p q)
+module _ {k : ℕ} {lengths words text : List ℕ} {taken : ℕ} {buf : List ℕ} {h : ℕ} {x : Run} (r : Replaces k lengths words text taken buf h x)
     (b : Below 256 buf) {after : List ℕ} (a : Below 256 after) where
+  abbrev p : ℕ
+  p = x .first
+
+  abbrev q : ℕ
+  q = x .last
+
   abbrev before : List ℕ
   before = symbolsOf k buf
 
@@ -197,12 +205,12 @@ module _ {k : ℕ} {lengths words text : List ℕ} {taken : ℕ} {buf : List ℕ
   is-left : symbolsOf k left ≡ symbolsOf k after → after ≡ left
   is-left e = symbols-one (r .laid .laid .width) a (outcome-below (r .laid .laid .width) b new-below (r .ordered) (r .inside) (r .held)) (sym e)
 
-  pub grown : {one two : List ℕ} (by : ℕ) {end : ℕ} → one ≡ movedUp before q h by → two ≡ laidFrom one p new → symbolsOf k after ≡ cleared two (h + by) end
-      → p + taken ≡ q + by → end ≡ bytesFor k (h + by) * per k → after ≡ left
-  grown by u t c e f =
+  pub grown : {one two : List ℕ} (by : ℕ) → one ≡ movedUp before q h by → two ≡ laidFrom one p new
+      → symbolsOf k after ≡ cleared two (h + by) (bytesFor k (h + by) * per k) → p + taken ≡ q + by → after ≡ left
+  grown by u t c e =
       is-left
       (grown-symbols (r .laid .laid .width) b new-below (r .ordered) (r .inside) (r .held) by (omega (arith, r .count)) (omega (arith, r .fits, r .inside))
-      ∙ sym (c ∙ rw (t, u, f)))
+      ∙ sym (c ∙ rw (t, u)))
 
   pub shrunk : {one two : List ℕ} (by : ℕ) → one ≡ movedDown before q h by → two ≡ laidFrom one p new → symbolsOf k after ≡ cleared two (h - by) h
       → p + taken + by ≡ q → after ≡ left
@@ -213,3 +221,8 @@ module _ {k : ℕ} {lengths words text : List ℕ} {taken : ℕ} {buf : List ℕ
   pub even : symbolsOf k after ≡ laidFrom before p new → p + taken ≡ q → after ≡ left
   even t e =
       is-left (even-symbols (r .laid .laid .width) b new-below (r .ordered) (r .inside) (r .held) (omega (arith, r .count)) (r .clean) ∙ sym t)
+
+-- a row laid over the front of a buffer, and the rest of its last byte cleared
+pub packed-front : {k : ℕ} → Width k → {xs ys buf row after : List ℕ} {h : ℕ} → Below (2 ^ k) xs → Below 256 buf → Below 256 after
+    → row ≡ laidFrom (symbolsOf k buf) 0 ys → ys ≡ xs → h ≡ length xs → symbolsOf k after ≡ cleared row h (bytesFor k h * per k) → after ≡ packedInto k xs buf
+packed-front w b x y m q e c = packed-cleared w b x y (c ∙ rw (m, q, e, zero-add))

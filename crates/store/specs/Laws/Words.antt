@@ -21,7 +21,6 @@ use Rattle.stopper.specs.Laws.Characters.{has-rank}
 use Rattle.stopper.specs.Laws.Reading.{write-below}
 use Rattle.stopper.specs.Laws.Table.{code-good, code-width, length-place, length-small}
 use Rattle.stopper.specs.declared.code.Code.{Code}
-use Rattle.symbols.specs.Paper.Symbols.{symbolsOf}
 use Rattle.symbols.specs.Laws.Rows.{symbols-even}
 use Rattle.texts.specs.Paper.Characters.{firstForeign}
 use Rattle.sound.specs.Paper.Roll.{textRow}
@@ -75,7 +74,7 @@ module _ (lengths : List ℕ) where
   unfolding foreignOf
   foreign-here b text e = rw (eq-eqb _ _ e)
 
-  upto-le : (room : ℕ) (text : List ℕ) → uptoOf lengths room text ≤ length text
+  pub upto-le : (room : ℕ) (text : List ℕ) → uptoOf lengths room text ≤ length text
   unfolding uptoOf
   upto-le room [] = omega arith
   upto-le room (b ∷ text) =
@@ -100,7 +99,7 @@ module _ (lengths : List ℕ) where
       (λ e. omega (arith, upto-more room b text e, taken-more room b text e, goes-parts _ _ e, upto-taken (room - getD lengths b 0) text))
       (λ e. omega (arith, upto-stop room b text e))
 
-  foreign-le : (text : List ℕ) → foreignOf lengths text ≤ length text
+  pub foreign-le : (text : List ℕ) → foreignOf lengths text ≤ length text
   unfolding foreignOf
   foreign-le [] = omega arith
   foreign-le (b ∷ text) =
@@ -109,7 +108,7 @@ module _ (lengths : List ℕ) where
       (λ e. rw e (omega (arith, foreign-le text)))
 
   -- the first foreign character may be looked for from where they end
-  foreign-from : (room : ℕ) (text : List ℕ) → uptoOf lengths room text + foreignOf lengths (drop (uptoOf lengths room text) text) ≡ foreignOf lengths text
+  pub foreign-from : (room : ℕ) (text : List ℕ) → uptoOf lengths room text + foreignOf lengths (drop (uptoOf lengths room text) text) ≡ foreignOf lengths text
   unfolding uptoOf
   foreign-from room [] = zero-add _
   foreign-from room (b ∷ text) =
@@ -171,15 +170,6 @@ module _ {k : ℕ} {lengths words : List ℕ} (a : WordsLaid k lengths words) wh
 
 -- ---- under a table
 
--- a text that is in the row and fits
-pub record Fitted (c : Code) (l lengths words : List ℕ) (room : ℕ) (text : List ℕ) : Type 0 where
-  pub foreign : firstForeign l text ≡ length text
-  pub over : firstOver c l room text ≡ length text
-  pub row : rowOf lengths words text ≡ textRow c l text
-  pub taken : takenOf lengths room text ≡ length (textRow c l text)
-  pub count : length text ≤ length (textRow c l text)
-  pub inside : length (textRow c l text) ≤ room
-
 module _ (c : Code) (g : T (goodCode c)) (l : List ℕ) where
   length-pos : (r : ℕ) → 0 < lengthOf c r
   length-pos r = omega (arith, length-place c g r)
@@ -217,7 +207,7 @@ module _ (c : Code) (g : T (goodCode c)) (l : List ℕ) where
     at-length : (b : ℕ) → b < 256 → getD lengths b 0 ≡ lengthFor c l b
     at-length b h = ap (λ (x : List ℕ). getD x b 0) (s .sizes) ∙ tab-at (lengthFor c l) 256 b h
 
-    foreign-is : {text : List ℕ} → Below 256 text → foreignOf lengths text ≡ firstForeign l text
+    pub foreign-is : {text : List ℕ} → Below 256 text → foreignOf lengths text ≡ firstForeign l text
     unfolding foreignOf firstForeign
     foreign-is none = refl
     foreign-is (also {x = b} {xs = text} h hs) = rw (at-length b h, foreign-test b, foreign-is hs)
@@ -232,7 +222,7 @@ module _ (c : Code) (g : T (goodCode c)) (l : List ℕ) where
         let n : getD lengths b 0 ≢ 0 = λ z. omega (arith, foreign-here lengths b text z) in
         (n, omega (arith, foreign-more lengths b text n))
 
-    over-is : {text : List ℕ} → Below 256 text → foreignOf lengths text ≡ length text → (room : ℕ) → uptoOf lengths room text ≡ firstOver c l room text
+    pub over-is : {text : List ℕ} → Below 256 text → foreignOf lengths text ≡ length text → (room : ℕ) → uptoOf lengths room text ≡ firstOver c l room text
     unfolding uptoOf firstOver
     over-is none e room = refl
     over-is (also {x = b} {xs = text} h hs) e room =
@@ -240,16 +230,13 @@ module _ (c : Code) (g : T (goodCode c)) (l : List ℕ) where
         let n : getD lengths b 0 ≡ lengthOf c (rankIn l b) = at-length b h ∙ for-there b (there b h (k .0)) in
         rw (n, goes-fits _ room (length-pos (rankIn l b)), over-is hs (k .1) (room - lengthOf c (rankIn l b)))
 
-    row-is : {text : List ℕ} → Below 256 text → foreignOf lengths text ≡ length text → rowOf lengths words text ≡ textRow c l text
+    pub row-is : {text : List ℕ} → Below 256 text → foreignOf lengths text ≡ length text → rowOf lengths words text ≡ textRow c l text
     unfolding rowOf textRow write wordAt
     row-is none e = refl
     row-is (also {x = b} {xs = text} h hs) e =
         let k = all-known b text e in
         let i = there b h (k .0) in
         rw (at-length b h, s .word b h i, row-is hs (k .1))
-
-    pub row-known : {text : List ℕ} → Below 256 text → firstForeign l text ≡ length text → rowOf lengths words text ≡ textRow c l text
-    row-known h e = row-is h (foreign-is h ∙ e)
 
     all-fits : (room b : ℕ) (text : List ℕ) → uptoOf lengths room (b ∷ text) ≡ suc (length text)
         → (goesOn (getD lengths b 0) room ≡ true) × (uptoOf lengths (room - getD lengths b 0) text ≡ length text)
@@ -258,7 +245,7 @@ module _ (c : Code) (g : T (goodCode c)) (l : List ℕ) where
         (λ e. (e, omega (arith, upto-more lengths room b text e)))
         (λ e. absurd (omega (arith, upto-stop lengths room b text e)))
 
-    taken-is : {text : List ℕ} → Below 256 text → foreignOf lengths text ≡ length text → (room : ℕ) → uptoOf lengths room text ≡ length text
+    pub taken-is : {text : List ℕ} → Below 256 text → foreignOf lengths text ≡ length text → (room : ℕ) → uptoOf lengths room text ≡ length text
         → takenOf lengths room text ≡ length (textRow c l text)
     unfolding takenOf textRow write lengthOf
     taken-is none e room f = refl
@@ -270,32 +257,6 @@ module _ (c : Code) (g : T (goodCode c)) (l : List ℕ) where
         ∙ ap₂ _+_ n (taken-is hs (k .1) (room - getD lengths b 0) (j .1))
         ∙ sym (length-append (wordOf c (rankIn l b)) (textRow c l text))
 
-    module _ {text : List ℕ} (h : Below 256 text) (room : ℕ) where
-      -- the first foreign character, looked for from where `fitting` stopped
-      pub foreign-found : {from v : ℕ} → from ≡ uptoOf lengths room text → v ≡ from + foreignOf lengths (drop from text) → v ≡ firstForeign l text
-      foreign-found u e = e ∙ ap (λ (n : ℕ). n + foreignOf lengths (drop n text)) u ∙ foreign-from lengths room text ∙ foreign-is h
-
-      -- with no foreign character it stopped at the first that does not fit
-      pub over-found : length text ≤ firstForeign l text → (firstForeign l text ≡ length text) × (uptoOf lengths room text ≡ firstOver c l room text)
-      over-found k =
-          let e : foreignOf lengths text ≡ length text = omega (arith, foreign-is h, foreign-le lengths text) in
-          (sym (foreign-is h) ∙ e, over-is h e room)
-
-      -- it went to the end
-      pub all-fitted : length text ≤ uptoOf lengths room text → Fitted c l lengths words room text
-      all-fitted k =
-          let u : uptoOf lengths room text ≡ length text = omega (arith, upto-le lengths room text) in
-          let e : foreignOf lengths text ≡ length text = omega (arith, foreign-from lengths room text, foreign-le lengths text) in
-          let n : takenOf lengths room text ≡ length (textRow c l text) = taken-is h e room u in
-          record {
-            foreign = sym (foreign-is h) ∙ e;
-            over = sym (over-is h e room) ∙ u;
-            row = row-is h e;
-            taken = n;
-            count = omega (arith, upto-taken lengths room text);
-            inside = omega (arith, taken-le lengths room text);
-          }
-
     word-below : (b : ℕ) → b < 256 → Below (base c) (wordAt lengths words b)
     unfolding wordAt write
     word-below b h =
@@ -303,19 +264,14 @@ module _ (c : Code) (g : T (goodCode c)) (l : List ℕ) where
         (λ e. rw (at-length b h, s .word b h e) (rw append-nil at (write-below (base c) (stoppers c) (code-good c g) (rankIn l b ∷ []))))
         (λ e. rw (at-length b h, for-none b e) none)
 
-    -- what storing the text asks
-    pub laid : length l ≤ 256 → {text buf : List ℕ} {first : ℕ} → rowOf lengths words text ≡ textRow c l text
-        → first + length (textRow c l text) ≤ length (symbolsOf (c .k) buf) → first + length (textRow c l text) < 2 ^ 64 → Laid (c .k) lengths words text buf first
-    laid few f fits counts = record {
-      laid = record {
-        width = code-width c g;
-        characters = ap length (s .sizes) ∙ length-tab (lengthFor c l) 0 256;
-        few = rw (s .sizes) (tab-below (lengthFor c l) 87 0 256 short);
-        places = s .long;
-        symbols = word-below;
-      };
-      fits = rw f fits;
-      counts = rw f counts;
+    -- the words are laid out
+    pub words-laid : length l ≤ 256 → WordsLaid (c .k) lengths words
+    words-laid few = record {
+      width = code-width c g;
+      characters = ap length (s .sizes) ∙ length-tab (lengthFor c l) 0 256;
+      few = rw (s .sizes) (tab-below (lengthFor c l) 87 0 256 short);
+      places = s .long;
+      symbols = word-below;
     }
       where
         short : (b : ℕ) → lengthFor c l b < 87

@@ -5,11 +5,10 @@ use Prim.Native.Nat.{ℕ, _+_, _-_, _≤_}
 use native.Mathlib.Omega.{arith}
 use borrow.Author.Needs.{needs}
 use lib.ListN.{length}
-use Rattle.ground.specs.Helpers.Below.{Below}
-use Rattle.ground.specs.Laws.Rows.{below-all}
 use Rattle.sound.specs.Laws.Directory.{right-long}
 use Rattle.store.specs.Paper.Stored.{bytesAfter}
 use Rattle.store.proofs.replace.replace.Statement.{statement}
+use Rattle.store.specs.Laws.Located.{run-ordered, run-inside}
 use Rattle.store.specs.Laws.Edited as edited
 use Rattle.store.specs.Laws.Replaced as replaced
 use Rattle.store.proofs.replace.replace.Tie as tie
@@ -22,14 +21,10 @@ long s = search needs
 abbrev begun : tie.After-struct-known2 → tie.Start
 begun c = c .before .before .before .before .before .before .before .before .before
 
-text-bytes : (c : tie.After-struct-known2) → Below 256 (begun c .args .text .now)
-text-bytes c = below-all 256 _ (λ i. c .before .before .before .before .shared-slice-known3 .given i .fits)
-
 replace-symbols-requires : tie.Need-replace-symbols-requires
 replace-symbols-requires c κs =
     let s = begun (c .before) in
-    let a = s .args in
-    replaced.replaces (a .roll) (a .lengths .now) (a .words .now) (a .buf .now) (a .dir .now) (a .run) (a .text .now) (a .taken) (long s) (text-bytes (c .before)) (s .pre)
+    replaced.replaces (long s) (s .pre)
 
 -- ---- after the symbols
 
@@ -49,26 +44,12 @@ symbols s = s .args .run .first + s .args .taken + (s .args .roll .h - s .args .
 count-few : (c : tie.After-slice-known3) → count (started c) ≤ 16777216
 count-few c =
     let s = started c in
-    let a = s .args in
-    replaced.count-few (a .roll) (a .lengths .now) (a .words .now) (a .buf .now) (a .dir .now) (a .run) (a .text .now) (a .taken) (long s) (text-bytes (before c)) (s .pre)
+    replaced.count-few (long s) (s .pre)
 
 symbols-few : (c : tie.After-slice-known3) → symbols (started c) ≤ 16777216
 symbols-few c =
     let s = started c in
-    let a = s .args in
-    replaced.symbols-few (a .roll) (a .lengths .now) (a .words .now) (a .buf .now) (a .dir .now) (a .run) (a .text .now) (a .taken) (long s) (text-bytes (before c)) (s .pre)
-
-ordered : (c : tie.After-slice-known3) → started c .args .run .first ≤ started c .args .run .last
-ordered c =
-    let s = started c in
-    let a = s .args in
-    replaced.run-ordered (a .roll) (a .lengths .now) (a .words .now) (a .buf .now) (a .dir .now) (a .run) (a .text .now) (a .taken) (long s) (text-bytes (before c)) (s .pre)
-
-inside : (c : tie.After-slice-known3) → started c .args .run .last ≤ started c .args .roll .h
-inside c =
-    let s = started c in
-    let a = s .args in
-    replaced.run-inside (a .roll) (a .lengths .now) (a .words .now) (a .buf .now) (a .dir .now) (a .run) (a .text .now) (a .taken) (long s) (text-bytes (before c)) (s .pre)
+    replaced.symbols-few (long s) (s .pre)
 
 add-count : tie.Need-add-count
 add-count c = omega (arith, count-few (c .before))
@@ -83,7 +64,7 @@ add-t20 : tie.Need-add-t20
 add-t20 c = omega (arith, symbols-few (c .before .before .before))
 
 sub-t22 : tie.Need-sub-t22
-sub-t22 c = omega (arith, inside (c .before .before .before .before))
+sub-t22 c = let s = started (c .before .before .before .before) in omega (arith, run-inside (long s) (s .pre .located))
 
 add-t21 : tie.Need-add-t21
 add-t21 c = omega (arith, symbols-few (c .before .before .before .before))
@@ -92,22 +73,20 @@ cast-t24 : tie.Need-cast-t24
 cast-t24 c = omega (arith, symbols-few (c .before .before .before .before))
 
 changed-upto-requires : tie.Need-changed-upto-requires
-changed-upto-requires c κs = let d = c .before .before .before .before in (started d .pre .ordered, ordered d)
+changed-upto-requires c κs = let s = started (c .before .before .before .before) in (s .pre .located .ordered, run-ordered (long s) (s .pre .located))
 
 -- the record and the bytes
 record-is : (c : tie.After-slice-known3) → let s = started c in
     record { table = s .args .roll .table; n = count s; h = symbols s } ≡ edited.rollAfter (s .args .roll) (s .args .buf .now) (s .args .run .start) (s .args .run .end) (s .args .text .now)
 record-is c =
     let s = started c in
-    let a = s .args in
-    replaced.roll-after (a .roll) (a .lengths .now) (a .words .now) (a .buf .now) (a .dir .now) (a .run) (a .text .now) (a .taken) (long s) (text-bytes (before c)) (s .pre) refl refl
+    replaced.roll-after (long s) (s .pre) refl refl
 
 bytes-are : (c : tie.After-slice-known3) → let s = started c in
     c .before .before .replace-symbols .last .1 .1 .1 .1 .1 .0 ≡ bytesAfter (s .args .roll) (edited.textAfter (s .args .roll) (s .args .buf .now) (s .args .run .start) (s .args .run .end) (s .args .text .now)) (s .args .buf .now)
 bytes-are c =
     let s = started c in
-    let a = s .args in
-    replaced.bytes-after (a .roll) (a .lengths .now) (a .words .now) (a .buf .now) (a .dir .now) (a .run) (a .text .now) (a .taken) (long s) (text-bytes (before c)) (s .pre)
+    replaced.bytes-after (long s) (s .pre)
     (c .before .before .replace-symbols .ensures)
 
 mend-requires : tie.Need-mend-requires
@@ -115,8 +94,7 @@ mend-requires c κs =
     let u = c .before .before in
     let d = u .before .before .before .before .before in
     let s = started d in
-    let a = s .args in
-    replaced.mends (a .roll) (a .lengths .now) (a .words .now) (a .buf .now) (a .dir .now) (a .run) (a .text .now) (a .taken) (long s) (text-bytes (before d)) (s .pre)
+    replaced.mends (long s) (s .pre)
     (record-is d) (bytes-are d) (u .changed-upto .ensures)
 
 -- ---- after the directory is mended
@@ -128,7 +106,7 @@ clear-entries-requires : tie.Need-clear-entries-requires
 clear-entries-requires c κs =
     let m = c .before .before .before .before .before in
     let s = started (stored m) in
-    omega (arith, c .entries-for2 .ensures, m .mend .kept .1 .1 .0, right-long (s .args .roll) (s .args .buf .now) (s .pre .sound) (s .args .dir .now) (s .pre .right))
+    omega (arith, c .entries-for2 .ensures, m .mend .kept .1 .1 .0, right-long (s .args .roll) (s .args .buf .now) (s .pre .located .sound) (s .args .dir .now) (s .pre .located .right))
 
 returns : tie.Need-returns
 returns c =
@@ -140,8 +118,8 @@ returns c =
       record-is d,
       (
         bytes-are d,
-        replaced.directory-after (a .roll) (a .lengths .now) (a .words .now) (a .buf .now) (a .dir .now) (a .run) (a .text .now) (a .taken) (long s) (text-bytes (before d)) (s .pre)
-            (replaced.mended-upto (a .roll) (a .lengths .now) (a .words .now) (a .buf .now) (a .dir .now) (a .run) (a .text .now) (a .taken) (long s) (text-bytes (before d)) (s .pre)
+        replaced.directory-after (long s) (s .pre)
+            (replaced.mended-upto (long s) (s .pre)
             (record-is d)
             (bytes-are d)
             (m .before .before .before .changed-upto .ensures)

@@ -12,7 +12,7 @@ use Rattle.store.proofs.replace.shrink.Statement.{statement}
 use Rattle.store.proofs.replace.shrink.Tie as tie
 
 abbrev begun : tie.After-down → tie.Start
-begun u = u .before .before .before .before .before .before
+begun u = u .before .before .before .before .before .before .before
 
 abbrev stored : tie.After-clear-arg → tie.After-write-text
 stored c = c .before .before .before
@@ -36,9 +36,9 @@ returns c =
     let u = moved d in
     let s = begun u in
     shrunk (s .pre .0)
-    (below-all 256 _ (λ i. u .before .before .slice-known .given i .fits))
+    (below-all 256 _ (λ i. u .before .before .before .slice-known .given i .fits))
     (below-all 256 _ (λ i. c .slice-known4 .given i .fits))
-    (s .args .q - s .args .p - s .args .taken)
+    (s .args .run .last - s .args .run .first - s .args .taken)
     (u .down .ensures)
     (stored d .write-text .ensures)
     (c .before .before .clear .ensures)

@@ -1,0 +1,146 @@
+-- `roll::edit::put_in` meets its contract.
+-- Assumes nothing.
+use mathlib.Core.Path.{_≡_, refl, sym, ap, _∙_}
+use Prim.Native.Nat.{ℕ, _+_, _-_, _≤_, _<_}
+use native.Mathlib.Omega.{arith}
+use borrow.Author.Needs.{needs}
+use lib.ListN.{length}
+use Rattle.stopper.specs.Paper.Table.{characters}
+use Rattle.symbols.specs.Paper.Symbols.{room}
+use Rattle.texts.specs.Paper.Directory.{entries}
+use Rattle.texts.specs.Paper.Edited.{edited}
+use Rattle.sound.specs.Paper.Roll.{textOf}
+use Rattle.store.specs.Paper.Fitting.{firstOver}
+use Rattle.store.specs.Laws.Located.{run-inside, count-after}
+use Rattle.store.specs.Laws.Changing.{count-few, over-tail, over-tail-within, over-none}
+use Rattle.roll.specs.Laws.Operations.{edit-4, edit-12, edit-yes}
+use Rattle.roll.proofs.edit.put_in.Statement.{statement}
+use Rattle.roll.proofs.edit.put_in.Tie as tie
+
+long : (s : tie.Start) → length (s .args .roll .table .places) ≡ 256
+long s = search needs
+
+-- ---- the room that is left
+
+abbrev begun : tie.After-room-of → tie.Start
+begun r = r .before .before .before .before .before .before .before .before
+
+rest : (r : tie.After-room-of) → let a = begun r .args in r .room-of .result - (a .run .first + a .taken) ≡ room (a .roll .table .code .k) (length (a .buf .now)) - (a .run .first + a .taken)
+rest r = let a = begun r .args in ap (λ (n : ℕ). n - (a .run .first + a .taken)) (r .room-of .ensures)
+
+few : (r : tie.After-room-of) → let a = begun r .args in a .run .start + length (a .text .now) + (a .roll .n - a .run .end) ≤ 50331648
+few r = let s = begun r in count-few (long s) (s .pre .0) (s .pre .1) (s .pre .2) (rest r)
+
+sub-if1 : tie.Need-sub-if1
+sub-if1 c = let s = begun (c .before .before .before) in omega (arith, run-inside (long s) (s .pre .0))
+
+-- ---- what stands behind does not fit
+
+abbrev roomed : tie.After-first-over → tie.After-room-of
+roomed o = o .before .before .before .before .before .before
+
+within : (o : tie.After-first-over) → let a = begun (roomed o) .args in
+    a .run .start + length (a .text .now) + (o .first-over .result - a .run .end) < length (edited (textOf (a .roll) (a .buf .now)) (a .run .start) (a .run .end) (a .text .now))
+within o =
+    let s = begun (roomed o) in
+    over-tail-within (long s) (s .pre .0) (s .pre .1) (s .pre .2) (rest (roomed o)) (o .before .before .if1 .taken) (o .first-over .ensures)
+
+add-refused : tie.Need-add-refused
+add-refused c = omega (arith, few (roomed (c .before)))
+
+add-refused-2 : tie.Need-add-refused-2
+add-refused-2 c =
+    let o = c .before .before in
+    let s = begun (roomed o) in
+    omega (arith, within o, count-after (long s) (s .pre .0) (s .args .text .now), few (roomed o))
+
+returns : tie.Need-returns
+returns c =
+    let o = c .before .before .before in
+    let s = begun (roomed o) in
+    let a = s .args in
+    let p = s .pre .0 in
+    edit-4 (a .roll) (a .buf .now) (a .dir .now) (a .run .start) (a .run .end) (a .text .now) (p .sound) (p .right) (p .ordered) (p .inside) (s .pre .1 .known)
+    (over-tail (long s) p (s .pre .1) (s .pre .2) (rest (roomed o)) (o .before .before .if1 .taken) (o .first-over .ensures))
+    (within o)
+    (c .refused .ensures)
+
+-- ---- it does
+
+add-count-2 : tie.Need-add-count-2
+add-count-2 c = omega (arith, few (c .before .before .before .before .before .before .before))
+
+cast-entries-for : tie.Need-cast-entries-for
+cast-entries-for c = omega (arith, few (c .before .before .before .before .before .before .before))
+
+abbrev left : tie.After-entries-for → tie.Else1
+left n = n .before .before .before .before
+
+abbrev start : tie.After-entries-for → tie.Start
+start n = begun (left n .before .before .before .before)
+
+none-over : (n : tie.After-entries-for) → let a = start n .args in let new = edited (textOf (a .roll) (a .buf .now)) (a .run .start) (a .run .end) (a .text .now) in
+    firstOver (a .roll .table .code) (characters (a .roll .table)) (room (a .roll .table .code .k) (length (a .buf .now))) new ≡ length new
+none-over n = let s = start n in over-none (long s) (s .pre .0) (s .pre .1) (s .pre .2) (rest (left n .before .before .before .before)) (left n .if1 .left)
+
+-- the entries that the edited text needs
+needed : (n : tie.After-entries-for) → let a = start n .args in
+    n .entries-for .result ≡ entries (length (edited (textOf (a .roll) (a .buf .now)) (a .run .start) (a .run .end) (a .text .now)))
+needed n = let s = start n in n .entries-for .ensures ∙ ap entries (sym (count-after (long s) (s .pre .0) (s .args .text .now)))
+
+returns-2 : tie.Need-returns-2
+returns-2 c =
+    let n = c .before .before in
+    let s = start n in
+    let a = s .args in
+    let p = s .pre .0 in
+    edit-12 (a .roll) (a .buf .now) (a .dir .now) (a .run .start) (a .run .end) (a .text .now) (p .sound) (p .right) (p .ordered) (p .inside) (s .pre .1 .known)
+    (none-over n)
+    (needed n)
+    (c .before .if2 .taken)
+    (c .refused2 .ensures)
+
+returns-3 : tie.Need-returns-3
+returns-3 c =
+    let r = c .before .before .before .before in
+    let e = r .before .before .before in
+    let n = e .before in
+    let s = start n in
+    let a = s .args in
+    let p = s .pre .0 in
+    edit-yes (a .roll) (a .buf .now) (a .dir .now) (a .run .start) (a .run .end) (a .text .now) (p .sound) (p .right) (p .ordered) (p .inside) (s .pre .1 .known)
+    (none-over n)
+    (omega (arith, needed n, e .if2 .left))
+    refl
+    (r .replace .ensures .0)
+    (r .replace .ensures .1 .0)
+    (r .replace .ensures .1 .1)
+
+pub put-in-spec : {M : Type 1} → statement M
+put-in-spec =
+    tie.close
+    (tie.spec
+    (λ c κs. search needs)
+    (λ c. search needs)
+    (λ c. search needs)
+    (λ c. search needs)
+    sub-if1
+    (λ c κs. search needs)
+    add-refused
+    (λ c. search needs)
+    add-refused-2
+    (λ c κs. search needs)
+    (λ c. search needs)
+    returns
+    (λ c. search needs)
+    (λ c. search needs)
+    (λ c. search needs)
+    add-count-2
+    cast-entries-for
+    (λ c κs. search needs)
+    (λ c κs. search needs)
+    returns-2
+    (λ c κs. search needs)
+    (λ c. search needs)
+    (λ c. search needs)
+    returns-3)
