@@ -19,7 +19,7 @@ use Rattle.stopper.specs.Paper.Table.{base, stoppers, goodCode, rankIn, charact
 use Rattle.stopper.specs.Laws.Ranking.{_∈_}
 use Rattle.stopper.specs.Laws.Reading.{aheads, ahead-done, read-front, read-write, write-append, drop-write}
 use Rattle.stopper.specs.Laws.Code.{codeword-word, length-codeword}
-use Rattle.stopper.specs.Laws.Table.{code-good, table-code}
+use Rattle.stopper.specs.Laws.Table.{one-number, code-good, table-code}
 use Rattle.stopper.specs.declared.code.Code.{Code}
 use Rattle.texts.specs.Paper.Hits.{stands, hits}
 use Rattle.texts.specs.Laws.Characters.{InTable, ranks-below, known-drop}
@@ -148,7 +148,7 @@ module _ (r : Roll) (buf : List ℕ) (long : length (r .table .places) ≡ 256) 
   pub hit-symbols : (q : ℕ) → q < r .h → let row : List ℕ = rowUpto (r .table .code) (r .h) buf in
       (T (stands (symbolsFor (r .table) p) (drop q row)) × AfterStopper (r .table .code .s) row q)
       ↔ ((i : ℕ) × (i ∈ hits p (textOf r buf)) × (q ≡ startOf (r .table .code) (ranksRead (reading r buf)) i))
-  unfolding stoppers startOf
+  unfolding startOf
   hit-symbols q h =
       let c : Code = r .table .code in
       let rs : List ℕ = ranksRead (reading r buf) in
@@ -160,13 +160,13 @@ module _ (r : Roll) (buf : List ℕ) (long : length (r .table .places) ≡ 256) 
       let there : (i : ℕ) → q ≡ startOf c rs i → stands sy (drop q row) ≡ stands p (drop i (textOf r buf))
       = λ i f. ap (λ (n : ℕ). stands sy (drop n row)) f ∙ sym (stands-start r buf s sy i) ∙ hit-rank i in (
         (λ x.
-            let (i, k, f) = after-starts (base c) (stoppers c) good (c .s) (λ _. refl) rs q (omega (arith, ap length e, sound-length r buf s)) (subst (λ (l : List ℕ). AfterStopper (c .s) l q) e (x .1)) in
+            let (i, k, f) = after-starts (base c) (stoppers c) good (c .s) (one-number c) rs q (omega (arith, ap length e, sound-length r buf s)) (subst (λ (l : List ℕ). AfterStopper (c .s) l q) e (x .1)) in
             (i, hit-is p (textOf r buf) i .1 (omega arith, subst T (there i f) (x .0)), f)),
         (λ x.
             let (i, m, f) = x in
             let (k, t) = hit-is p (textOf r buf) i .0 m in (
               subst T (sym (there i f)) t,
               subst (AfterStopper (c .s) row) (sym f)
-                  (subst (λ (l : List ℕ). AfterStopper (c .s) l (startOf c rs i)) (sym e) (starts-after (base c) (stoppers c) good (c .s) (λ _. refl) rs i (omega arith))),
+                  (subst (λ (l : List ℕ). AfterStopper (c .s) l (startOf c rs i)) (sym e) (starts-after (base c) (stoppers c) good (c .s) (one-number c) rs i (omega arith))),
             )),
       )

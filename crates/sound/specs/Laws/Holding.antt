@@ -13,13 +13,13 @@ use Rattle.ground.specs.Laws.Rows.{below-more, length-zeros, below-take, zeros-
 use Rattle.ground.specs.Laws.Runs.{run-length}
 use Rattle.stopper.specs.Paper.Table.{base, stoppers, goodCode, goodTable, characters, rankIn}
 use Rattle.stopper.specs.Paper.Reading.{done, write}
-use Rattle.stopper.specs.Laws.Table.{code-good, code-width, table-code}
+use Rattle.stopper.specs.Laws.Table.{code-good, code-width, table-code, table-apart}
 use Rattle.stopper.specs.Laws.Reading.{read-write}
 use Rattle.symbols.specs.Paper.Symbols.{Width, per, bytesFor, room, symbolsOf, bytesOf}
 use Rattle.symbols.specs.Laws.Sizes.{bytesFor-enough}
 use Rattle.symbols.specs.Laws.Rows.{room-row, symbols-below, ends-inside, symbols-append, symbols-take}
 use Rattle.symbols.specs.Laws.Packing.{bytes-below, symbols-bytes, symbols-one}
-use Rattle.texts.specs.Laws.Characters.{InTable, ranks-below, characters-back, ranks-back, ranks-known, characters-few, characters-apart, characters-length, places-characters}
+use Rattle.texts.specs.Laws.Characters.{InTable, ranks-below, characters-back, ranks-back, ranks-known, characters-few, characters-length, places-characters}
 use Rattle.sound.specs.Paper.Roll.{textRow, symbolsFor, recordOf, rowUpto, readRow, readingFrom, reading, ranksRead, textOf, unusedOf, Sound}
 use Rattle.sound.specs.Laws.Texts.{text-below}
 use Rattle.sound.specs.Laws.Reading.{done-whole, done-ranks}
@@ -132,7 +132,7 @@ module _ (r : Roll) (buf : List ℕ) (long : length (r .table .places) ≡ 256) 
   pub sound-ranked : ranksRead (reading r buf) ≡ map (rankIn (characters (r .table))) (textOf r buf)
   sound-ranked =
       let l : List ℕ = characters (r .table) in
-      sym (ap (map (rankIn l)) sound-text ∙ ranks-back l (characters-apart (r .table) (s .table)) sound-ranks)
+      sym (ap (map (rankIn l)) sound-text ∙ ranks-back l (table-apart (r .table) (s .table)) sound-ranks)
 
   row-below : Below (2 ^ widthOf r) (rowUpto (r .table .code) (r .h) buf)
   row-below = below-take (symbols-below (widthOf r) buf) (r .h)

@@ -12,7 +12,7 @@ use Rattle.ground.specs.Laws.Tests.{by-test}
 use Rattle.stopper.specs.Paper.Code.{opens, shorter, rankAt}
 use Rattle.stopper.specs.Paper.Table.{base, stoppers, goodCode}
 use Rattle.stopper.specs.Helpers.State.{Small, near, nearer, openAt, pastAt, stateAt, opened, stepped}
-use Rattle.stopper.specs.Laws.Table.{code-base, code-good}
+use Rattle.stopper.specs.Laws.Table.{one-number, code-base, code-good}
 use Rattle.stopper.specs.Laws.Reading.{rank-least, least-grows, opens-le}
 use Rattle.stopper.specs.declared.code.Code.{Code}
 use Rattle.stopper.specs.declared.reading.Reader.{Reader}
@@ -82,8 +82,7 @@ near-next (suc (suc i)) = refl
 
 -- as far as places are counted, they have their own stoppers
 pub stoppers-near : (c : Code) (i : ℕ) → stoppers c (near i) ≡ stoppers c i
-unfolding stoppers
-stoppers-near c i = refl
+stoppers-near c i = one-number c (near i) ∙ sym (one-number c i)
 
 pub state-opened : (c : Code) (σ : ℕ) → opened ≡ stateAt c σ 0 0
 unfolding stateAt shorter opens

@@ -1,8 +1,8 @@
 -- What a good code and a good table give.
 -- Assumes nothing.
-use mathlib.Core.Path.{_≡_, sym, subst, _∙_}
+use mathlib.Core.Path.{_≡_, refl, sym, subst, _∙_}
 use mathlib.Core.Logic.{_⊎_, inl, inr, ⊎-elim}
-use mathlib.Core.Bool.{true, not, _&&_}
+use mathlib.Core.Bool.{Bool, true, false, not, _&&_}
 use Prim.Native.Nat.{ℕ, suc, _+_, _-_, _*_, _^_, _≤_, _<_}
 use native.Mathlib.Omega.{arith}
 use native.Mathlib.Numerals.{add-one}
@@ -25,6 +25,11 @@ width-base k t = ⊎-elim (λ e. rw e (omega arith, omega arith)) (λ e. rw e (o
 pub yes-code : (c : Code) → T (goodWidth (c .k)) → 1 ≤ c .s → c .s ≤ base c - 1 → T (goodCode c)
 unfolding goodCode
 yes-code c g l h = yes-and (goodWidth (c .k)) _ g (yes-and (leb 1 (c .s)) (leb (c .s) (base c - 1)) (yes-leb l) (yes-leb h))
+
+-- the stopper count is the same at every place: nothing else says so
+pub one-number : (c : Code) (i : ℕ) → stoppers c i ≡ c .s
+unfolding stoppers
+one-number c i = refl
 
 module _ (c : Code) (g : T (goodCode c)) where
   code-parts : T (goodWidth (c .k)) × T (leb 1 (c .s)) × T (leb (c .s) (base c - 1))
@@ -76,6 +81,17 @@ module _ (t : Table) (g : T (goodTable t)) where
   pub table-code : T (goodCode (t .code))
   table-code = table-parts .0
 
-  pub table-few : t .sigma ≤ 256
+  characters-parts : T (leb (t .sigma) 256) × T (not (repeats (characters t)))
   unfolding goodCharacters
-  table-few = leb-yes (and-yes (leb (t .sigma) 256) (not (repeats (characters t))) (table-parts .1) .0)
+  characters-parts = and-yes (leb (t .sigma) 256) (not (repeats (characters t))) (table-parts .1)
+
+  pub table-few : t .sigma ≤ 256
+  table-few = leb-yes (characters-parts .0)
+
+  -- no character stands twice
+  pub table-apart : repeats (characters t) ≡ false
+  table-apart = no-test (repeats (characters t)) (characters-parts .1)
+    where
+      no-test : (b : Bool) → T (not b) → b ≡ false
+      no-test true t = absurd t
+      no-test false t = refl

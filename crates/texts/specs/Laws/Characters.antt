@@ -1,19 +1,19 @@
 -- Characters and their ranks in a row; a text whose characters are all in it, and the first that is not.
 -- Assumes nothing.
 use mathlib.Core.Path.{_≡_, refl, sym, ap, ap₂, subst, _∙_}
-use mathlib.Core.Bool.{Bool, true, false, not, cond, _||_}
+use mathlib.Core.Bool.{Bool, true, false, cond, _||_}
 use mathlib.Core.List.{List, [], _∷_, _++_, map, List·Memᴰ·head, List·Memᴰ·tail}
 use Prim.Native.Nat.{ℕ, zero, suc, _≤_, _<_}
 use native.Mathlib.Nat.{le-of-suc-le-suc}
 use native.Mathlib.Decide.{decLt}
 use native.Mathlib.Omega.{arith}
 use borrow.Author.Tests.{le-leb, lt-leb, le-ltb, eq-eqb, ne-eqb}
-use mir.Facts.{and-yes, yes-ltb, eqb-yes}
-use lib.Dec.{T, leb, eqb, ltb→lt}
+use mir.Facts.{yes-ltb, eqb-yes}
+use lib.Dec.{T, eqb, ltb→lt}
 use lib.ListN.{length, take, drop, getD, length-take}
 use lib.Seq.{getD-take, length-take-le, drop-cons, drop-length}
 use Rattle.ground.specs.Helpers.Below.{Below, none, also}
-use Rattle.stopper.specs.Paper.Table.{has, repeats, rankIn, characters, goodTable, goodCharacters, goodCode}
+use Rattle.stopper.specs.Paper.Table.{has, repeats, rankIn, characters, goodTable}
 use Rattle.stopper.specs.Laws.Characters.{has-rank, mem-has}
 use Rattle.stopper.specs.Laws.Ranking.{_∈_, mem-at}
 use Rattle.stopper.specs.Laws.Table.{table-few}
@@ -173,16 +173,6 @@ module _ (t : Table) where
   characters-few = rw length-take (omega arith)
 
   module _ (g : T (goodTable t)) where
-    pub characters-apart : repeats (characters t) ≡ false
-    unfolding goodTable goodCharacters
-    characters-apart =
-        let p = and-yes (goodCode (t .code)) (goodCharacters (t .sigma) (t .places)) g .1 in
-        no-test (repeats (characters t)) (and-yes (leb (t .sigma) 256) (not (repeats (characters t))) p .1)
-      where
-        no-test : (b : Bool) → T (not b) → b ≡ false
-        no-test true t = absurd t
-        no-test false t = refl
-
     pub characters-length : length (t .places) ≡ 256 → length (characters t) ≡ t .sigma
     characters-length e = length-take-le (t .sigma) (t .places) (omega (arith, table-few t g))
 
