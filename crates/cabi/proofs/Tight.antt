@@ -2,12 +2,11 @@
 -- as the source states them.
 -- Assumes nothing.
 use mathlib.Core.Path.{_≡_, _∙_, sym}
-use mathlib.Core.List.{List}
 use Prim.Native.Nat.{ℕ}
 use contract.Lifetimes.{Lfts}
 use borrow.Fn.Kinds.{Dens, resT, endedOf}
 use denote.Triple.Clauses.{AtExit}
-use Rattle.ground.specs.Paper.Refusals.{Row}
+use Rattle.ground.specs.Paper.Refusals.{Outcome}
 use Rattle.cabi.specs.Paper.Taken.{Told}
 use Rattle.cabi.proofs.monterculo_count.Kinds as count-kinds
 use Rattle.cabi.proofs.monterculo_count.Reads as count-reads
@@ -32,7 +31,7 @@ use Rattle.cabi.proofs.monterculo_search.Reads as search-reads
 use Rattle.cabi.proofs.monterculo_edit.Kinds as edit-kinds
 use Rattle.cabi.proofs.monterculo_edit.Reads as edit-reads
 
-told-one : {rows : List Row} {answer n₁ n₂ v₁ v₂ : ℕ} → Told rows answer n₁ v₁ → Told rows answer n₂ v₂ → (n₁ ≡ n₂) × (v₁ ≡ v₂)
+told-one : {o : Outcome ℕ} {n₁ n₂ v₁ v₂ : ℕ} → Told o n₁ v₁ → Told o n₂ v₂ → (n₁ ≡ n₂) × (v₁ ≡ v₂)
 told-one p q = (p .number-is ∙ sym (q .number-is), p .value-is ∙ sym (q .value-is))
 
 -- lent: `counts`, `value`

@@ -14,27 +14,16 @@ use taken::roll_of;
 use taken::table_of;
 use taken::told;
 ghost use mathlib.Core.Path.{_≡_};
-ghost use mathlib.Core.List.{_++_};
-ghost use Prim.Native.Nat.{_-_};
-ghost use lib.ListN.{length, drop};
-ghost use Rattle.ground.specs.Paper.Refusals.{kept};
-ghost use Rattle.ground.specs.Paper.Rows.{padded};
-ghost use Rattle.ground.specs.Paper.Runs.{run};
-ghost use Rattle.stopper.specs.Paper.Choosing.{countsOf, counted, total, chosen, chosenTable};
-ghost use Rattle.stopper.specs.Paper.Operations.{countRows, chooseRows, codewordRows, characterRows, characterAt, symbols};
-ghost use Rattle.texts.specs.Paper.Directory.{entries, directoryOf};
-ghost use Rattle.texts.specs.Paper.Hits.{hits, listed};
-ghost use Rattle.texts.specs.Paper.Edited.{edited};
-ghost use Rattle.sound.specs.Paper.Roll.{textOf, symbolsFor, recordOf};
-ghost use Rattle.sound.specs.Paper.Lengths.{lengthsOf};
-ghost use Rattle.store.specs.Paper.Stored.{packedInto, bytesAfter, directoryAfter};
-ghost use Rattle.roll.specs.Paper.Operations.{checkRows, unpackRows, packRows, makeRows, readRows, oneRead, searchRows, editRows};
-ghost use Rattle.cabi.specs.Paper.Taken.{Told, tableAt, rollAt, wordAt};
+ghost use Rattle.ground.specs.Paper.Refusals.{accepted, _then_, kept};
+ghost use Rattle.stopper.specs.Paper.Operations.{countSays, countLeaves, chooseSays, chooseTable, chooseTotal, codewordSays, codewordGiven, characterSays};
+ghost use Rattle.roll.specs.Paper.Operations.{packSays, packRoll, packLeaves, checkSays, unpackSays, unpackLeaves, makeSays, makeLeaves};
+ghost use Rattle.roll.specs.Paper.Operations.{readSays, searchSays, searchLeaves, editSays, editRoll, editLeaves, editMends};
+ghost use Rattle.cabi.specs.Paper.Taken.{Told, tableAt, rollAt};
 
 #[no_mangle]
 pub extern "C" fn monterculo_count(text: &[u8], counts: &mut [u32], value: &mut u64) -> u32
-    ensures told { λ r. ⌜ Told (countRows (now (text .entry)) (now (counts .entry))) 0 r (now (value .exit)) ⌝ }
-    ensures counts { λ _. ⌜ now (counts .exit) ≡ kept (countRows (now (text .entry)) (now (counts .entry))) (now (counts .entry)) (countsOf (now (text .entry))) ⌝ }
+    ensures told { λ r. ⌜ Told (countSays (now (text .entry)) (now (counts .entry)) then accepted 0) r (now (value .exit)) ⌝ }
+    ensures counts { λ _. ⌜ now (counts .exit) ≡ countLeaves (now (text .entry)) (now (counts .entry)) ⌝ }
 {
     let answer = stopper::count::count(text, counts);
     told(answer, 0, value)
@@ -50,10 +39,10 @@ pub extern "C" fn monterculo_choose(
     places: &mut [u8; 256],
     value: &mut u64,
 ) -> u32
-    ensures told { λ r. ⌜ Told (chooseRows k (now (counts .entry))) (total (chosen k (counted (now (counts .entry)))) (counted (now (counts .entry)))) r (now (value .exit)) ⌝ }
-    ensures s { λ _. ⌜ now (s .exit) ≡ kept (chooseRows k (now (counts .entry))) (now (s .entry)) (chosenTable k (counted (now (counts .entry))) .code .s) ⌝ }
-    ensures sigma { λ _. ⌜ now (sigma .exit) ≡ kept (chooseRows k (now (counts .entry))) (now (sigma .entry)) (chosenTable k (counted (now (counts .entry))) .sigma) ⌝ }
-    ensures places { λ _. ⌜ now (places .exit) ≡ kept (chooseRows k (now (counts .entry))) (now (places .entry)) (chosenTable k (counted (now (counts .entry))) .places) ⌝ }
+    ensures told { λ r. ⌜ Told (chooseSays k (now (counts .entry)) then accepted (chooseTotal k (now (counts .entry)))) r (now (value .exit)) ⌝ }
+    ensures s { λ _. ⌜ now (s .exit) ≡ kept (chooseSays k (now (counts .entry))) (now (s .entry)) (chooseTable k (now (counts .entry)) .code .s) ⌝ }
+    ensures sigma { λ _. ⌜ now (sigma .exit) ≡ kept (chooseSays k (now (counts .entry))) (now (sigma .entry)) (chooseTable k (now (counts .entry)) .sigma) ⌝ }
+    ensures places { λ _. ⌜ now (places .exit) ≡ kept (chooseSays k (now (counts .entry))) (now (places .entry)) (chooseTable k (now (counts .entry)) .places) ⌝ }
 {
     let choice = stopper::choose::choose(k, counts);
     let answer = choice.answer;
@@ -86,8 +75,8 @@ pub extern "C" fn monterculo_codeword_of(
     word: &mut [u8; 86],
     value: &mut u64,
 ) -> u32
-    ensures told { λ r. ⌜ Told (codewordRows (tableAt k s sigma (now (places .entry))) character) (length (wordAt (tableAt k s sigma (now (places .entry))) character)) r (now (value .exit)) ⌝ }
-    ensures word { λ _. ⌜ now (word .exit) ≡ kept (codewordRows (tableAt k s sigma (now (places .entry))) character) (now (word .entry)) (padded 86 (wordAt (tableAt k s sigma (now (places .entry))) character)) ⌝ }
+    ensures told { λ r. ⌜ Told (codewordSays (tableAt k s sigma (now (places .entry))) character then accepted (codewordGiven (tableAt k s sigma (now (places .entry))) character .length)) r (now (value .exit)) ⌝ }
+    ensures word { λ _. ⌜ now (word .exit) ≡ kept (codewordSays (tableAt k s sigma (now (places .entry))) character) (now (word .entry)) (codewordGiven (tableAt k s sigma (now (places .entry))) character .symbols) ⌝ }
 {
     let table = table_of(k, s, sigma, places);
     let coded = stopper::codeword_of::codeword_of(table, character);
@@ -118,7 +107,7 @@ pub extern "C" fn monterculo_character_of(
     word: &[u8; 86],
     value: &mut u64,
 ) -> u32
-    ensures { λ r. ⌜ Told (characterRows (tableAt k s sigma (now (places .entry))) (record { length = length; symbols = now (word .entry) })) (characterAt (tableAt k s sigma (now (places .entry))) (symbols (record { length = length; symbols = now (word .entry) }))) r (now (value .exit)) ⌝ }
+    ensures { λ r. ⌜ Told (characterSays (tableAt k s sigma (now (places .entry))) (record { length = length; symbols = now (word .entry) })) r (now (value .exit)) ⌝ }
 {
     let table = table_of(k, s, sigma, places);
     let symbols = *word;
@@ -137,7 +126,7 @@ pub extern "C" fn monterculo_check(
     buf: &[u8],
     value: &mut u64,
 ) -> u32
-    ensures { λ r. ⌜ Told (checkRows (rollAt k s sigma (now (places .entry)) n h) (now (buf .entry))) 0 r (now (value .exit)) ⌝ }
+    ensures { λ r. ⌜ Told (checkSays (rollAt k s sigma (now (places .entry)) n h) (now (buf .entry)) then accepted 0) r (now (value .exit)) ⌝ }
 {
     let roll = roll_of(k, s, sigma, places, n, h);
     let answer = roll::check::check(roll, buf);
@@ -158,8 +147,8 @@ pub extern "C" fn monterculo_unpack(
     out: &mut [u8],
     value: &mut u64,
 ) -> u32
-    ensures told { λ r. ⌜ Told (unpackRows (rollAt k s sigma (now (places .entry)) n h) (now (buf .entry)) start end (now (out .entry))) 0 r (now (value .exit)) ⌝ }
-    ensures out { λ _. ⌜ now (out .exit) ≡ kept (unpackRows (rollAt k s sigma (now (places .entry)) n h) (now (buf .entry)) start end (now (out .entry))) (now (out .entry)) (run (textOf (rollAt k s sigma (now (places .entry)) n h) (now (buf .entry))) start end ++ drop (end - start) (now (out .entry))) ⌝ }
+    ensures told { λ r. ⌜ Told (unpackSays (rollAt k s sigma (now (places .entry)) n h) (now (buf .entry)) start end (now (out .entry)) then accepted 0) r (now (value .exit)) ⌝ }
+    ensures out { λ _. ⌜ now (out .exit) ≡ unpackLeaves (rollAt k s sigma (now (places .entry)) n h) (now (buf .entry)) start end (now (out .entry)) ⌝ }
 {
     let roll = roll_of(k, s, sigma, places, n, h);
     let answer = roll::unpack::unpack(roll, buf, start, end, out);
@@ -179,10 +168,10 @@ pub extern "C" fn monterculo_pack(
     h: &mut u32,
     value: &mut u64,
 ) -> u32
-    ensures told { λ r. ⌜ Told (packRows (tableAt k s sigma (now (places .entry))) (now (text .entry)) (now (buf .entry))) 0 r (now (value .exit)) ⌝ }
-    ensures buf { λ _. ⌜ now (buf .exit) ≡ kept (packRows (tableAt k s sigma (now (places .entry))) (now (text .entry)) (now (buf .entry))) (now (buf .entry)) (packedInto k (symbolsFor (tableAt k s sigma (now (places .entry))) (now (text .entry))) (now (buf .entry))) ⌝ }
-    ensures n { λ _. ⌜ now (n .exit) ≡ kept (packRows (tableAt k s sigma (now (places .entry))) (now (text .entry)) (now (buf .entry))) (now (n .entry)) (recordOf (tableAt k s sigma (now (places .entry))) (now (text .entry)) .n) ⌝ }
-    ensures h { λ _. ⌜ now (h .exit) ≡ kept (packRows (tableAt k s sigma (now (places .entry))) (now (text .entry)) (now (buf .entry))) (now (h .entry)) (recordOf (tableAt k s sigma (now (places .entry))) (now (text .entry)) .h) ⌝ }
+    ensures told { λ r. ⌜ Told (packSays (tableAt k s sigma (now (places .entry))) (now (text .entry)) (now (buf .entry)) then accepted 0) r (now (value .exit)) ⌝ }
+    ensures buf { λ _. ⌜ now (buf .exit) ≡ packLeaves (tableAt k s sigma (now (places .entry))) (now (text .entry)) (now (buf .entry)) ⌝ }
+    ensures n { λ _. ⌜ now (n .exit) ≡ kept (packSays (tableAt k s sigma (now (places .entry))) (now (text .entry)) (now (buf .entry))) (now (n .entry)) (packRoll (tableAt k s sigma (now (places .entry))) (now (text .entry)) (now (buf .entry)) .n) ⌝ }
+    ensures h { λ _. ⌜ now (h .exit) ≡ kept (packSays (tableAt k s sigma (now (places .entry))) (now (text .entry)) (now (buf .entry))) (now (h .entry)) (packRoll (tableAt k s sigma (now (places .entry))) (now (text .entry)) (now (buf .entry)) .h) ⌝ }
 {
     let table = table_of(k, s, sigma, places);
     let packed = roll::pack::pack(table, text, buf);
@@ -214,8 +203,8 @@ pub extern "C" fn monterculo_make_directory(
     dir: &mut [u32],
     value: &mut u64,
 ) -> u32
-    ensures told { λ r. ⌜ Told (makeRows (rollAt k s sigma (now (places .entry)) n h) (now (buf .entry)) (now (dir .entry))) 0 r (now (value .exit)) ⌝ }
-    ensures dir { λ _. ⌜ now (dir .exit) ≡ kept (makeRows (rollAt k s sigma (now (places .entry)) n h) (now (buf .entry)) (now (dir .entry))) (now (dir .entry)) (directoryOf (lengthsOf (rollAt k s sigma (now (places .entry)) n h) (now (buf .entry))) ++ drop (entries n) (now (dir .entry))) ⌝ }
+    ensures told { λ r. ⌜ Told (makeSays (rollAt k s sigma (now (places .entry)) n h) (now (buf .entry)) (now (dir .entry)) then accepted 0) r (now (value .exit)) ⌝ }
+    ensures dir { λ _. ⌜ now (dir .exit) ≡ makeLeaves (rollAt k s sigma (now (places .entry)) n h) (now (buf .entry)) (now (dir .entry)) ⌝ }
 {
     let roll = roll_of(k, s, sigma, places, n, h);
     let answer = roll::make_directory::make_directory(roll, buf, dir);
@@ -236,7 +225,7 @@ pub extern "C" fn monterculo_read_one(
     place: usize,
     value: &mut u64,
 ) -> u32
-    ensures { λ r. ⌜ Told (readRows (rollAt k s sigma (now (places .entry)) n h) (now (buf .entry)) (now (dir .entry)) place) (oneRead (rollAt k s sigma (now (places .entry)) n h) (now (buf .entry)) (now (dir .entry)) place) r (now (value .exit)) ⌝ }
+    ensures { λ r. ⌜ Told (readSays (rollAt k s sigma (now (places .entry)) n h) (now (buf .entry)) (now (dir .entry)) place) r (now (value .exit)) ⌝ }
 {
     let roll = roll_of(k, s, sigma, places, n, h);
     let answer = roll::read_one::read_one(roll, buf, dir, place);
@@ -257,8 +246,8 @@ pub extern "C" fn monterculo_search(
     slice: &mut [u32],
     value: &mut u64,
 ) -> u32
-    ensures told { λ r. ⌜ Told (searchRows (rollAt k s sigma (now (places .entry)) n h) (now (buf .entry)) (now (pattern .entry))) (length (hits (now (pattern .entry)) (textOf (rollAt k s sigma (now (places .entry)) n h) (now (buf .entry))))) r (now (value .exit)) ⌝ }
-    ensures slice { λ _. ⌜ now (slice .exit) ≡ kept (searchRows (rollAt k s sigma (now (places .entry)) n h) (now (buf .entry)) (now (pattern .entry))) (now (slice .entry)) (listed (hits (now (pattern .entry)) (textOf (rollAt k s sigma (now (places .entry)) n h) (now (buf .entry)))) (now (slice .entry))) ⌝ }
+    ensures told { λ r. ⌜ Told (searchSays (rollAt k s sigma (now (places .entry)) n h) (now (buf .entry)) (now (pattern .entry))) r (now (value .exit)) ⌝ }
+    ensures slice { λ _. ⌜ now (slice .exit) ≡ searchLeaves (rollAt k s sigma (now (places .entry)) n h) (now (buf .entry)) (now (pattern .entry)) (now (slice .entry)) ⌝ }
 {
     let roll = roll_of(k, s, sigma, places, n, h);
     let answer = roll::search::search(roll, buf, pattern, slice);
@@ -290,11 +279,11 @@ pub extern "C" fn monterculo_edit(
     text: &[u8],
     value: &mut u64,
 ) -> u32
-    ensures told { λ r. ⌜ Told (editRows (rollAt k s sigma (now (places .entry)) (now (n .entry)) (now (h .entry))) (now (buf .entry)) (now (dir .entry)) start end (now (text .entry))) 0 r (now (value .exit)) ⌝ }
-    ensures buf { λ _. ⌜ now (buf .exit) ≡ kept (editRows (rollAt k s sigma (now (places .entry)) (now (n .entry)) (now (h .entry))) (now (buf .entry)) (now (dir .entry)) start end (now (text .entry))) (now (buf .entry)) (bytesAfter (rollAt k s sigma (now (places .entry)) (now (n .entry)) (now (h .entry))) (edited (textOf (rollAt k s sigma (now (places .entry)) (now (n .entry)) (now (h .entry))) (now (buf .entry))) start end (now (text .entry))) (now (buf .entry))) ⌝ }
-    ensures dir { λ _. ⌜ now (dir .exit) ≡ kept (editRows (rollAt k s sigma (now (places .entry)) (now (n .entry)) (now (h .entry))) (now (buf .entry)) (now (dir .entry)) start end (now (text .entry))) (now (dir .entry)) (directoryAfter (rollAt k s sigma (now (places .entry)) (now (n .entry)) (now (h .entry))) (edited (textOf (rollAt k s sigma (now (places .entry)) (now (n .entry)) (now (h .entry))) (now (buf .entry))) start end (now (text .entry))) (now (dir .entry))) ⌝ }
-    ensures n { λ _. ⌜ now (n .exit) ≡ kept (editRows (rollAt k s sigma (now (places .entry)) (now (n .entry)) (now (h .entry))) (now (buf .entry)) (now (dir .entry)) start end (now (text .entry))) (now (n .entry)) (recordOf (tableAt k s sigma (now (places .entry))) (edited (textOf (rollAt k s sigma (now (places .entry)) (now (n .entry)) (now (h .entry))) (now (buf .entry))) start end (now (text .entry))) .n) ⌝ }
-    ensures h { λ _. ⌜ now (h .exit) ≡ kept (editRows (rollAt k s sigma (now (places .entry)) (now (n .entry)) (now (h .entry))) (now (buf .entry)) (now (dir .entry)) start end (now (text .entry))) (now (h .entry)) (recordOf (tableAt k s sigma (now (places .entry))) (edited (textOf (rollAt k s sigma (now (places .entry)) (now (n .entry)) (now (h .entry))) (now (buf .entry))) start end (now (text .entry))) .h) ⌝ }
+    ensures told { λ r. ⌜ Told (editSays (rollAt k s sigma (now (places .entry)) (now (n .entry)) (now (h .entry))) (now (buf .entry)) (now (dir .entry)) start end (now (text .entry)) then accepted 0) r (now (value .exit)) ⌝ }
+    ensures buf { λ _. ⌜ now (buf .exit) ≡ editLeaves (rollAt k s sigma (now (places .entry)) (now (n .entry)) (now (h .entry))) (now (buf .entry)) (now (dir .entry)) start end (now (text .entry)) ⌝ }
+    ensures dir { λ _. ⌜ now (dir .exit) ≡ editMends (rollAt k s sigma (now (places .entry)) (now (n .entry)) (now (h .entry))) (now (buf .entry)) (now (dir .entry)) start end (now (text .entry)) ⌝ }
+    ensures n { λ _. ⌜ now (n .exit) ≡ editRoll (rollAt k s sigma (now (places .entry)) (now (n .entry)) (now (h .entry))) (now (buf .entry)) (now (dir .entry)) start end (now (text .entry)) .n ⌝ }
+    ensures h { λ _. ⌜ now (h .exit) ≡ editRoll (rollAt k s sigma (now (places .entry)) (now (n .entry)) (now (h .entry))) (now (buf .entry)) (now (dir .entry)) start end (now (text .entry)) .h ⌝ }
 {
     let roll = roll_of(k, s, sigma, places, *n, *h);
     let edited = roll::edit::edit(roll, buf, dir, start, end, text);

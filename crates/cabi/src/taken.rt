@@ -5,8 +5,9 @@ use sound::records::Roll;
 use stopper::code::Code;
 use stopper::table::Table;
 ghost use mathlib.Core.Path.{_≡_};
-ghost use Rattle.ground.specs.Paper.Answers.{answerSays};
-ghost use Rattle.cabi.specs.Paper.Taken.{numberOf, valueOf, doneNumber, doneValue, tableAt, rollAt};
+ghost use Rattle.ground.specs.Paper.Refusals.{accepted, _then_};
+ghost use Rattle.ground.specs.Paper.Answers.{doneSays, answerSays};
+ghost use Rattle.cabi.specs.Paper.Taken.{Told, tableAt, rollAt};
 
 pub fn table_of(k: u8, s: u8, sigma: u16, places: &[u8; 256]) -> Table
     ensures { λ r. ⌜ r ≡ tableAt k s sigma (now (places .entry)) ⌝ }
@@ -28,8 +29,7 @@ pub fn roll_of(k: u8, s: u8, sigma: u16, places: &[u8; 256], n: u32, h: u32) -> 
 
 // The answer's number; `value` takes the refusal's value or what is answered.
 pub fn told(answer: Done, answered: u64, value: &mut u64) -> u32
-    ensures number { λ r. ⌜ r ≡ doneNumber answer ⌝ }
-    ensures value { λ _. ⌜ now (value .exit) ≡ doneValue answer answered ⌝ }
+    ensures { λ r. ⌜ Told (doneSays answer then accepted answered) r (now (value .exit)) ⌝ }
 {
     match answer {
         Done::Yes => {
@@ -45,8 +45,7 @@ pub fn told(answer: Done, answered: u64, value: &mut u64) -> u32
 
 // The same of a character.
 pub fn read(answer: Answer, value: &mut u64) -> u32
-    ensures number { λ r. ⌜ r ≡ numberOf (answerSays answer) ⌝ }
-    ensures value { λ _. ⌜ now (value .exit) ≡ valueOf (answerSays answer) ⌝ }
+    ensures { λ r. ⌜ Told (answerSays answer) r (now (value .exit)) ⌝ }
 {
     match answer {
         Answer::Read(character) => {

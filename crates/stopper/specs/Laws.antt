@@ -7,5 +7,6 @@ pub mod Characters
 pub mod State
 pub mod Seen
 pub mod Operations
+pub mod Accepting
 pub mod Counting
 pub mod Choosing

@@ -6,7 +6,7 @@ use crate::word::symbols_of;
 use ground::answers::Done;
 ghost use mathlib.Core.Path.{_≡_};
 ghost use Rattle.stopper.specs.Paper.Operations.{Coding};
-ghost use Rattle.stopper.specs.Helpers.Answers.{refusedWord};
+ghost use Rattle.stopper.specs.Helpers.Answers.{refusedCoded};
 
 // Symbols, one to a byte, 0 past the length.
 pub struct Codeword {
@@ -20,7 +20,7 @@ pub struct Coded {
 }
 
 fn refused(number: u8) -> Coded
-    ensures { λ r. ⌜ r ≡ refusedWord number ⌝ }
+    ensures { λ r. ⌜ r ≡ refusedCoded number ⌝ }
 {
     Coded {
         answer: Done::Refused(number, 0),

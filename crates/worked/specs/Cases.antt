@@ -1,36 +1,34 @@
--- Worked on paper: rows of one table under one claim, which the check computes over the definitions that the promises cite. Every case
+-- Worked on paper: cases of one table under one claim, which the check computes over the definitions that the promises cite. Every case
 -- that the paper marks with a star, P1 to P11, is in the table.
 -- Assumes nothing.
 use mathlib.Core.Bool.{Bool, true, false, not, _&&_}
 use mathlib.Core.List.{List, [], _∷_, _++_, map}
-use Prim.Native.Nat.{ℕ, _-_, _^_}
+use Prim.Native.Nat.{ℕ, _^_}
 use lib.Dec.{T, eqb}
-use lib.ListN.{length, replicate, drop}
+use lib.ListN.{replicate, drop}
 use Rattle.ground.specs.Paper.Limit.{limit}
-use Rattle.ground.specs.Paper.Refusals.{Outcome, accepted, refused, judged, kept}
+use Rattle.ground.specs.Paper.Refusals.{Outcome, accepted, refused}
 use Rattle.ground.specs.Paper.Rows.{tab, zeros, padded, allZero}
-use Rattle.ground.specs.Paper.Runs.{run}
 use Rattle.stopper.specs.Paper.Code.{codeword, place, first, shorter, opens, spell, rankOf, rankFrom, rankAt}
 use Rattle.stopper.specs.Paper.Table.{stoppers, goodWidth, goodCode, goodCharacters, goodTable, has, repeats, rankIn, lengthOf, wordOf, tableOf}
 use Rattle.stopper.specs.Paper.Reading.{readFrom, ahead, write}
 use Rattle.stopper.specs.Paper.Ranking.{key, insert, rankedFrom, ranked}
 use Rattle.stopper.specs.Paper.Choosing.{occurs, countsOf, counted, totalFrom, total, least, chosen, chosenTable}
+use Rattle.stopper.specs.Paper.Operations.{countSays, countLeaves, chooseSays, chooseTable, chooseTotal, codewordSays, characterSays}
 use Rattle.stopper.specs.declared.table.Table.{Table}
 use Rattle.symbols.specs.Paper.Symbols.{per, bytesFor, room, shift, symbolAt, symbolsOf, number, byteAt, bytesOf}
 use Rattle.texts.specs.Paper.Characters.{firstForeign}
 use Rattle.texts.specs.Paper.Directory.{entries, sum, startAt, directoryOf, firstWrong}
-use Rattle.texts.specs.Paper.Hits.{stands, hitsFrom, hits, goodPattern, listed}
-use Rattle.texts.specs.Paper.Edited.{edited}
-use Rattle.sound.specs.Paper.Roll.{textRow, symbolsFor, recordOf, readingFrom, isBad, ranksRead, firstBad, textOf}
+use Rattle.texts.specs.Paper.Hits.{stands, hitsFrom, hits, goodPattern}
+use Rattle.sound.specs.Paper.Roll.{textRow, symbolsFor, readingFrom, isBad, ranksRead, firstBad, textOf}
 use Rattle.sound.specs.Paper.Lengths.{lengthsOf, lengthsFor}
 use Rattle.sound.specs.declared.records.Roll.{Roll}
 use Rattle.store.specs.Paper.Fitting.{firstOver}
-use Rattle.store.specs.Paper.Stored.{packedInto, bytesAfter, directoryAfter}
-use Rattle.roll.specs.Paper.Operations.{packRows, unpacked, checkRows, unpackRows, searchRows, editRows}
+use Rattle.roll.specs.Paper.Operations.{packSays, packRoll, packLeaves, checkSays, unpackSays, unpackLeaves, makeSays, readSays, searchSays, searchLeaves, directorySays, editSays, editRoll, editLeaves, editMends}
 
 -- ---- whether two are the same
 
-same : List ℕ → List ℕ → Bool
+unfoldable pub same : List ℕ → List ℕ → Bool
 same [] [] = true
 same [] (y ∷ ys) = false
 same (x ∷ xs) [] = false
@@ -54,62 +52,51 @@ sameTotal (accepted x) (refused n v) = false
 sameTotal (refused n v) (accepted x) = false
 sameTotal (refused n v) (refused n′ v′) = eqb n n′ && eqb v v′
 
--- ---- the rows
+-- ---- the cases
 
-data Row : Type 0 where
+data Case : Type 0 where
   -- width, s, rank: its codeword
-  word : ℕ → ℕ → ℕ → List ℕ → Row
+  word : ℕ → ℕ → ℕ → List ℕ → Case
   -- width, text, s: the total for the text's counts
-  totals : ℕ → List ℕ → ℕ → ℕ → Row
+  totals : ℕ → List ℕ → ℕ → ℕ → Case
   -- width, text: choosing gives this table and total
-  choice : ℕ → List ℕ → Table → ℕ → Row
+  choice : ℕ → List ℕ → Table → ℕ → Case
   -- table, text, buffer: the outcome, the record, the symbols, the buffer afterwards
-  packs : Table → List ℕ → List ℕ → Outcome (Unit {0}) → Roll → List ℕ → List ℕ → Row
+  packs : Table → List ℕ → List ℕ → Outcome (Unit {0}) → Roll → List ℕ → List ℕ → Case
   -- roll, buffer: the outcome
-  checks : Roll → List ℕ → Outcome (Unit {0}) → Row
+  checks : Roll → List ℕ → Outcome (Unit {0}) → Case
   -- roll, buffer, start, end, output: the outcome, the output afterwards
-  unpacks : Roll → List ℕ → ℕ → ℕ → List ℕ → Outcome (Unit {0}) → List ℕ → Row
+  unpacks : Roll → List ℕ → ℕ → ℕ → List ℕ → Outcome (Unit {0}) → List ℕ → Case
   -- roll, buffer, pattern, hit list: the outcome with the total, the hit list afterwards
-  finds : Roll → List ℕ → List ℕ → List ℕ → Outcome ℕ → List ℕ → Row
+  finds : Roll → List ℕ → List ℕ → List ℕ → Outcome ℕ → List ℕ → Case
   -- roll, buffer, pattern, symbol: the pattern's symbols stand there, and no hit starts there
-  inside : Roll → List ℕ → List ℕ → ℕ → Row
+  inside : Roll → List ℕ → List ℕ → ℕ → Case
   -- roll, buffer, directory, start, end, text: the outcome, the record, the buffer and the directory afterwards
-  edits : Roll → List ℕ → List ℕ → ℕ → ℕ → List ℕ → Outcome (Unit {0}) → Roll → List ℕ → List ℕ → Row
+  edits : Roll → List ℕ → List ℕ → ℕ → ℕ → List ℕ → Outcome (Unit {0}) → Roll → List ℕ → List ℕ → Case
 
-right : Row → Bool
+right : Case → Bool
 right (word k s r w) = same (wordOf (record { k = k; s = s }) r) w && eqb (rankOf (2 ^ k) (stoppers (record { k = k; s = s })) w) r
 right (totals k text s n) = eqb (total (record { k = k; s = s }) (counted (countsOf text))) n
 right (choice k text t n) =
-    let count = counted (countsOf text) in
-    eqb (total (chosen k count) count) n && sameTable (chosenTable k count) t
+    let counts = countLeaves text (zeros 256) in
+    eqb (chooseTotal k counts) n && sameTable (chooseTable k counts) t
 right (packs t text buf o r row after) =
-    let rows = packRows t text buf in
-    sameOutcome (judged rows tt) o
-    && sameRoll (kept rows (unpacked t) (recordOf t text)) r
-    && same (symbolsFor t text) row
-    && same (kept rows buf (packedInto (t .code .k) (symbolsFor t text) buf)) after
-right (checks r buf o) = sameOutcome (judged (checkRows r buf) tt) o
-right (unpacks r buf start end out o after) =
-    let rows = unpackRows r buf start end out in
-    sameOutcome (judged rows tt) o && same (kept rows out (run (textOf r buf) start end ++ drop (end - start) out)) after
-right (finds r buf pattern slice o after) =
-    let rows = searchRows r buf pattern in
-    let found = hits pattern (textOf r buf) in
-    sameTotal (judged rows (length found)) o && same (kept rows slice (listed found slice)) after
+    sameOutcome (packSays t text buf) o && sameRoll (packRoll t text buf) r && same (symbolsFor t text) row && same (packLeaves t text buf) after
+right (checks r buf o) = sameOutcome (checkSays r buf) o
+right (unpacks r buf start end out o after) = sameOutcome (unpackSays r buf start end out) o && same (unpackLeaves r buf start end out) after
+right (finds r buf pattern slice o after) = sameTotal (searchSays r buf pattern) o && same (searchLeaves r buf pattern slice) after
 right (inside r buf pattern q) =
     stands (symbolsFor (r .table) pattern) (drop q (symbolsOf (r .table .code .k) buf))
     && not (has q (map (startAt (lengthsOf r buf)) (hits pattern (textOf r buf))))
 right (edits r buf dir start end text o r′ after behind) =
-    let rows = editRows r buf dir start end text in
-    let new = edited (textOf r buf) start end text in
-    sameOutcome (judged rows tt) o
-    && sameRoll (kept rows r (recordOf (r .table) new)) r′
-    && same (kept rows buf (bytesAfter r new buf)) after
-    && same (kept rows dir (directoryAfter r new dir)) behind
+    sameOutcome (editSays r buf dir start end text) o
+    && sameRoll (editRoll r buf dir start end text) r′
+    && same (editLeaves r buf dir start end text) after
+    && same (editMends r buf dir start end text) behind
 
-every : List Row → Bool
+every : List Case → Bool
 every [] = true
-every (r ∷ rows) = right r && every rows
+every (c ∷ cases) = right c && every cases
 
 yes : Outcome (Unit {0})
 yes = accepted tt
@@ -135,8 +122,8 @@ banana = 98 ∷ 97 ∷ 110 ∷ 97 ∷ 110 ∷ 97 ∷ []
 bananas : Table
 bananas = tableOf (record { k = 4; s = 3 }) (97 ∷ 110 ∷ 98 ∷ [])
 
-rows : List Row
-rows =
+cases : List Case
+cases =
     -- P1
     totals 2 abracadabra 1 18
     ∷ totals 2 abracadabra 2 15
@@ -183,9 +170,9 @@ rows =
 
 -- all that the cases compute with, named once
 unfoldable pub computed : Unit {0}
-unfolding limit tab zeros padded codeword place first shorter opens spell rankOf rankFrom rankAt stoppers goodWidth goodCode goodCharacters goodTable has repeats rankIn lengthOf readFrom ahead write key insert rankedFrom ranked occurs countsOf counted totalFrom total least chosen chosenTable per bytesFor room shift symbolAt symbolsOf number byteAt bytesOf firstForeign firstOver textRow readingFrom isBad ranksRead firstBad textOf allZero entries sum startAt directoryOf lengthsOf lengthsFor firstWrong stands hitsFrom hits goodPattern
+unfolding limit tab zeros padded codeword place first shorter opens spell rankOf rankFrom rankAt stoppers goodWidth goodCode goodCharacters goodTable has repeats rankIn lengthOf readFrom ahead write key insert rankedFrom ranked occurs countsOf counted totalFrom total least chosen chosenTable per bytesFor room shift symbolAt symbolsOf number byteAt bytesOf firstForeign firstOver textRow readingFrom isBad ranksRead firstBad textOf allZero entries sum startAt directoryOf lengthsOf lengthsFor firstWrong stands hitsFrom hits goodPattern countSays chooseSays codewordSays characterSays packSays checkSays unpackSays makeSays readSays searchSays directorySays editSays
 computed = tt
 
-worked : T (every rows)
-unfolding every rows right same sameTable sameRoll sameOutcome sameTotal yes abracadabra abra packedAbra banana bananas computed
+worked : T (every cases)
+unfolding every cases right same sameTable sameRoll sameOutcome sameTotal yes abracadabra abra packedAbra banana bananas computed
 worked = tt

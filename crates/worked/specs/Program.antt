@@ -1,27 +1,22 @@
--- The paper's example and two small inputs, computed over the definitions: rows of one table under one claim.
+-- The paper's example and two small inputs, computed over the definitions: cases of one table under one claim.
 -- Assumes nothing.
-use mathlib.Core.Bool.{Bool, true, false, _&&_}
+use mathlib.Core.Bool.{Bool, true, _&&_}
 use mathlib.Core.List.{List, [], _∷_}
 use Prim.Native.Nat.{ℕ}
-use lib.Dec.{T, eqb}
+use lib.Dec.{T}
 use Rattle.writing.specs.Paper.Written.{decimalIn, decimal, hexFrom, numberLines}
 use Rattle.report.specs.Paper.Report.{givenPattern, givenText, bestWord, symbolsWord, hitsWord, refusedWord, bestLine, hitsLine, refusedLine, linesOf, reportOf}
-use Rattle.worked.specs.Cases as cases
-
-same : List ℕ → List ℕ → Bool
-same [] [] = true
-same [] (y ∷ ys) = false
-same (x ∷ xs) [] = false
-same (x ∷ xs) (y ∷ ys) = eqb x y && same xs ys
+use Rattle.worked.specs.Cases.{same}
+use Rattle.worked.specs.Cases as paper
 
 -- an input and the whole output
-record Row : Type 0 where
+record Case : Type 0 where
   input : List ℕ
   output : List ℕ
 
-every : List Row → Bool
+every : List Case → Bool
 every [] = true
-every (r ∷ rows) = same (reportOf (r .input)) (r .output) && every rows
+every (c ∷ cases) = same (reportOf (c .input)) (c .output) && every cases
 
 -- abra, byte 10, abracadabra
 unfoldable pub example : List ℕ
@@ -31,8 +26,8 @@ example = 97 ∷ 98 ∷ 114 ∷ 97 ∷ 10 ∷ 97 ∷ 98 ∷ 114 ∷ 97 ∷ 99 �
 unfoldable pub exampleLines : List ℕ
 exampleLines = 98 ∷ 101 ∷ 115 ∷ 116 ∷ 32 ∷ 51 ∷ 32 ∷ 115 ∷ 121 ∷ 109 ∷ 98 ∷ 111 ∷ 108 ∷ 115 ∷ 32 ∷ 49 ∷ 51 ∷ 10 ∷ 49 ∷ 56 ∷ 99 ∷ 51 ∷ 52 ∷ 54 ∷ 48 ∷ 48 ∷ 10 ∷ 48 ∷ 10 ∷ 55 ∷ 10 ∷ 104 ∷ 105 ∷ 116 ∷ 115 ∷ 32 ∷ 50 ∷ 10 ∷ []
 
-rows : List Row
-rows =
+cases : List Case
+cases =
     -- the paper's example
     record { input = example; output = exampleLines }
     -- no input
@@ -43,9 +38,9 @@ rows =
 
 -- all that the cases compute with, named once
 unfoldable pub computed : Unit {0}
-unfolding cases.computed givenPattern givenText decimalIn decimal hexFrom numberLines bestWord symbolsWord hitsWord refusedWord bestLine hitsLine refusedLine linesOf reportOf
+unfolding paper.computed givenPattern givenText decimalIn decimal hexFrom numberLines bestWord symbolsWord hitsWord refusedWord bestLine hitsLine refusedLine linesOf reportOf
 computed = tt
 
-worked : T (every rows)
-unfolding every rows example exampleLines same computed
+worked : T (every cases)
+unfolding every cases example exampleLines same computed
 worked = tt

@@ -1,7 +1,6 @@
 -- `cabi::monterculo_check` meets its contract.
 -- Assumes nothing.
 use borrow.Author.Needs.{needs}
-use Rattle.cabi.specs.Laws.Taken.{told-done}
 use Rattle.cabi.proofs.monterculo_check.Statement.{statement}
 use Rattle.cabi.proofs.monterculo_check.Tie as tie
 
@@ -9,7 +8,7 @@ returns : tie.Need-returns
 returns c =
     let w = c .before .before in
     let p = rw (w .before .roll-of .ensures) at (w .check .ensures) in
-    told-done _ (w .check .result) 0 (p .says) (c .told .ensures .0) (c .told .ensures .1)
+    rw (← p .says) (c .told .ensures)
 
 pub monterculo-check-spec : {M : Type 1} → statement M
 monterculo-check-spec = tie.close (tie.spec (λ c κs. search needs) (λ c κs. search needs) (λ c κs. search needs) returns)

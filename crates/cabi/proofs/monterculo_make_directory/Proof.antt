@@ -1,7 +1,6 @@
 -- `cabi::monterculo_make_directory` meets its contract.
 -- Assumes nothing.
 use borrow.Author.Needs.{needs}
-use Rattle.cabi.specs.Laws.Taken.{told-done}
 use Rattle.cabi.proofs.monterculo_make_directory.Statement.{statement}
 use Rattle.cabi.proofs.monterculo_make_directory.Tie as tie
 
@@ -9,7 +8,7 @@ returns : tie.Need-returns
 returns c =
     let w = c .before .before .before .before in
     let p = rw (w .before .before .roll-of .ensures) at (w .make-directory .ensures) in
-    (told-done _ (w .make-directory .result) 0 (p .says) (c .told .ensures .0) (c .told .ensures .1), p .leaves)
+    (rw (← p .says) (c .told .ensures), p .leaves)
 
 pub monterculo-make-directory-spec : {M : Type 1} → statement M
 monterculo-make-directory-spec =

@@ -11,13 +11,13 @@ returns : tie.Need-returns
 returns c =
     let w = c .before .before .before .before .before in
     let p = rw (w .before .before .roll-of .ensures) at (w .search .ensures) in
-    (told-answered _ _ (sym (p .says) ∙ ap totalSays (c .before .answer .given .1)), p .leaves)
+    (told-answered (sym (p .says) ∙ ap totalSays (c .before .answer .given .1)), p .leaves)
 
 returns-2 : tie.Need-returns-2
 returns-2 c =
     let w = c .before .before .before .before .before in
     let p = rw (w .before .before .roll-of .ensures) at (w .search .ensures) in
-    (told-refused _ _ (sym (p .says) ∙ ap totalSays (c .before .answer2 .given .1)), p .leaves)
+    (told-refused (sym (p .says) ∙ ap totalSays (c .before .answer2 .given .1)), p .leaves)
 
 pub monterculo-search-spec : {M : Type 1} → statement M
 monterculo-search-spec =

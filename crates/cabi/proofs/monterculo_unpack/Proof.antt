@@ -1,7 +1,6 @@
 -- `cabi::monterculo_unpack` meets its contract.
 -- Assumes nothing.
 use borrow.Author.Needs.{needs}
-use Rattle.cabi.specs.Laws.Taken.{told-done}
 use Rattle.cabi.proofs.monterculo_unpack.Statement.{statement}
 use Rattle.cabi.proofs.monterculo_unpack.Tie as tie
 
@@ -9,7 +8,7 @@ returns : tie.Need-returns
 returns c =
     let w = c .before .before .before .before in
     let p = rw (w .before .before .roll-of .ensures) at (w .unpack .ensures) in
-    (told-done _ (w .unpack .result) 0 (p .says) (c .told .ensures .0) (c .told .ensures .1), p .leaves)
+    (rw (← p .says) (c .told .ensures), p .leaves)
 
 pub monterculo-unpack-spec : {M : Type 1} → statement M
 monterculo-unpack-spec =

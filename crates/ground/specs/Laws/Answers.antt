@@ -1,8 +1,9 @@
 -- An answer is what it says: two that say the same are equal.
 -- Assumes nothing.
-use mathlib.Core.Path.{_≡_, refl}
+use mathlib.Core.Path.{_≡_, refl, sym, ap, _∙_}
 use Prim.Native.Nat.{ℕ}
 use native.Mathlib.Omega.{arith}
+use Rattle.ground.specs.Paper.Refusals.{Outcome}
 use Rattle.ground.specs.Paper.Answers.{doneSays, answerSays, totalSays}
 use Rattle.ground.specs.declared.answers.Done.{Done}
 use Rattle.ground.specs.declared.answers.Done.the-variants.{Yes, Refused}
@@ -10,6 +11,10 @@ use Rattle.ground.specs.declared.answers.Answer.{Answer}
 use Rattle.ground.specs.declared.answers.Answer.the-variants.{Read, Refused as answer-refused}
 use Rattle.ground.specs.declared.answers.Total.{Total}
 use Rattle.ground.specs.declared.answers.Total.the-variants.{Of, Refused as total-refused}
+
+-- what the rows say of an answer that is known
+pub says-as : {a b : Done} {o : Outcome (Unit {0})} → doneSays a ≡ o → a ≡ b → o ≡ doneSays b
+says-as p e = sym p ∙ ap doneSays e
 
 pub done-one : (a b : Done) → doneSays a ≡ doneSays b → a ≡ b
 done-one Yes Yes e = refl

@@ -5,6 +5,7 @@ use mathlib.Core.Bool.{Bool, cond}
 use mathlib.Core.List.{List, [], _∷_}
 use Prim.Native.Nat.{ℕ}
 
+infixr 20 _then_
 pub record Row : Type 0 where
   pub applies : Bool
   pub number : ℕ
@@ -22,7 +23,12 @@ abbrev pub judged : {A : Type 0} → List Row → A → Outcome A
 judged [] answer = accepted answer
 judged (r ∷ rows) answer = cond (r .applies) (refused (r .number) (r .value)) (judged rows answer)
 
--- what is lent, or stands beside the answer: `before` if some row applies, else `after`
-abbrev pub kept : {A : Type 0} → List Row → A → A → A
-kept [] before after = after
-kept (r ∷ rows) before after = cond (r .applies) before (kept rows before after)
+-- refused as the first is, or else what the second says
+abbrev pub _then_ : {A B : Type 0} → Outcome A → Outcome B → Outcome B
+accepted answer then next = next
+refused number value then next = refused number value
+
+-- what is lent, or stands beside the answer: `before` if the work is refused, else `after`
+abbrev pub kept : {A B : Type 0} → Outcome A → B → B → B
+kept (accepted answer) before after = after
+kept (refused number value) before after = before

@@ -4,10 +4,7 @@ use mathlib.Core.Bool.{cond}
 use mathlib.Core.List.{List}
 use Prim.Native.Nat.{ℕ, _+_}
 use lib.Dec.{ltb}
-use Rattle.ground.specs.Paper.Refusals.{judged}
-use Rattle.ground.specs.Paper.Rows.{zeros}
-use Rattle.roll.specs.Paper.Operations.{packRows}
-use Rattle.report.specs.Paper.Report.{answered, linesFor, ownTable}
+use Rattle.report.specs.Paper.Report.{answered, packedSays}
 
 -- where the text starts, behind a line that ends at `end`
 unfoldable pub startOfText : ℕ → ℕ → ℕ
@@ -15,4 +12,4 @@ startOfText end long = cond (ltb end long) (end + 1) end
 
 -- the answer to a good pattern and a text of at most 16,384 bytes
 unfoldable pub answerFor : List ℕ → List ℕ → List ℕ
-answerFor pattern text = answered (judged (packRows (ownTable text) text (zeros 16384)) (linesFor pattern text))
+answerFor pattern text = answered (packedSays pattern text)

@@ -2,23 +2,23 @@
 -- Assumes nothing.
 use mathlib.Core.Path.{_≡_, ap, _∙_}
 use mathlib.Core.Bool.{true, false}
-use mathlib.Core.List.{List, [], _++_}
+use mathlib.Core.List.{List, _++_}
 use Prim.Native.Nat.{ℕ, _≤_, _<_}
 use native.Mathlib.Omega.{arith}
 use borrow.Author.Tests.{lt-ltb, le-ltb}
 use lib.ListN.{length, drop, length-append}
-use Rattle.ground.specs.Paper.Refusals.{Row, accepted, refused, judged}
+use Rattle.ground.specs.Paper.Refusals.{Outcome, refused}
 use Rattle.ground.specs.Paper.Rows.{zeros}
-use Rattle.ground.specs.Laws.Refusals.{refused-front, accepted-front}
+use Rattle.ground.specs.Laws.Refusals.{Accepted}
 use Rattle.texts.specs.Paper.Hits.{goodPattern}
-use Rattle.roll.specs.Paper.Operations.{packRows}
-use Rattle.report.specs.Paper.Report.{givenPattern, givenText, refusedLine, ownTable, reportLines, answered, reportOf}
+use Rattle.roll.specs.Paper.Operations.{packSays}
+use Rattle.report.specs.Paper.Report.{givenPattern, givenText, refusedLine, ownTable, linesFor, reportOf}
 use Rattle.report.specs.Helpers.Answers.{answerFor}
 
 module _ (input : List ℕ) where
-  -- the refusals of packing the text
-  abbrev pub ownRows : List Row
-  ownRows = packRows (ownTable (givenText input)) (givenText input) (zeros 16384)
+  -- what packing the text says
+  abbrev pub ownSays : Outcome (Unit {0})
+  ownSays = packSays (ownTable (givenText input)) (givenText input) (zeros 16384)
 
   pub report-11 : goodPattern (givenPattern input) ≡ false → reportOf input ≡ refusedLine 11 0
   unfolding reportOf
@@ -31,19 +31,17 @@ module _ (input : List ℕ) where
 
     module _ (h : length (givenText input) ≤ 16384) where
       -- packing decides
-      packing : reportOf input ≡ answered (judged ownRows (reportLines input))
-      unfolding reportOf
-      packing = rw (g, le-ltb 16384 (length (givenText input)) h)
-
       pub report-answer : reportOf input ≡ answerFor (givenPattern input) (givenText input)
+      unfolding reportOf answerFor
+      report-answer = rw (g, le-ltb 16384 (length (givenText input)) h)
+
+      pub report-pack : {n v : ℕ} → ownSays ≡ refused n v → reportOf input ≡ refusedLine n v
       unfolding answerFor
-      report-answer = packing
+      report-pack e = report-answer ∙ rw e
 
-      pub report-pack : {n v : ℕ} → judged ownRows (tt {0}) ≡ refused n v → reportOf input ≡ refusedLine n v
-      report-pack e = packing ∙ ap answered (refused-front ownRows [] (tt {0}) (reportLines input) e)
-
-      pub report-yes : judged ownRows (tt {0}) ≡ accepted tt → reportOf input ≡ reportLines input
-      report-yes e = packing ∙ ap answered (accepted-front ownRows [] (tt {0}) (reportLines input) e)
+      pub report-yes : Accepted ownSays → reportOf input ≡ linesFor (givenPattern input) (givenText input)
+      unfolding answerFor
+      report-yes e = report-answer ∙ rw e
 
 -- an answer that was written lies in the array
 pub written-within : (answer old : List ℕ) {out : List ℕ} {r : ℕ} → r ≡ length answer → out ≡ answer ++ drop (length answer) old → r ≤ length out

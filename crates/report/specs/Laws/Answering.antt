@@ -2,30 +2,27 @@
 -- Assumes nothing.
 use mathlib.Core.Path.{_≡_, refl, sym, ap, _∙_}
 use mathlib.Core.Logic.{inl}
-use mathlib.Core.List.{List, [], _++_}
+use mathlib.Core.List.{List, _++_}
 use Prim.Native.Nat.{ℕ, _≤_}
 use native.Mathlib.Omega.{arith}
-use borrow.Author.Tests.{le-ltb, eq-eqb}
 use lib.Dec.{T}
 use lib.ListN.{length, take, drop, length-append}
 use lib.Seq.{take-at, take-all}
-use Rattle.ground.specs.Paper.Limit.{limit}
-use Rattle.ground.specs.Paper.Refusals.{Row, refused, judged, kept}
+use Rattle.ground.specs.Paper.Refusals.{refused}
 use Rattle.ground.specs.Paper.Rows.{zeros}
-use Rattle.ground.specs.Paper.Answers.{doneSays}
 use Rattle.ground.specs.Helpers.Below.{Below}
-use Rattle.ground.specs.Laws.Answers.{total-one}
+use Rattle.ground.specs.Laws.Answers.{says-as, total-one}
 use Rattle.ground.specs.Laws.Limit.{limit-least}
-use Rattle.ground.specs.Laws.Refusals.{Accepted, accepted-leaves, refused-front, accepted-front}
+use Rattle.ground.specs.Laws.Refusals.{Accepted, accepted-leaves}
 use Rattle.ground.specs.Laws.Rows.{length-tab, length-zeros, below-from}
-use Rattle.ground.specs.Laws.Tests.{yes-true}
 use Rattle.ground.specs.declared.answers.Done.{Done}
 use Rattle.ground.specs.declared.answers.Done.the-variants.{Yes}
 use Rattle.ground.specs.declared.answers.Total.{Total}
 use Rattle.ground.specs.declared.answers.Total.the-variants.{Of}
 use Rattle.stopper.specs.Paper.Table.{goodWidth}
-use Rattle.stopper.specs.Paper.Choosing.{countsOf, counted, chosenTable, chosen}
-use Rattle.stopper.specs.Paper.Operations.{countRows, Counting, chooseRows, noTable, Choosing}
+use Rattle.stopper.specs.Paper.Choosing.{countsOf, chosenTable, chosen}
+use Rattle.stopper.specs.Paper.Operations.{Counting, chooseTable, Choosing}
+use Rattle.stopper.specs.Laws.Accepting.{counts-is, chooses-is}
 use Rattle.stopper.specs.declared.table.Table.{Table}
 use Rattle.stopper.specs.declared.choose.Choice.{Choice}
 use Rattle.symbols.specs.Paper.Symbols.{Width, bytesFor, bytesOf}
@@ -35,22 +32,20 @@ use Rattle.texts.specs.Paper.Hits.{hits, goodPattern, listed}
 use Rattle.texts.specs.Laws.Hits.{hit-is, hits-length}
 use Rattle.sound.specs.Paper.Roll.{symbolsFor, recordOf, textOf, Sound}
 use Rattle.sound.specs.declared.records.Roll.{Roll}
-use Rattle.roll.specs.Paper.Operations.{packRows, Packing, Searching}
+use Rattle.roll.specs.Paper.Operations.{packSays, Packing, Searching}
 use Rattle.roll.specs.Laws.Accepting.{accepted-packs}
 use Rattle.roll.specs.Laws.Meaning.{packing-sound}
 use Rattle.roll.specs.Laws.Operations.{search-yes}
 use Rattle.roll.specs.declared.pack.Packed.{Packed}
 use Rattle.writing.specs.Laws.Written.{decimal-most, hex-length, numbers-few}
-use Rattle.report.specs.Paper.Report.{bestWord, symbolsWord, hitsWord, bestLine, hitsLine, refusedLine, linesOf, ownTable, linesFor, answered}
+use Rattle.report.specs.Paper.Report.{bestWord, symbolsWord, hitsWord, bestLine, hitsLine, refusedLine, linesOf, ownTable, linesFor}
 use Rattle.report.specs.Helpers.Answers.{answerFor}
 
 module _ (text : List ℕ) (short : length text ≤ 16384) where
   -- the counts are the text's
   pub counts-are : {a : Done} {counts after : List ℕ} → length counts ≡ 256 → Counting text counts a after → after ≡ countsOf text
   counts-are {a} {counts} {after} e c =
-      c .leaves
-      ∙ accepted-leaves (countRows text counts) (tt {0}) counts (countsOf text)
-      (simp (eq-eqb (length counts) 256 e, le-ltb limit (length text) (omega (arith, limit-least))))
+      c .leaves ∙ accepted-leaves (counts-is text counts .0 (e, omega (arith, limit-least))) _ _
 
   counts-length : length (countsOf text) ≡ 256
   unfolding countsOf
@@ -60,21 +55,16 @@ module _ (text : List ℕ) (short : length text ≤ 16384) where
   pub table-is : {counts : List ℕ} {r : Choice} → counts ≡ countsOf text → Choosing 2 counts r → r .table ≡ ownTable text
   unfolding goodWidth
   table-is {counts} {r} e c =
-      c .table
-      ∙ ap (λ (l : List ℕ). kept (chooseRows 2 l) (noTable 2) (chosenTable 2 (counted l))) e
-      ∙ accepted-leaves (chooseRows 2 (countsOf text)) (tt {0}) (noTable 2) (ownTable text) (simp (eq-eqb (length (countsOf text)) 256 counts-length))
+      c .table ∙ ap (chooseTable 2) e ∙ accepted-leaves (chooses-is 2 (countsOf text) .0 (tt, counts-length)) _ _
 
 module _ (pattern text : List ℕ) where
-  abbrev rows : List Row
-  rows = packRows (ownTable text) text (zeros 16384)
-
-  pub answer-refused : {n v : ℕ} → judged rows (tt {0}) ≡ refused n v → answerFor pattern text ≡ refusedLine n v
+  pub answer-refused : {n v : ℕ} → packSays (ownTable text) text (zeros 16384) ≡ refused n v → answerFor pattern text ≡ refusedLine n v
   unfolding answerFor
-  answer-refused e = ap answered (refused-front rows [] (tt {0}) (linesFor pattern text) e)
+  answer-refused e = rw e
 
-  pub answer-yes : Accepted rows → answerFor pattern text ≡ linesFor pattern text
+  pub answer-yes : Accepted (packSays (ownTable text) text (zeros 16384)) → answerFor pattern text ≡ linesFor pattern text
   unfolding answerFor
-  answer-yes e = ap answered (accepted-front rows [] (tt {0}) (linesFor pattern text) e)
+  answer-yes e = rw e
 
 -- ---- packed: the bytes, and what a search of them finds
 
@@ -86,8 +76,8 @@ module _ (pattern text : List ℕ) (short : length text ≤ 16384) (good : T (go
   abbrev found : List ℕ
   found = hits pattern text
 
-  accept : Accepted (packRows t text (zeros 16384))
-  accept = sym (k .says) ∙ ap doneSays y
+  accept : Accepted (packSays t text (zeros 16384))
+  accept = says-as (k .says) y
 
   pub lines-are : answerFor pattern text ≡ linesFor pattern text
   lines-are = answer-yes pattern text accept
@@ -110,7 +100,7 @@ module _ (pattern text : List ℕ) (short : length text ≤ 16384) (good : T (go
   pub bytes-are : take (bytesFor 2 (p .roll .h)) after ≡ bytesOf 2 (symbolsFor t text)
   unfolding chosenTable chosen
   bytes-are =
-      ap (take (bytesFor 2 (p .roll .h))) (k .leaves ∙ accepted-leaves (packRows t text (zeros 16384)) (tt {0}) _ _ accept)
+      ap (take (bytesFor 2 (p .roll .h))) (k .leaves ∙ accepted-leaves accept _ _)
       ∙ take-at (bytesOf 2 (symbolsFor t text)) (drop (bytesFor 2 (length (symbolsFor t text))) (zeros 16384)) (bytesFor 2 (p .roll .h)) size
 
   pub bytes-few : bytesFor 2 (p .roll .h) ≤ 16384
@@ -130,7 +120,7 @@ module _ (pattern text : List ℕ) (short : length text ≤ 16384) (good : T (go
     searched : Searching (p .roll) after pattern slice (Of (length found)) (listed found slice)
     searched =
         let e : found ≡ hits pattern (textOf (p .roll) after) = ap (hits pattern) (sym text-is) in
-        search-yes (p .roll) after pattern slice sound (yes-true (goodPattern pattern) good) (ap length e) (ap (λ (l : List ℕ). listed l slice) e)
+        search-yes sound good (ap length e) (ap (λ (l : List ℕ). listed l slice) e)
 
     pub total-is : a ≡ Of (length found)
     total-is = total-one a (Of (length found)) (s .says ∙ sym (searched .says))

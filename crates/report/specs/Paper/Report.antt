@@ -5,14 +5,14 @@ use mathlib.Core.List.{List, [], _∷_, _++_}
 use Prim.Native.Nat.{ℕ}
 use lib.Dec.{ltb, eqb}
 use lib.ListN.{length}
-use Rattle.ground.specs.Paper.Refusals.{Row, Outcome, accepted, refused, refuse, judged}
+use Rattle.ground.specs.Paper.Refusals.{Row, Outcome, accepted, refused, refuse, judged, _then_}
 use Rattle.ground.specs.Paper.Rows.{zeros}
 use Rattle.stopper.specs.Paper.Choosing.{countsOf, counted, chosenTable}
 use Rattle.stopper.specs.declared.table.Table.{Table}
 use Rattle.symbols.specs.Paper.Symbols.{bytesOf}
 use Rattle.texts.specs.Paper.Hits.{hits, goodPattern}
 use Rattle.sound.specs.Paper.Roll.{symbolsFor, recordOf}
-use Rattle.roll.specs.Paper.Operations.{packRows}
+use Rattle.roll.specs.Paper.Operations.{packSays}
 use Rattle.writing.specs.Paper.Written.{numberLines, hexLines, decimal}
 
 -- ---- what came in
@@ -66,27 +66,27 @@ linesOf s h bytes found = bestLine s h ++ (hexLines bytes ++ (numberLines found 
 abbrev pub ownTable : List ℕ → Table
 ownTable text = chosenTable 2 (counted (countsOf text))
 
--- 11 first, then a text over 16,384 bytes, then packing's, into 16,384 bytes
+-- 11 first, then a text over 16,384 bytes
 abbrev pub reportRows : List ℕ → List Row
 reportRows input =
-    let text : List ℕ = givenText input in
     refuse 11 0 (not (goodPattern (givenPattern input)))
-    ∷ refuse 4 16384 (ltb 16384 (length text))
-    ∷ packRows (ownTable text) text (zeros 16384)
+    ∷ refuse 4 16384 (ltb 16384 (length (givenText input)))
+    ∷ []
 
 abbrev pub linesFor : List ℕ → List ℕ → List ℕ
 linesFor pattern text =
     let t : Table = ownTable text in
     linesOf (t .code .s) (recordOf t text .h) (bytesOf 2 (symbolsFor t text)) (hits pattern text)
 
-abbrev pub reportLines : List ℕ → List ℕ
-reportLines input = linesFor (givenPattern input) (givenText input)
+-- packing's refusals, into 16,384 bytes, then the lines
+abbrev pub packedSays : List ℕ → List ℕ → Outcome (List ℕ)
+packedSays pattern text = packSays (ownTable text) text (zeros 16384) then accepted (linesFor pattern text)
 
 abbrev pub answered : Outcome (List ℕ) → List ℕ
 answered (accepted lines) = lines
 answered (refused number value) = refusedLine number value
 
 unfoldable pub reportOf : List ℕ → List ℕ
-reportOf input = answered (judged (reportRows input) (reportLines input))
+reportOf input = answered (judged (reportRows input) (tt {0}) then packedSays (givenPattern input) (givenText input))
 
 -- ---- what helpers answer

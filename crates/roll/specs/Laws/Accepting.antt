@@ -3,22 +3,23 @@
 use mathlib.Core.Path.{_≡_, refl, sym}
 use mathlib.Core.Logic.{_↔_}
 use mathlib.Core.Bool.{Bool, true, false, _||_}
-use mathlib.Core.List.{List, [], _∷_}
-use Prim.Native.Nat.{ℕ, _-_, _≤_}
+use mathlib.Core.List.{List}
+use Prim.Native.Nat.{ℕ, _-_, _≤_, _<_, _/_, _%_}
 use native.Mathlib.Nat.{le-of-eq}
 use native.Mathlib.Omega.{arith}
-use borrow.Author.Tests.{le-ltb, ltb-false, eq-eqb, eqb-true, not-false}
-use lib.Dec.{T, ltb, eqb}
-use lib.ListN.{length}
+use borrow.Author.Tests.{le-ltb, lt-leb, ltb-false, leb-false, eq-eqb, eqb-true, not-false}
+use lib.Dec.{T, ltb, leb, eqb}
+use lib.ListN.{length, getD}
 use Rattle.ground.specs.Paper.Rows.{allZero}
-use Rattle.ground.specs.Paper.Refusals.{Row, refuse}
-use Rattle.ground.specs.Laws.Refusals.{Accepted, accepted-none, accepted-both, accepted-parts}
+use Rattle.ground.specs.Paper.Refusals.{accepted}
+use Rattle.ground.specs.Laws.Refusals.{Accepted, accepted-none, accepted-parts}
 use Rattle.ground.specs.Laws.Tests.{yes-true, true-yes}
 use Rattle.stopper.specs.Paper.Table.{goodTable, characters}
 use Rattle.stopper.specs.declared.table.Table.{Table}
 use Rattle.symbols.specs.Paper.Symbols.{room}
 use Rattle.texts.specs.Paper.Characters.{firstForeign}
 use Rattle.texts.specs.Paper.Directory.{entries, directoryOf, firstWrong}
+use Rattle.texts.specs.Paper.Hits.{hits, goodPattern}
 use Rattle.texts.specs.Paper.Edited.{edited}
 use Rattle.texts.specs.Laws.Directory.{wrong-within}
 use Rattle.texts.specs.Laws.Characters.{InTable, known-foreign, foreign-known, foreign-within}
@@ -29,7 +30,7 @@ use Rattle.sound.specs.declared.records.Roll.{Roll}
 use Rattle.store.specs.Paper.Fitting.{firstOver}
 use Rattle.store.specs.Laws.Edited.{Edits}
 use Rattle.store.specs.Laws.Fitting.{over-all, over-within}
-use Rattle.roll.specs.Paper.Operations.{packRows, checkRows, unpackRows, directoryRows, changeRows, editRows}
+use Rattle.roll.specs.Paper.Operations.{packRows, packSays, checkRows, checkSays, unpackRows, unpackSays, makeRows, makeSays, fromEntry, readRows, oneRead, readSays, searchRows, searchSays, directoryRows, directorySays, editRows, editSays}
 
 neither : (a b : Bool) → (a || b) ≡ false → (a ≡ false) × (b ≡ false)
 neither true b e = let z : _≡_ {A = ℕ} 0 1 = cc in absurd (omega arith)
@@ -37,30 +38,31 @@ neither false b e = (refl, e)
 
 -- ---- check: the roll is sound
 
-module _ (r : Roll) (buf : List ℕ) where
-  pub sound-accepted : Sound r buf → Accepted (checkRows r buf)
-  sound-accepted s =
-      simp (
-        yes-true (goodTable (r .table)) (s .table),
-        le-ltb _ _ (s .fits),
-        s .reads,
-        eq-eqb _ _ (s .count),
-        yes-true (allZero (unusedOf r buf)) (s .unused),
-      )
+pub sound-accepted : {r : Roll} {buf : List ℕ} → Sound r buf → Accepted (checkSays r buf)
+unfolding checkSays
+sound-accepted {r} {buf} s =
+    simp (
+      yes-true (goodTable (r .table)) (s .table),
+      le-ltb _ _ (s .fits),
+      s .reads,
+      eq-eqb _ _ (s .count),
+      yes-true (allZero (unusedOf r buf)) (s .unused),
+    )
 
-  pub accepted-sound : Accepted (checkRows r buf) → Sound r buf
-  accepted-sound e =
-      let (a, (b, (c, (d, (f, z))))) = accepted-none (checkRows r buf) e in
-      record {
-        table = true-yes _ (not-false (goodTable (r .table)) a);
-        fits = ltb-false _ _ b;
-        reads = c;
-        count = eqb-true _ _ (not-false (eqb (length (ranksRead (reading r buf))) (r .n)) d);
-        unused = true-yes _ (not-false (allZero (unusedOf r buf)) f);
-      }
+pub accepted-sound : (r : Roll) (buf : List ℕ) → Accepted (checkSays r buf) → Sound r buf
+unfolding checkSays
+accepted-sound r buf e =
+    let (a, (b, (c, (d, (f, z))))) = accepted-none (checkRows r buf) tt e in
+    record {
+      table = true-yes _ (not-false (goodTable (r .table)) a);
+      fits = ltb-false _ _ b;
+      reads = c;
+      count = eqb-true _ _ (not-false (eqb (length (ranksRead (reading r buf))) (r .n)) d);
+      unused = true-yes _ (not-false (allZero (unusedOf r buf)) f);
+    }
 
-  pub sound-is : Sound r buf ↔ Accepted (checkRows r buf)
-  sound-is = (sound-accepted, accepted-sound)
+pub sound-is : (r : Roll) (buf : List ℕ) → Sound r buf ↔ Accepted (checkSays r buf)
+sound-is r buf = (sound-accepted, accepted-sound r buf)
 
 -- ---- pack: the table is good, the text is in it and its symbols fit
 
@@ -73,7 +75,8 @@ module _ (t : Table) (text buf : List ℕ) where
   abbrev space : ℕ
   space = room (t .code .k) (length buf)
 
-  pub packs-accepted : Packs t text buf → Accepted (packRows t text buf)
+  pub packs-accepted : Packs t text buf → Accepted (packSays t text buf)
+  unfolding packSays
   packs-accepted p =
       simp (
         yes-true (goodTable t) (p .good),
@@ -81,9 +84,10 @@ module _ (t : Table) (text buf : List ℕ) where
         le-ltb _ _ (le-of-eq (sym (over-all (t .code) (characters t) space text .1 (p .fits)))),
       )
 
-  pub accepted-packs : Accepted (packRows t text buf) → Packs t text buf
+  pub accepted-packs : Accepted (packSays t text buf) → Packs t text buf
+  unfolding packSays
   accepted-packs e =
-      let (a, (b, (c, z))) = accepted-none (packRows t text buf) e in
+      let (a, (b, (c, z))) = accepted-none (packRows t text buf) tt e in
       let foreign : length text ≤ firstForeign (characters t) text = ltb-false _ _ b in
       let over : length text ≤ firstOver (t .code) (characters t) space text = ltb-false _ _ c in
       record {
@@ -92,7 +96,7 @@ module _ (t : Table) (text buf : List ℕ) where
         fits = over-all (t .code) (characters t) space text .0 (omega (arith, over-within (t .code) (characters t) space text));
       }
 
-  pub packs-is : Packs t text buf ↔ Accepted (packRows t text buf)
+  pub packs-is : Packs t text buf ↔ Accepted (packSays t text buf)
   packs-is = (packs-accepted, accepted-packs)
 
 -- ---- unpack: the roll is sound, the range lies in it and its text fits
@@ -104,18 +108,15 @@ pub record Unpacks (r : Roll) (buf : List ℕ) (start end : ℕ) (out : List ℕ
   pub fits : end - start ≤ length out
 
 module _ (r : Roll) (buf : List ℕ) (start end : ℕ) (out : List ℕ) where
-  abbrev rangeRows : List Row
-  rangeRows = refuse 10 0 (ltb end start || ltb (r .n) end) ∷ refuse 13 (end - start) (ltb (length out) (end - start)) ∷ []
+  pub unpacks-accepted : Unpacks r buf start end out → Accepted (unpackSays r buf start end out)
+  unfolding unpackSays
+  unpacks-accepted u = rw (sound-accepted (u .sound), le-ltb _ _ (u .ordered), le-ltb _ _ (u .inside), le-ltb _ _ (u .fits))
 
-  pub unpacks-accepted : Unpacks r buf start end out → Accepted (unpackRows r buf start end out)
-  unpacks-accepted u =
-      accepted-both (checkRows r buf) rangeRows (sound-accepted r buf (u .sound))
-      (simp (le-ltb _ _ (u .ordered), le-ltb _ _ (u .inside), le-ltb _ _ (u .fits)))
-
-  pub accepted-unpacks : Accepted (unpackRows r buf start end out) → Unpacks r buf start end out
+  pub accepted-unpacks : Accepted (unpackSays r buf start end out) → Unpacks r buf start end out
+  unfolding unpackSays
   accepted-unpacks e =
-      let (a, b) = accepted-parts (checkRows r buf) rangeRows e in
-      let (c, (d, z)) = accepted-none rangeRows b in
+      let (a, b) = accepted-parts (checkSays r buf) e in
+      let (c, (d, z)) = accepted-none (unpackRows r start end out) tt b in
       let f = neither (ltb end start) (ltb (r .n) end) c in
       record {
         sound = accepted-sound r buf a;
@@ -124,8 +125,56 @@ module _ (r : Roll) (buf : List ℕ) (start end : ℕ) (out : List ℕ) where
         fits = ltb-false _ _ d;
       }
 
-  pub unpacks-is : Unpacks r buf start end out ↔ Accepted (unpackRows r buf start end out)
+  pub unpacks-is : Unpacks r buf start end out ↔ Accepted (unpackSays r buf start end out)
   unpacks-is = (unpacks-accepted, accepted-unpacks)
+
+-- ---- make a directory: the roll is sound, and its entries fit
+
+pub makes-is : (r : Roll) (buf dir : List ℕ) → (Sound r buf × (entries (r .n) ≤ length dir)) ↔ Accepted (makeSays r buf dir)
+unfolding makeSays
+makes-is r buf dir = (
+  λ p. rw (sound-accepted (p .0), le-ltb _ _ (p .1)),
+  λ e. let (a, b) = accepted-parts (checkSays r buf) e in (accepted-sound r buf a, ltb-false _ _ (accepted-none (makeRows r dir) tt b .0)),
+)
+
+-- ---- read one: the table is good, h is within the room, the place is below n, its entry is there and below h, and reading from it reaches the place
+
+pub record ReadsOne (r : Roll) (buf dir : List ℕ) (place : ℕ) : Type 0 where
+  pub good : T (goodTable (r .table))
+  pub fits : r .h ≤ room (r .table .code .k) (length buf)
+  pub inside : place < r .n
+  pub held : place / 32 < length dir
+  pub below : getD dir (place / 32) 0 < r .h
+  pub reached : place % 32 < length (ranksRead (fromEntry r buf dir place))
+
+pub reads-is : (r : Roll) (buf dir : List ℕ) (place : ℕ) → ReadsOne r buf dir place ↔ (readSays r buf dir place ≡ accepted (oneRead r buf dir place))
+unfolding readSays
+reads-is r buf dir place = (
+  λ p. rw (yes-true (goodTable (r .table)) (p .good), le-ltb _ _ (p .fits), lt-leb _ _ (p .inside), lt-leb _ _ (p .held), lt-leb _ _ (p .below), lt-leb _ _ (p .reached)),
+  λ e.
+      let (a, (b, (c, (d, (f, z))))) = accepted-none (readRows r buf dir place) (oneRead r buf dir place) e in
+      let g = neither (leb (length dir) (place / 32)) (leb (r .h) (getD dir (place / 32) 0)) d in
+      record {
+        good = true-yes _ (not-false (goodTable (r .table)) a);
+        fits = ltb-false _ _ b;
+        inside = leb-false _ _ c;
+        held = leb-false _ _ (g .0);
+        below = leb-false _ _ (g .1);
+        reached = leb-false _ _ f;
+      },
+)
+
+-- ---- search: the roll is sound, and the pattern good
+
+pub searches-is : (r : Roll) (buf pattern : List ℕ)
+    → (Sound r buf × T (goodPattern pattern)) ↔ (searchSays r buf pattern ≡ accepted (length (hits pattern (textOf r buf))))
+unfolding searchSays
+searches-is r buf pattern = (
+  λ p. rw (sound-accepted (p .0), yes-true (goodPattern pattern) (p .1)),
+  λ e.
+      let (a, b) = accepted-parts (checkSays r buf) e in
+      (accepted-sound r buf a, true-yes _ (not-false (goodPattern pattern) (accepted-none (searchRows pattern) (length (hits pattern (textOf r buf))) b .0))),
+)
 
 -- ---- edit: the roll is sound and its directory right, the range lies in it, the text put in is in the table, and the edited text fits
 
@@ -133,18 +182,16 @@ module _ (r : Roll) (buf dir : List ℕ) where
   abbrev wrong : ℕ
   wrong = firstWrong (directoryOf (lengthsOf r buf)) dir
 
-  abbrev wrongRows : List Row
-  wrongRows = refuse 9 wrong (ltb wrong (entries (r .n))) ∷ []
-
   -- the rows up to 9: a sound roll with a right directory
-  pub right-accepted : Sound r buf → Right r buf dir → Accepted (directoryRows r buf dir)
-  right-accepted s h =
-      accepted-both (checkRows r buf) wrongRows (sound-accepted r buf s) (rw (le-ltb _ _ (le-of-eq (sym (right-none r buf dir s h)))))
+  pub right-accepted : Sound r buf → Right r buf dir → Accepted (directorySays r buf dir)
+  unfolding directorySays
+  right-accepted s h = rw (sound-accepted s, le-ltb _ _ (le-of-eq (sym (right-none r buf dir s h))))
 
-  pub accepted-right : Accepted (directoryRows r buf dir) → Sound r buf × Right r buf dir
+  pub accepted-right : Accepted (directorySays r buf dir) → Sound r buf × Right r buf dir
+  unfolding directorySays
   accepted-right e =
-      let (a, b) = accepted-parts (checkRows r buf) wrongRows e in
-      let (c, z) = accepted-none wrongRows b in
+      let (a, b) = accepted-parts (checkSays r buf) e in
+      let (c, z) = accepted-none (directoryRows r buf dir) tt b in
       let s = accepted-sound r buf a in
       let h : entries (r .n) ≤ wrong = ltb-false _ _ c in
       (s, none-right r buf dir s (omega (arith, wrong-within (directoryOf (lengthsOf r buf)) dir, sound-entries r buf s)))
@@ -156,22 +203,24 @@ module _ (r : Roll) (buf dir : List ℕ) where
     abbrev all : ℕ
     all = room (r .table .code .k) (length buf)
 
-    pub edits-accepted : Edits r buf dir start end text → Accepted (editRows r buf dir start end text)
+    pub edits-accepted : Edits r buf dir start end text → Accepted (editSays r buf dir start end text)
+    unfolding editSays
     edits-accepted u =
-        accepted-both (directoryRows r buf dir) (changeRows r buf dir start end text) (right-accepted (u .sound) (u .right))
-        (simp (
+        simp (
+          right-accepted (u .sound) (u .right),
           le-ltb _ _ (u .ordered),
           le-ltb _ _ (u .inside),
           le-ltb _ _ (le-of-eq (sym (known-foreign (characters (r .table)) (u .known)))),
           le-ltb _ _ (le-of-eq (sym (over-all (r .table .code) (characters (r .table)) all new .1 (u .fits)))),
           le-ltb _ _ (u .listed),
-        ))
+        )
 
-    pub accepted-edits : Accepted (editRows r buf dir start end text) → Edits r buf dir start end text
+    pub accepted-edits : Accepted (editSays r buf dir start end text) → Edits r buf dir start end text
+    unfolding editSays
     accepted-edits e =
-        let (a, b) = accepted-parts (directoryRows r buf dir) (changeRows r buf dir start end text) e in
+        let (a, b) = accepted-parts (directorySays r buf dir) e in
         let (s, right) = accepted-right a in
-        let (c, (d, (f, (g, z)))) = accepted-none (changeRows r buf dir start end text) b in
+        let (c, (d, (f, (g, z)))) = accepted-none (editRows r buf dir start end text) tt b in
         let range = neither (ltb end start) (ltb (r .n) end) c in
         let foreign : length text ≤ firstForeign (characters (r .table)) text = ltb-false _ _ d in
         let over : length new ≤ firstOver (r .table .code) (characters (r .table)) all new = ltb-false _ _ f in
@@ -187,5 +236,5 @@ module _ (r : Roll) (buf dir : List ℕ) where
           listed = ltb-false _ _ g;
         }
 
-    pub edits-is : Edits r buf dir start end text ↔ Accepted (editRows r buf dir start end text)
+    pub edits-is : Edits r buf dir start end text ↔ Accepted (editSays r buf dir start end text)
     edits-is = (edits-accepted, accepted-edits)

@@ -1,17 +1,18 @@
 -- What an accepted edit leaves, by the operations.
 -- Assumes nothing.
 use mathlib.Core.Path.{_≡_, refl, sym, ap, ap₂, subst, _∙_}
-use mathlib.Core.Bool.{true}
 use mathlib.Core.List.{List, _++_}
 use Prim.Native.Nat.{ℕ, _≤_}
+use lib.Dec.{T}
 use lib.ListN.{length, take, drop}
 use Rattle.ground.specs.Paper.Refusals.{accepted}
-use Rattle.ground.specs.Paper.Answers.{doneSays, totalSays}
-use Rattle.ground.specs.Laws.Answers.{done-one}
+use Rattle.ground.specs.Paper.Answers.{totalSays}
+use Rattle.ground.specs.Laws.Answers.{says-as, done-one}
 use Rattle.ground.specs.Laws.Refusals.{Accepted, accepted-leaves}
 use Rattle.ground.specs.declared.answers.Done.{Done}
 use Rattle.ground.specs.declared.answers.Done.the-variants.{Yes}
 use Rattle.ground.specs.declared.answers.Total.{Total}
+use Rattle.ground.specs.declared.answers.Total.the-variants.{Of}
 use Rattle.symbols.specs.Paper.Symbols.{bytesFor, room}
 use Rattle.texts.specs.Paper.Directory.{entries, directoryOf}
 use Rattle.texts.specs.Paper.Hits.{hits, goodPattern, listed}
@@ -21,7 +22,7 @@ use Rattle.sound.specs.Laws.Lengths.{sound-lengths}
 use Rattle.sound.specs.declared.records.Roll.{Roll}
 use Rattle.store.specs.Paper.Stored.{packedInto, bytesAfter, directoryAfter}
 use Rattle.store.specs.Laws.Edited.{Edits, textAfter, rollAfter, edit-known, edit-holds, edit-sound, edit-text, edit-right}
-use Rattle.roll.specs.Paper.Operations.{packRows, Packing, Making, Unpacking, Searching, editRows, Editing}
+use Rattle.roll.specs.Paper.Operations.{packSays, Packing, Making, Unpacking, Searching, Editing}
 use Rattle.roll.specs.Laws.Accepting.{Packs, packs-accepted, edits-accepted, accepted-edits}
 use Rattle.roll.specs.Laws.Meaning.{packed-holds, packing-sound, unpacks-text}
 use Rattle.roll.specs.Laws.Operations.{make-yes, search-yes}
@@ -42,13 +43,8 @@ pub editing-yes : {r : Roll} {buf dir : List ℕ} {start end : ℕ} {text : List
     × (after ≡ bytesAfter r (textAfter r buf start end text) buf)
     × (behind ≡ directoryAfter r (textAfter r buf start end text) dir)
 editing-yes {r} {buf} {dir} {start} {end} {text} p y =
-    let rows = editRows r buf dir start end text in
-    let e : Accepted rows = sym (p .says) ∙ ap doneSays y in (
-      accepted-edits r buf dir start end text e,
-      p .roll ∙ accepted-leaves rows (tt {0}) _ _ e,
-      p .leaves ∙ accepted-leaves rows (tt {0}) _ _ e,
-      p .mends ∙ accepted-leaves rows (tt {0}) _ _ e,
-    )
+    let e = says-as (p .says) y in
+    (accepted-edits r buf dir start end text e, p .roll ∙ accepted-leaves e _ _, p .leaves ∙ accepted-leaves e _ _, p .mends ∙ accepted-leaves e _ _)
 
 module _ (r : Roll) (buf dir : List ℕ) (start end : ℕ) (text : List ℕ) (long : length (r .table .places) ≡ 256) (u : Edits r buf dir start end text) where
   abbrev E : List ℕ
@@ -65,7 +61,7 @@ module _ (r : Roll) (buf dir : List ℕ) (start end : ℕ) (text : List ℕ) (lo
 
   -- packed afresh, into any buffer with room, it has the same bytes
   pub edit-afresh : (other : List ℕ) → length (symbolsFor (r .table) E) ≤ room k (length other)
-      → Accepted (packRows (r .table) E other) × (take (bytesFor k (q .h)) after ≡ take (bytesFor k (q .h)) (packedInto k (symbolsFor (r .table) E) other))
+      → Accepted (packSays (r .table) E other) × (take (bytesFor k (q .h)) after ≡ take (bytesFor k (q .h)) (packedInto k (symbolsFor (r .table) E) other))
   edit-afresh other h =
       let p : Packs (r .table) E other = record { good = u .sound .table; known = edit-known r buf dir start end text long u; fits = h } in
       (packs-accepted (r .table) E other p, sym (edit-holds r buf dir start end text long u .bytes) ∙ packed-holds (r .table) E other p .bytes)
@@ -82,10 +78,9 @@ module _ (r : Roll) (buf dir : List ℕ) (start end : ℕ) (text : List ℕ) (lo
         let (accept, first) = edit-afresh other room-there in
         let y : p .answer ≡ Yes = done-one (p .answer) Yes (a .says ∙ accept) in
         let (same, sound, text-is) = packing-sound a y in
-        let bytes-are : bytes ≡ packedInto k (symbolsFor (r .table) E) other
-        = a .leaves ∙ accepted-leaves (packRows (r .table) E other) (tt {0}) _ _ accept in
+        let bytes-are : bytes ≡ packedInto k (symbolsFor (r .table) E) other = a .leaves ∙ accepted-leaves accept _ _ in
         let making : Making (p .roll) bytes space Yes (directoryOf (lengthsOf (p .roll) bytes) ++ drop (entries (p .roll .n)) space)
-        = make-yes (p .roll) bytes space sound (rw same entries-there) refl in
+        = make-yes sound (rw same entries-there) refl in
         let m : made ≡ Yes = done-one made Yes (b .says ∙ sym (making .says)) in
         let right : Right (p .roll) bytes list = made-right (subst (λ (x : Done). Making (p .roll) bytes space x list) m b) in
         let there : lengthsOf (p .roll) bytes ≡ lengthsFor (r .table) E
@@ -106,9 +101,10 @@ module _ (r : Roll) (buf dir : List ℕ) (start end : ℕ) (text : List ℕ) (lo
       let x = unpacks-text q after out (edit-sound r buf dir start end text long u) h p in
       (x .0, x .1 ∙ ap (λ (l : List ℕ). l ++ drop (q .n) out) (edit-text r buf dir start end text long u))
 
-  pub edit-searches : (pattern slice : List ℕ) → goodPattern pattern ≡ true → {answer : Total} {now : List ℕ} → Searching q after pattern slice answer now
+  pub edit-searches : (pattern slice : List ℕ) → T (goodPattern pattern) → {answer : Total} {now : List ℕ} → Searching q after pattern slice answer now
       → (totalSays answer ≡ accepted (length (hits pattern E))) × (now ≡ listed (hits pattern E) slice)
   edit-searches pattern slice g p =
       let same : hits pattern E ≡ hits pattern (textOf q after) = ap (hits pattern) (sym (edit-text r buf dir start end text long u)) in
-      let yes = search-yes q after pattern slice (edit-sound r buf dir start end text long u) g (ap length same) (ap (λ (l : List ℕ). listed l slice) same) in
+      let yes : Searching q after pattern slice (Of (length (hits pattern E))) (listed (hits pattern E) slice)
+      = search-yes (edit-sound r buf dir start end text long u) g (ap length same) (ap (λ (l : List ℕ). listed l slice) same) in
       (p .says ∙ sym (yes .says), p .leaves ∙ sym (yes .leaves))

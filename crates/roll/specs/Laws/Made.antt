@@ -6,14 +6,13 @@ use Prim.Native.Nat.{ℕ, _/_, _%_, _<_}
 use native.Mathlib.Omega.{arith}
 use lib.ListN.{take, drop, getD}
 use lib.Seq.{take-at}
-use Rattle.ground.specs.Paper.Refusals.{accepted, judged}
+use Rattle.ground.specs.Paper.Refusals.{accepted}
 use Rattle.ground.specs.Laws.Answers.{answer-one}
+use Rattle.ground.specs.Laws.Refusals.{accepted-leaves}
 use Rattle.ground.specs.Laws.Rows.{map-at}
-use Rattle.ground.specs.Laws.Tests.{yes-true}
 use Rattle.ground.specs.declared.answers.Done.the-variants.{Yes}
 use Rattle.ground.specs.declared.answers.Answer.{Answer}
 use Rattle.ground.specs.declared.answers.Answer.the-variants.{Read}
-use Rattle.stopper.specs.Paper.Table.{goodTable}
 use Rattle.stopper.specs.Laws.Table.{table-code}
 use Rattle.texts.specs.Paper.Directory.{entries, directoryOf}
 use Rattle.sound.specs.Paper.Roll.{rowUpto, readingFrom, reading, ranksRead, textOf, Sound}
@@ -22,26 +21,30 @@ use Rattle.sound.specs.Laws.Codewords.{passed-word}
 use Rattle.sound.specs.Laws.Sound.{sound-found, sound-length}
 use Rattle.sound.specs.Laws.Directory.{sound-entries, right-held, right-passed, right-before}
 use Rattle.sound.specs.declared.records.Roll.{Roll}
-use Rattle.roll.specs.Paper.Operations.{Making, oneRead, readRows, ReadingOne}
-use Rattle.roll.specs.Laws.Operations.{made-sound, made-leaves, read-yes}
+use Rattle.roll.specs.Paper.Operations.{Making, readSays, ReadingOne}
+use Rattle.roll.specs.Laws.Accepting.{makes-is, reads-is}
+
+-- an accepted call found the roll sound
+pub made-sound : {r : Roll} {buf dir after : List ℕ} → Making r buf dir Yes after → Sound r buf
+made-sound {r} {buf} {dir} m = makes-is r buf dir .1 (sym (m .says)) .0
 
 -- what make_directory writes is right
 pub made-right : {r : Roll} {buf dir after : List ℕ} → Making r buf dir Yes after → Right r buf after
 made-right {r} {buf} {dir} m =
-    ap (take (entries (r .n))) (made-leaves r buf dir m)
-    ∙ take-at (directoryOf (lengthsOf r buf)) (drop (entries (r .n)) dir) (entries (r .n)) (sound-entries r buf (made-sound r buf dir m))
+    ap (take (entries (r .n))) (m .leaves ∙ accepted-leaves (sym (m .says)) _ _)
+    ∙ take-at (directoryOf (lengthsOf r buf)) (drop (entries (r .n)) dir) (entries (r .n)) (sound-entries r buf (made-sound m))
 
 -- ---- a character read by a right directory
 
 module _ (r : Roll) (buf : List ℕ) (s : Sound r buf) (dir : List ℕ) (right : Right r buf dir) (place : ℕ) (inside : place < r .n) where
   -- read_one's answer is the character of the text
-  pub right-reads : judged (readRows r buf dir place) (oneRead r buf dir place) ≡ accepted (getD (textOf r buf) place 0)
+  pub right-reads : readSays r buf dir place ≡ accepted (getD (textOf r buf) place 0)
   unfolding textOf readingFrom
   right-reads =
       let before = right-before r buf s dir right place inside in
       let (held, rank) = passed-word (r .table .code) (table-code (r .table) (s .table)) (r .table .sigma) (rowUpto (r .table .code) (r .h) buf) (getD dir (place / 32) 0) (place % 32)
       (omega (arith, sound-length r buf s)) (right-passed r buf s dir right place inside) (sym (sound-found r buf s place inside)) in
-      sym (read-yes r buf dir place (yes-true (goodTable (r .table)) (s .table)) (s .fits) inside (right-held r buf s dir right place inside) before held .says)
+      reads-is r buf dir place .0 (record { good = s .table; fits = s .fits; inside = inside; held = right-held r buf s dir right place inside; below = before; reached = held })
       ∙ ap (λ (x : ℕ). accepted (getD (r .table .places) x 0)) rank
       ∙ ap (λ (x : ℕ). accepted x) (sym (map-at (λ rank. getD (r .table .places) rank 0) (ranksRead (reading r buf)) place (omega (arith, s .count))))
 
@@ -51,4 +54,4 @@ module _ (r : Roll) (buf : List ℕ) (s : Sound r buf) (dir : List ℕ) (right :
 -- by a directory that make_directory left, read_one answers what unpack would write
 pub reads-made : {r : Roll} {buf dir after : List ℕ} {place : ℕ} {answer : Answer} → Making r buf dir Yes after → place < r .n
     → ReadingOne r buf after place answer → answer ≡ Read (getD (textOf r buf) place 0)
-reads-made {r} {buf} {dir} {after} {place} m h p = reads-right r buf (made-sound r buf dir m) after (made-right m) place h p
+reads-made {r} {buf} {dir} {after} {place} m h p = reads-right r buf (made-sound m) after (made-right m) place h p

@@ -8,10 +8,9 @@ use native.Mathlib.Nat.{le-refl, le-of-eq, sub-zero}
 use native.Mathlib.Omega.{arith}
 use lib.ListN.{length, take, drop, length-append, length-drop, take-append-drop}
 use lib.Seq.{take-all, take-at}
-use Rattle.ground.specs.Paper.Answers.{doneSays}
 use Rattle.ground.specs.Paper.Runs.{run}
 use Rattle.ground.specs.Helpers.Below.{Below}
-use Rattle.ground.specs.Laws.Answers.{done-one}
+use Rattle.ground.specs.Laws.Answers.{says-as, done-one}
 use Rattle.ground.specs.Laws.Refusals.{accepted-leaves, Accepted}
 use Rattle.ground.specs.declared.answers.Done.{Done}
 use Rattle.ground.specs.declared.answers.Done.the-variants.{Yes}
@@ -27,7 +26,7 @@ use Rattle.sound.specs.Laws.Sound.{text-length}
 use Rattle.sound.specs.Laws.Holding.{widthOf, Holds, holds-sound, holds-text, sound-known, sound-record, sound-h, sound-symbols, sound-bytes, sound-holds}
 use Rattle.sound.specs.declared.records.Roll.{Roll}
 use Rattle.store.specs.Paper.Stored.{packedInto}
-use Rattle.roll.specs.Paper.Operations.{packRows, unpackRows, Packing, Unpacking}
+use Rattle.roll.specs.Paper.Operations.{packSays, Packing, Unpacking}
 use Rattle.roll.specs.Laws.Accepting.{Packs, packs-accepted, accepted-packs, Unpacks, unpacks-accepted}
 use Rattle.roll.specs.declared.pack.Packed.{Packed}
 
@@ -65,7 +64,7 @@ pub record Repacks (r : Roll) (buf text : List ℕ) : Type 0 where
   pub is : recordOf (r .table) text ≡ r
   pub symbols : symbolsFor (r .table) text ≡ take (r .h) (symbolsOf (widthOf r) buf)
   pub bytes : bytesOf (widthOf r) (symbolsFor (r .table) text) ≡ take (bytesFor (widthOf r) (r .h)) buf
-  pub again : (buf2 : List ℕ) → r .h ≤ room (widthOf r) (length buf2) → Accepted (packRows (r .table) text buf2)
+  pub again : (buf2 : List ℕ) → r .h ≤ room (widthOf r) (length buf2) → Accepted (packSays (r .table) text buf2)
 
 module _ (r : Roll) (buf : List ℕ) (long : length (r .table .places) ≡ 256) (bytes : Below 256 buf) where
   pub pack-unpack : Sound r buf → Repacks r buf (textOf r buf)
@@ -106,7 +105,7 @@ module _ (r : Roll) (buf : List ℕ) (start end : ℕ) (out : List ℕ) where
       → (answer ≡ Yes) × (after ≡ run (textOf r buf) start end ++ drop (end - start) out)
   unpacks-range {answer} {after} p u =
       let e = unpacks-accepted r buf start end out u in
-      (done-one answer Yes (p .says ∙ e), p .leaves ∙ accepted-leaves (unpackRows r buf start end out) (tt {0}) _ _ e)
+      (done-one answer Yes (p .says ∙ e), p .leaves ∙ accepted-leaves e _ _)
 
 -- the whole text
 pub unpacks-text : (r : Roll) (buf out : List ℕ) → Sound r buf → r .n ≤ length out → {answer : Done} {after : List ℕ}
@@ -121,10 +120,10 @@ unpacks-text r buf out s h p =
 pub packing-sound : {t : Table} {text buf : List ℕ} {r : Packed} {after : List ℕ} → Packing t text buf r after → r .answer ≡ Yes
     → (r .roll ≡ recordOf t text) × Sound (r .roll) after × (textOf (r .roll) after ≡ text)
 packing-sound {t} {text} {buf} {r} {after} p y =
-    let e : Accepted (packRows t text buf) = sym (p .says) ∙ ap doneSays y in
+    let e = says-as (p .says) y in
     let q = accepted-packs t text buf e in
-    let a : r .roll ≡ recordOf t text = p .roll ∙ accepted-leaves (packRows t text buf) (tt {0}) _ _ e in
-    let b : after ≡ packedInto (t .code .k) (symbolsFor t text) buf = p .leaves ∙ accepted-leaves (packRows t text buf) (tt {0}) _ _ e in
+    let a : r .roll ≡ recordOf t text = p .roll ∙ accepted-leaves e _ _ in
+    let b : after ≡ packedInto (t .code .k) (symbolsFor t text) buf = p .leaves ∙ accepted-leaves e _ _ in
     (a, rw (a, b) (packed-sound t text buf q), rw (a, b) (unpack-pack t text buf q))
 
 -- and unpack then gives that text

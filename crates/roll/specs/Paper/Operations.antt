@@ -6,7 +6,7 @@ use mathlib.Core.List.{List, [], _∷_, _++_}
 use Prim.Native.Nat.{ℕ, _-_, _/_, _%_}
 use lib.Dec.{ltb, leb, eqb}
 use lib.ListN.{length, drop, getD}
-use Rattle.ground.specs.Paper.Refusals.{Row, refuse, judged, kept}
+use Rattle.ground.specs.Paper.Refusals.{Row, refuse, Outcome, judged, _then_, kept}
 use Rattle.ground.specs.Paper.Answers.{doneSays, answerSays, totalSays}
 use Rattle.ground.specs.Paper.Runs.{run}
 use Rattle.ground.specs.Paper.Rows.{allZero}
@@ -40,15 +40,24 @@ packRows t text buf =
     ∷ refuse 4 over (ltb over (length text))
     ∷ []
 
--- beside a refusal: the table as given, n 0 and h 0
-abbrev pub unpacked : Table → Roll
-unpacked t = record { table = t; n = 0; h = 0 }
+unfoldable pub packSays : Table → List ℕ → List ℕ → Outcome (Unit {0})
+packSays t text buf = judged (packRows t text buf) tt
 
--- `after` is what the buffer holds then
+-- beside a refusal: the table as given, n 0 and h 0
+abbrev pub noRoll : Table → Roll
+noRoll t = record { table = t; n = 0; h = 0 }
+
+abbrev pub packRoll : Table → List ℕ → List ℕ → Roll
+packRoll t text buf = kept (packSays t text buf) (noRoll t) (recordOf t text)
+
+-- what the buffer holds then
+abbrev pub packLeaves : Table → List ℕ → List ℕ → List ℕ
+packLeaves t text buf = kept (packSays t text buf) buf (packedInto (t .code .k) (symbolsFor t text) buf)
+
 pub record Packing (t : Table) (text buf : List ℕ) (r : Packed) (after : List ℕ) : Type 0 where
-  pub says : doneSays (r .answer) ≡ judged (packRows t text buf) tt
-  pub roll : r .roll ≡ kept (packRows t text buf) (unpacked t) (recordOf t text)
-  pub leaves : after ≡ kept (packRows t text buf) buf (packedInto (t .code .k) (symbolsFor t text) buf)
+  pub says : doneSays (r .answer) ≡ packSays t text buf
+  pub roll : r .roll ≡ packRoll t text buf
+  pub leaves : after ≡ packLeaves t text buf
 
 -- ---- check: 1, 5, 6, 7, 8
 
@@ -61,30 +70,44 @@ checkRows r buf =
     ∷ refuse 8 0 (not (allZero (unusedOf r buf)))
     ∷ []
 
+unfoldable pub checkSays : Roll → List ℕ → Outcome (Unit {0})
+checkSays r buf = judged (checkRows r buf) tt
+
 pub record Checking (r : Roll) (buf : List ℕ) (answer : Done) : Type 0 where
-  pub says : doneSays answer ≡ judged (checkRows r buf) tt
+  pub says : doneSays answer ≡ checkSays r buf
 
 -- ---- unpack a range: check's, 10, 13
 
-abbrev pub unpackRows : Roll → List ℕ → ℕ → ℕ → List ℕ → List Row
-unpackRows r buf start end out =
-    checkRows r buf
-    ++ (refuse 10 0 (ltb end start || ltb (r .n) end)
+abbrev pub unpackRows : Roll → ℕ → ℕ → List ℕ → List Row
+unpackRows r start end out =
+    refuse 10 0 (ltb end start || ltb (r .n) end)
     ∷ refuse 13 (end - start) (ltb (length out) (end - start))
-    ∷ [])
+    ∷ []
+
+unfoldable pub unpackSays : Roll → List ℕ → ℕ → ℕ → List ℕ → Outcome (Unit {0})
+unpackSays r buf start end out = checkSays r buf then judged (unpackRows r start end out) tt
+
+abbrev pub unpackLeaves : Roll → List ℕ → ℕ → ℕ → List ℕ → List ℕ
+unpackLeaves r buf start end out = kept (unpackSays r buf start end out) out (run (textOf r buf) start end ++ drop (end - start) out)
 
 pub record Unpacking (r : Roll) (buf : List ℕ) (start end : ℕ) (out : List ℕ) (answer : Done) (after : List ℕ) : Type 0 where
-  pub says : doneSays answer ≡ judged (unpackRows r buf start end out) tt
-  pub leaves : after ≡ kept (unpackRows r buf start end out) out (run (textOf r buf) start end ++ drop (end - start) out)
+  pub says : doneSays answer ≡ unpackSays r buf start end out
+  pub leaves : after ≡ unpackLeaves r buf start end out
 
 -- ---- make a directory: check's, 12
 
-abbrev pub makeRows : Roll → List ℕ → List ℕ → List Row
-makeRows r buf dir = checkRows r buf ++ (refuse 12 (entries (r .n)) (ltb (length dir) (entries (r .n))) ∷ [])
+abbrev pub makeRows : Roll → List ℕ → List Row
+makeRows r dir = refuse 12 (entries (r .n)) (ltb (length dir) (entries (r .n))) ∷ []
+
+unfoldable pub makeSays : Roll → List ℕ → List ℕ → Outcome (Unit {0})
+makeSays r buf dir = checkSays r buf then judged (makeRows r dir) tt
+
+abbrev pub makeLeaves : Roll → List ℕ → List ℕ → List ℕ
+makeLeaves r buf dir = kept (makeSays r buf dir) dir (directoryOf (lengthsOf r buf) ++ drop (entries (r .n)) dir)
 
 pub record Making (r : Roll) (buf dir : List ℕ) (answer : Done) (after : List ℕ) : Type 0 where
-  pub says : doneSays answer ≡ judged (makeRows r buf dir) tt
-  pub leaves : after ≡ kept (makeRows r buf dir) dir (directoryOf (lengthsOf r buf) ++ drop (entries (r .n)) dir)
+  pub says : doneSays answer ≡ makeSays r buf dir
+  pub leaves : after ≡ makeLeaves r buf dir
 
 -- ---- read one: 1, 5, 10, 9, 6
 
@@ -105,17 +128,26 @@ readRows r buf dir place =
 abbrev pub oneRead : Roll → List ℕ → List ℕ → ℕ → ℕ
 oneRead r buf dir place = getD (r .table .places) (getD (ranksRead (fromEntry r buf dir place)) (place % 32) 0) 0
 
+unfoldable pub readSays : Roll → List ℕ → List ℕ → ℕ → Outcome ℕ
+readSays r buf dir place = judged (readRows r buf dir place) (oneRead r buf dir place)
+
 pub record ReadingOne (r : Roll) (buf dir : List ℕ) (place : ℕ) (answer : Answer) : Type 0 where
-  pub says : answerSays answer ≡ judged (readRows r buf dir place) (oneRead r buf dir place)
+  pub says : answerSays answer ≡ readSays r buf dir place
 
 -- ---- search: check's, 11
 
-abbrev pub searchRows : Roll → List ℕ → List ℕ → List Row
-searchRows r buf pattern = checkRows r buf ++ (refuse 11 0 (not (goodPattern pattern)) ∷ [])
+abbrev pub searchRows : List ℕ → List Row
+searchRows pattern = refuse 11 0 (not (goodPattern pattern)) ∷ []
+
+unfoldable pub searchSays : Roll → List ℕ → List ℕ → Outcome ℕ
+searchSays r buf pattern = checkSays r buf then judged (searchRows pattern) (length (hits pattern (textOf r buf)))
+
+abbrev pub searchLeaves : Roll → List ℕ → List ℕ → List ℕ → List ℕ
+searchLeaves r buf pattern slice = kept (searchSays r buf pattern) slice (listed (hits pattern (textOf r buf)) slice)
 
 pub record Searching (r : Roll) (buf pattern slice : List ℕ) (answer : Total) (after : List ℕ) : Type 0 where
-  pub says : totalSays answer ≡ judged (searchRows r buf pattern) (length (hits pattern (textOf r buf)))
-  pub leaves : after ≡ kept (searchRows r buf pattern) slice (listed (hits pattern (textOf r buf)) slice)
+  pub says : totalSays answer ≡ searchSays r buf pattern
+  pub leaves : after ≡ searchLeaves r buf pattern slice
 
 -- ---- edit: check's, 9, 10, 3, 4, 12
 
@@ -123,13 +155,16 @@ pub record Searching (r : Roll) (buf pattern slice : List ℕ) (answer : Total) 
 abbrev pub directoryRows : Roll → List ℕ → List ℕ → List Row
 directoryRows r buf dir =
     let wrong : ℕ = firstWrong (directoryOf (lengthsOf r buf)) dir in
-    checkRows r buf ++ (refuse 9 wrong (ltb wrong (entries (r .n))) ∷ [])
+    refuse 9 wrong (ltb wrong (entries (r .n))) ∷ []
+
+unfoldable pub directorySays : Roll → List ℕ → List ℕ → Outcome (Unit {0})
+directorySays r buf dir = checkSays r buf then judged (directoryRows r buf dir) tt
 
 pub record DirectoryChecked (r : Roll) (buf dir : List ℕ) (answer : Done) : Type 0 where
-  pub says : doneSays answer ≡ judged (directoryRows r buf dir) tt
+  pub says : doneSays answer ≡ directorySays r buf dir
 
-abbrev pub changeRows : Roll → List ℕ → List ℕ → ℕ → ℕ → List ℕ → List Row
-changeRows r buf dir start end text =
+abbrev pub editRows : Roll → List ℕ → List ℕ → ℕ → ℕ → List ℕ → List Row
+editRows r buf dir start end text =
     let t : Table = r .table in
     let result : List ℕ = edited (textOf r buf) start end text in
     let foreign : ℕ = firstForeign (characters t) text in
@@ -140,12 +175,21 @@ changeRows r buf dir start end text =
     ∷ refuse 12 (entries (length result)) (ltb (length dir) (entries (length result)))
     ∷ []
 
-abbrev pub editRows : Roll → List ℕ → List ℕ → ℕ → ℕ → List ℕ → List Row
-editRows r buf dir start end text = directoryRows r buf dir ++ changeRows r buf dir start end text
+unfoldable pub editSays : Roll → List ℕ → List ℕ → ℕ → ℕ → List ℕ → Outcome (Unit {0})
+editSays r buf dir start end text = directorySays r buf dir then judged (editRows r buf dir start end text) tt
 
--- `after` and `behind` are what the buffer and the directory hold then
+abbrev pub editRoll : Roll → List ℕ → List ℕ → ℕ → ℕ → List ℕ → Roll
+editRoll r buf dir start end text = kept (editSays r buf dir start end text) r (recordOf (r .table) (edited (textOf r buf) start end text))
+
+-- what the buffer holds then, and what the directory
+abbrev pub editLeaves : Roll → List ℕ → List ℕ → ℕ → ℕ → List ℕ → List ℕ
+editLeaves r buf dir start end text = kept (editSays r buf dir start end text) buf (bytesAfter r (edited (textOf r buf) start end text) buf)
+
+abbrev pub editMends : Roll → List ℕ → List ℕ → ℕ → ℕ → List ℕ → List ℕ
+editMends r buf dir start end text = kept (editSays r buf dir start end text) dir (directoryAfter r (edited (textOf r buf) start end text) dir)
+
 pub record Editing (r : Roll) (buf dir : List ℕ) (start end : ℕ) (text : List ℕ) (e : Edited) (after behind : List ℕ) : Type 0 where
-  pub says : doneSays (e .answer) ≡ judged (editRows r buf dir start end text) tt
-  pub roll : e .roll ≡ kept (editRows r buf dir start end text) r (recordOf (r .table) (edited (textOf r buf) start end text))
-  pub leaves : after ≡ kept (editRows r buf dir start end text) buf (bytesAfter r (edited (textOf r buf) start end text) buf)
-  pub mends : behind ≡ kept (editRows r buf dir start end text) dir (directoryAfter r (edited (textOf r buf) start end text) dir)
+  pub says : doneSays (e .answer) ≡ editSays r buf dir start end text
+  pub roll : e .roll ≡ editRoll r buf dir start end text
+  pub leaves : after ≡ editLeaves r buf dir start end text
+  pub mends : behind ≡ editMends r buf dir start end text

@@ -45,5 +45,5 @@ ifLast rank read long = cond (ltb read long) Nothing (At rank)
 unfoldable pub refusedChoice : ℕ → ℕ → ℕ → Choice
 refusedChoice k number value = record { answer = Refused number value; table = noTable k; total = 0 }
 
-unfoldable pub refusedWord : ℕ → Coded
-refusedWord number = record { answer = Refused number 0; word = codewordFor [] }
+unfoldable pub refusedCoded : ℕ → Coded
+refusedCoded number = record { answer = Refused number 0; word = codewordFor [] }

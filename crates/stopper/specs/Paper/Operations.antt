@@ -7,7 +7,7 @@ use Prim.Native.Nat.{ℕ}
 use lib.Dec.{ltb, leb, eqb}
 use lib.ListN.{length, take, getD}
 use Rattle.ground.specs.Paper.Limit.{limit}
-use Rattle.ground.specs.Paper.Refusals.{Row, refuse, judged, kept}
+use Rattle.ground.specs.Paper.Refusals.{Row, refuse, Outcome, judged, kept}
 use Rattle.ground.specs.Paper.Answers.{doneSays, answerSays}
 use Rattle.ground.specs.Paper.Rows.{padded}
 use Rattle.ground.specs.declared.answers.Done.{Done}
@@ -29,10 +29,16 @@ countRows text counts =
     ∷ refuse 4 limit (ltb limit (length text))
     ∷ []
 
--- `after` is what the counts hold then
+unfoldable pub countSays : List ℕ → List ℕ → Outcome (Unit {0})
+countSays text counts = judged (countRows text counts) tt
+
+-- what the counts hold then
+abbrev pub countLeaves : List ℕ → List ℕ → List ℕ
+countLeaves text counts = kept (countSays text counts) counts (countsOf text)
+
 pub record Counting (text counts : List ℕ) (answer : Done) (after : List ℕ) : Type 0 where
-  pub says : doneSays answer ≡ judged (countRows text counts) tt
-  pub leaves : after ≡ kept (countRows text counts) counts (countsOf text)
+  pub says : doneSays answer ≡ countSays text counts
+  pub leaves : after ≡ countLeaves text counts
 
 -- ---- choose: 1 (width only), 2
 
@@ -46,10 +52,19 @@ chooseRows k counts =
 abbrev pub noTable : ℕ → Table
 noTable k = tableOf (record { k = k; s = 0 }) []
 
+unfoldable pub chooseSays : ℕ → List ℕ → Outcome (Unit {0})
+chooseSays k counts = judged (chooseRows k counts) tt
+
+abbrev pub chooseTable : ℕ → List ℕ → Table
+chooseTable k counts = kept (chooseSays k counts) (noTable k) (chosenTable k (counted counts))
+
+abbrev pub chooseTotal : ℕ → List ℕ → ℕ
+chooseTotal k counts = kept (chooseSays k counts) 0 (total (chosen k (counted counts)) (counted counts))
+
 pub record Choosing (k : ℕ) (counts : List ℕ) (r : Choice) : Type 0 where
-  pub says : doneSays (r .answer) ≡ judged (chooseRows k counts) tt
-  pub table : r .table ≡ kept (chooseRows k counts) (noTable k) (chosenTable k (counted counts))
-  pub total : r .total ≡ kept (chooseRows k counts) 0 (total (chosen k (counted counts)) (counted counts))
+  pub says : doneSays (r .answer) ≡ chooseSays k counts
+  pub table : r .table ≡ chooseTable k counts
+  pub total : r .total ≡ chooseTotal k counts
 
 -- ---- codeword of a character: 1, 3 (value 0)
 
@@ -60,9 +75,16 @@ codewordRows t b = refuse 1 0 (not (goodTable t)) ∷ refuse 3 0 (not (has b (ch
 abbrev pub codewordFor : List ℕ → Codeword
 codewordFor w = record { length = length w; symbols = padded 86 w }
 
+unfoldable pub codewordSays : Table → ℕ → Outcome (Unit {0})
+codewordSays t b = judged (codewordRows t b) tt
+
+-- beside a refusal: no symbols
+abbrev pub codewordGiven : Table → ℕ → Codeword
+codewordGiven t b = kept (codewordSays t b) (codewordFor []) (codewordFor (wordOf (t .code) (rankIn (characters t) b)))
+
 pub record Coding (t : Table) (b : ℕ) (r : Coded) : Type 0 where
-  pub says : doneSays (r .answer) ≡ judged (codewordRows t b) tt
-  pub word : r .word ≡ kept (codewordRows t b) (codewordFor []) (codewordFor (wordOf (t .code) (rankIn (characters t) b)))
+  pub says : doneSays (r .answer) ≡ codewordSays t b
+  pub word : r .word ≡ codewordGiven t b
 
 -- ---- character of a codeword: 1, 6 (value 0)
 
@@ -84,5 +106,8 @@ characterRows t w =
 abbrev pub characterAt : Table → List ℕ → ℕ
 characterAt t w = getD (t .places) (rankOf (base (t .code)) (stoppers (t .code)) w) 0
 
+unfoldable pub characterSays : Table → Codeword → Outcome ℕ
+characterSays t w = judged (characterRows t w) (characterAt t (symbols w))
+
 pub record Decoding (t : Table) (w : Codeword) (answer : Answer) : Type 0 where
-  pub says : answerSays answer ≡ judged (characterRows t w) (characterAt t (symbols w))
+  pub says : answerSays answer ≡ characterSays t w

@@ -8,7 +8,7 @@ use native.Mathlib.Omega.{arith}
 use borrow.Author.Needs.{needs}
 use lib.ListN.{length, take, length-replicate}
 use lib.Seq.{length-take-le}
-use Rattle.ground.specs.Paper.Answers.{doneSays}
+use Rattle.ground.specs.Laws.Answers.{says-as}
 use Rattle.ground.specs.Paper.Rows.{zeros}
 use Rattle.ground.specs.declared.answers.Done.the-variants.{Yes}
 use Rattle.ground.specs.declared.answers.Total.the-variants.{Of}
@@ -55,7 +55,7 @@ returns c =
     let o = c .before .before in
     let k = o .before .before .before in
     let p = k .before .before .before .before in
-    rw (answer-refused (pattern p) (text p) (sym (packing p .says) ∙ ap doneSays (k .packing .given .1))) (o .refused-out .ensures)
+    rw (answer-refused (pattern p) (text p) (says-as (packing p .says) (k .packing .given .1))) (o .refused-out .ensures)
 
 -- ---- searched
 

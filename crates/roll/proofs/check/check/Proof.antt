@@ -5,7 +5,7 @@ use mathlib.Core.Bool.{true}
 use Prim.Native.Nat.{ℕ, _+_, _*_, _≤_}
 use native.Mathlib.Omega.{arith}
 use borrow.Author.Needs.{needs}
-use borrow.Author.Tests.{not-true, not-false}
+use borrow.Author.Tests.{lt-ltb, not-true, not-false}
 use lib.ListN.{length}
 use Rattle.ground.specs.Paper.Runs.{run}
 use Rattle.ground.specs.Paper.Rows.{allZero}
@@ -19,7 +19,8 @@ use Rattle.sound.specs.Paper.Roll.{readingFrom, reading, unusedOf}
 use Rattle.sound.specs.Helpers.Codewords.{Reads, scanned}
 use Rattle.sound.specs.Laws.Sound.{table-reads}
 use Rattle.sound.specs.declared.reading.Scan.the-variants.{Whole}
-use Rattle.roll.specs.Laws.Operations.{check-1, check-5, check-6, check-7, check-8, check-yes}
+use Rattle.roll.specs.Paper.Operations.{checkSays}
+use Rattle.roll.specs.Laws.Operations.{check-6, check-7, check-last}
 use Rattle.roll.proofs.check.check.Statement.{statement}
 use Rattle.roll.proofs.check.check.Tie as tie
 
@@ -67,15 +68,15 @@ zero-is c =
     c .all-zero .ensures ∙ ap (λ (to : ℕ). allZero (run (symbolsOf (a .roll .table .code .k) (a .buf .now)) (a .roll .h) to)) (end-is (c .before))
 
 returns : tie.Need-returns
-returns c = let a = c .before .before .before .before .args in check-1 (a .roll) (a .buf .now) (sym (c .before .good-table .ensures) ∙ not-true _ (c .if1 .taken))
+unfolding checkSays
+returns c = record { says = rw (sym (c .before .good-table .ensures) ∙ not-true _ (c .if1 .taken)) }
 
 room-of-requires : tie.Need-room-of-requires
 room-of-requires c κs = width (c .before .before)
 
 returns-2 : tie.Need-returns-2
-returns-2 c =
-    let e = c .before .before .before .before in
-    check-5 (start e .args .roll) (start e .args .buf .now) (good e) (omega (arith, c .if2 .taken, c .before .room-of .ensures))
+unfolding checkSays
+returns-2 c = record { says = rw (good (c .before .before .before .before), lt-ltb _ _ (rw (c .before .room-of .ensures) at (c .if2 .taken))) }
 
 read-all-requires : tie.Need-read-all-requires
 read-all-requires c κs = reads (c .before)
@@ -84,8 +85,7 @@ returns-3 : tie.Need-returns-3
 returns-3 c =
     let w = c .before .before .before in
     let f = fitted w in
-    let a = start (tabled f) .args in
-    check-7 (a .roll) (a .buf .now) (good (tabled f)) (fits f) (whole w) (c .if3 .taken)
+    record { says = sym (check-7 _ _ (good (tabled f)) (fits f) (whole w) (c .if3 .taken)) }
 
 unused-requires : tie.Need-unused-requires
 unused-requires c κs = width (tabled (fitted (c .before .before .before)))
@@ -107,24 +107,21 @@ returns-4 c =
     let n = c .before .before .before in
     let w = n .before .before .before in
     let f = fitted w in
-    let a = start (tabled f) .args in
-    check-8 (a .roll) (a .buf .now) (good (tabled f)) (fits f) (whole w) (n .if3 .left) (sym (zero-is (c .before)) ∙ not-true _ (c .if4 .taken))
+    record { says = sym (check-last _ _ (good (tabled f)) (fits f) (whole w) (n .if3 .left) ∙ rw (sym (zero-is (c .before)) ∙ not-true _ (c .if4 .taken))) }
 
 returns-5 : tie.Need-returns-5
 unfolding readingFrom
 returns-5 c =
     let y = c .before .before .before in
     let f = y .before .before in
-    let a = start (tabled f) .args in
-    check-6 (a .roll) (a .buf .now) (good (tabled f)) (fits f) (sym (c .before .read .given .1) ∙ y .read-all .ensures)
+    record { says = sym (check-6 _ _ (good (tabled f)) (fits f) (sym (c .before .read .given .1) ∙ y .read-all .ensures)) }
 
 returns-6 : tie.Need-returns-6
 returns-6 c =
     let n = c .before .before .before in
     let w = n .before .before .before in
     let f = fitted w in
-    let a = start (tabled f) .args in
-    check-yes (a .roll) (a .buf .now) (good (tabled f)) (fits f) (whole w) (n .if3 .left) (sym (zero-is (c .before)) ∙ not-false _ (c .if4 .left))
+    record { says = sym (check-last _ _ (good (tabled f)) (fits f) (whole w) (n .if3 .left) ∙ rw (sym (zero-is (c .before)) ∙ not-false _ (c .if4 .left))) }
 
 pub check-spec : {M : Type 1} → statement M
 check-spec =

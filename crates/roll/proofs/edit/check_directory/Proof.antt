@@ -1,9 +1,12 @@
 -- `roll::edit::check_directory` meets its contract.
 -- Assumes nothing.
-use native.Mathlib.Omega.{arith}
 use borrow.Author.Needs.{needs}
+use borrow.Author.Tests.{lt-ltb, le-ltb}
+use Rattle.ground.specs.Laws.Answers.{says-as}
 use Rattle.sound.specs.Paper.Roll.{Sound}
-use Rattle.roll.specs.Laws.Operations.{check-sound, directory-check, directory-9, directory-yes}
+use Rattle.roll.specs.Paper.Operations.{directorySays}
+use Rattle.roll.specs.Laws.Accepting.{sound-accepted}
+use Rattle.roll.specs.Laws.Operations.{check-sound}
 use Rattle.roll.proofs.edit.check_directory.Statement.{statement}
 use Rattle.roll.proofs.edit.check_directory.Tie as tie
 
@@ -15,30 +18,29 @@ abbrev checked : tie.After-enum-told → tie.After-check
 checked c = c .before .before
 
 sound : (c : tie.After-enum-told) → let a = start (checked c) .args in Sound (a .roll) (a .buf .now)
-sound c = let a = start (checked c) .args in check-sound (a .roll) (a .buf .now) (checked c .check .ensures) (c .enum-told .given .1)
+sound c = check-sound (checked c .check .ensures) (c .enum-told .given .1)
 
 returns : tie.Need-returns
-returns c =
-    let k = c .before .before in
-    let a = start k .args in
-    directory-check (a .roll) (a .buf .now) (a .dir .now) (k .check .ensures) (c .enum-told2 .given .1)
+unfolding directorySays
+returns c = let e = c .enum-told2 .given .1 in record { says = rw (says-as (c .before .before .check .ensures .says) e, e) }
 
 first-wrong-requires : tie.Need-first-wrong-requires
 first-wrong-requires c κs = sound c
 
 returns-2 : tie.Need-returns-2
+unfolding directorySays
 returns-2 c =
     let n = c .before in
     let w = n .before in
-    let a = start (checked (w .before)) .args in
-    directory-9 (a .roll) (a .buf .now) (a .dir .now) (sound (w .before)) (w .first-wrong .ensures) (omega (arith, n .entries-for .ensures, c .if1 .taken))
+    let e = w .first-wrong .ensures in
+    record { says = rw (sound-accepted (sound (w .before)), e, lt-ltb _ _ (rw (e, n .entries-for .ensures) at (c .if1 .taken))) }
 
 returns-3 : tie.Need-returns-3
+unfolding directorySays
 returns-3 c =
     let n = c .before in
     let w = n .before in
-    let a = start (checked (w .before)) .args in
-    directory-yes (a .roll) (a .buf .now) (a .dir .now) (sound (w .before)) (w .first-wrong .ensures) (omega (arith, n .entries-for .ensures, c .if1 .left))
+    record { says = rw (sound-accepted (sound (w .before)), le-ltb _ _ (rw (w .first-wrong .ensures, n .entries-for .ensures) at (c .if1 .left))) }
 
 pub check-directory-spec : {M : Type 1} → statement M
 check-directory-spec =

@@ -6,9 +6,10 @@ use mathlib.Core.List.{List, []}
 use Prim.Native.Nat.{ℕ, _/_, _%_, _≤_}
 use native.Mathlib.Omega.{arith}
 use borrow.Author.Needs.{needs}
-use borrow.Author.Tests.{not-true, not-false}
+use borrow.Author.Tests.{lt-ltb, le-ltb, lt-leb, le-leb, not-true, not-false}
 use lib.Dec.{T}
 use lib.ListN.{length, drop, getD, length-drop}
+use Rattle.ground.specs.Laws.Tests.{true-yes}
 use Rattle.ground.specs.declared.answers.Answer.the-variants.{Refused}
 use Rattle.stopper.specs.Paper.Table.{goodCode, goodTable}
 use Rattle.stopper.specs.Laws.Table.{is-good, table-code, code-width}
@@ -19,8 +20,8 @@ use Rattle.sound.specs.Laws.Codewords.{found-word, passed-upto, passed-over, pa
 use Rattle.sound.specs.Laws.Sound.{row-length, table-reads}
 use Rattle.sound.specs.declared.reading.Found.the-variants.{Word}
 use Rattle.sound.specs.declared.reading.Passed.the-variants.{At}
-use Rattle.roll.specs.Paper.Operations.{fromEntry, ReadingOne}
-use Rattle.roll.specs.Laws.Operations.{read-1, read-5, read-10, read-9-missing, read-9-wrong, read-6, read-yes}
+use Rattle.roll.specs.Paper.Operations.{fromEntry, readSays, ReadingOne}
+use Rattle.roll.specs.Laws.Accepting.{ReadsOne, reads-is}
 use Rattle.roll.proofs.read_one.read_one.Statement.{statement}
 use Rattle.roll.proofs.read_one.read_one.Tie as tie
 
@@ -63,14 +64,17 @@ long c = let a = begun c .args in row-length (a .roll) (a .buf .now) (fits (fitt
 -- reading is over before the codeword
 is-over : (c : tie.After-pass-over) {at : ℕ} → let a = begun c .args in let o = fromEntry (a .roll) (a .buf .now) (a .dir .now) (a .place) in
     (drop (a .place % 32) (ranksRead o) ≡ []) × (firstBad (length (row (begun c))) o ≡ at) → ReadingOne (a .roll) (a .buf .now) (a .dir .now) (a .place) (Refused 6 at)
+unfolding readSays
 is-over c (none, e) =
     let w = entered c in
     let p = placed w in
     let f = fitted p in
     let a = begun c .args in
     let o = fromEntry (a .roll) (a .buf .now) (a .dir .now) (a .place) in
-    read-6 (a .roll) (a .buf .now) (a .dir .now) (a .place) (good (tabled f)) (fits f) (p .if3 .left) (w .before .before .if4 .left) (w .if5 .left)
-    (omega (arith, sym (length-drop (a .place % 32) (ranksRead o)) ∙ ap length none)) (rw (long c) at e)
+    let short : length (ranksRead o) ≤ a .place % 32 = omega (arith, sym (length-drop (a .place % 32) (ranksRead o)) ∙ ap length none) in
+    record {
+      says = rw (good (tabled f), le-ltb _ _ (fits f), lt-leb _ _ (p .if3 .left), lt-leb _ _ (w .before .before .if4 .left), lt-leb _ _ (w .if5 .left), le-leb _ _ short, rw (long c) at e);
+    }
 
 -- up to a place of the row
 passed-is : (c : tie.After-passed2) → let s = begun (c .before .before) in
@@ -95,9 +99,8 @@ word-is : (c : tie.After-found) → let p = c .before .before .before .before in
 word-is c = sym (c .found .given .1) ∙ c .before .before .codeword-at .ensures
 
 returns : tie.Need-returns
-returns c =
-    let a = c .before .before .before .before .before .args in
-    read-1 (a .roll) (a .buf .now) (a .dir .now) (a .place) (sym (c .before .good-table .ensures) ∙ not-true _ (c .if1 .taken))
+unfolding readSays
+returns c = record { says = rw (sym (c .before .good-table .ensures) ∙ not-true _ (c .if1 .taken)) }
 
 room-of-requires : tie.Need-room-of-requires
 room-of-requires c κs =
@@ -106,32 +109,28 @@ room-of-requires c κs =
     code-width (t .code) (table-code t (is-good t (good e)))
 
 returns-2 : tie.Need-returns-2
-returns-2 c =
-    let e = c .before .before .before .before in
-    let a = start e .args in
-    read-5 (a .roll) (a .buf .now) (a .dir .now) (a .place) (good e) (omega (arith, c .if2 .taken, c .before .room-of .ensures))
+unfolding readSays
+returns-2 c = record { says = rw (good (c .before .before .before .before), lt-ltb _ _ (rw (c .before .room-of .ensures) at (c .if2 .taken))) }
 
 returns-3 : tie.Need-returns-3
-returns-3 c =
-    let f = c .before .before in
-    let a = start (tabled f) .args in
-    read-10 (a .roll) (a .buf .now) (a .dir .now) (a .place) (good (tabled f)) (fits f) (c .if3 .taken)
+unfolding readSays
+returns-3 c = let f = c .before .before in record { says = rw (good (tabled f), le-ltb _ _ (fits f), le-leb _ _ (c .if3 .taken)) }
 
 returns-4 : tie.Need-returns-4
+unfolding readSays
 returns-4 c =
     let f = fitted (c .before) in
-    let a = start (tabled f) .args in
-    read-9-missing (a .roll) (a .buf .now) (a .dir .now) (a .place) (good (tabled f)) (fits f) (c .before .if3 .left) (c .if4 .taken)
+    record { says = rw (good (tabled f), le-ltb _ _ (fits f), lt-leb _ _ (c .before .if3 .left), le-leb _ _ (c .if4 .taken)) }
 
 cast-first : tie.Need-cast-first
 cast-first c = let a = start (tabled (fitted (c .before .before))) .args in omega (arith, c .shared-slice-known3 .given (a .place / 32))
 
 returns-5 : tie.Need-returns-5
+unfolding readSays
 returns-5 c =
     let e = c .before .before in
     let f = fitted (e .before) in
-    let a = start (tabled f) .args in
-    read-9-wrong (a .roll) (a .buf .now) (a .dir .now) (a .place) (good (tabled f)) (fits f) (e .before .if3 .left) (e .if4 .left) (c .if5 .taken)
+    record { says = rw (good (tabled f), le-ltb _ _ (fits f), lt-leb _ _ (e .before .if3 .left), lt-leb _ _ (e .if4 .left), le-leb _ _ (c .if5 .taken)) }
 
 pass-over-requires : tie.Need-pass-over-requires
 pass-over-requires c κs = let e = c .before .before in reads (fitted (placed e)) _ (omega (arith, e .if5 .left))
@@ -170,8 +169,9 @@ returns-7 c =
     let a = begun y .args in
     let (held, rank) = passed-word (a .roll .table .code) (code-is y) (a .roll .table .sigma) (row (begun y)) (getD (a .dir .now) (a .place / 32) 0) (a .place % 32) (entry-upto y)
     (passed-is p) (word-is (c .before)) in
-    rw (← rank)
-    (read-yes (a .roll) (a .buf .now) (a .dir .now) (a .place) (good (tabled f)) (fits f) (placed e .if3 .left) (e .before .before .if4 .left) (e .if5 .left) held)
+    let p : ReadsOne (a .roll) (a .buf .now) (a .dir .now) (a .place)
+    = record { good = true-yes _ (good (tabled f)); fits = fits f; inside = placed e .if3 .left; held = e .before .before .if4 .left; below = e .if5 .left; reached = held } in
+    rw (← rank) (record { says = sym (reads-is (a .roll) (a .buf .now) (a .dir .now) (a .place) .0 p) })
 
 returns-8 : tie.Need-returns-8
 unfolding readingFrom

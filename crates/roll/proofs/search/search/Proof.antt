@@ -1,15 +1,17 @@
 -- `roll::search::search` meets its contract.
 -- Assumes nothing.
-use mathlib.Core.Path.{_≡_}
 use mathlib.Core.Logic.{⊎-elim, inl, inr}
-use mathlib.Core.Bool.{true}
 use borrow.Author.Needs.{needs}
 use borrow.Author.Tests.{ltb-true, ltb-false}
+use lib.Dec.{T}
+use Rattle.ground.specs.Laws.Answers.{says-as}
 use Rattle.ground.specs.Laws.Tests.{true-yes}
 use Rattle.texts.specs.Paper.Hits.{goodPattern}
 use Rattle.texts.specs.Laws.Patterns.{pattern-bad, pattern-good}
 use Rattle.sound.specs.Paper.Roll.{Sound}
-use Rattle.roll.specs.Laws.Operations.{check-sound, search-check, search-11, search-yes}
+use Rattle.roll.specs.Paper.Operations.{searchSays}
+use Rattle.roll.specs.Laws.Accepting.{sound-accepted}
+use Rattle.roll.specs.Laws.Operations.{check-sound, search-refused, search-yes}
 use Rattle.roll.proofs.search.search.Statement.{statement}
 use Rattle.roll.proofs.search.search.Tie as tie
 
@@ -21,32 +23,32 @@ abbrev checked : tie.After-enum-told → tie.After-check
 checked c = c .before .before
 
 sound : (c : tie.After-enum-told) → let a = start (checked c) .args in Sound (a .roll) (a .buf .now)
-sound c = let a = start (checked c) .args in check-sound (a .roll) (a .buf .now) (checked c .check .ensures) (c .enum-told .given .1)
+sound c = check-sound (checked c .check .ensures) (c .enum-told .given .1)
 
-good : (c : tie.Else2) → goodPattern (start (checked (c .before .before)) .args .pattern .now) ≡ true
-good c = pattern-good _ (c .before .if1 .left) (ltb-false _ _ (c .if2 .left))
+good : (c : tie.Else2) → T (goodPattern (start (checked (c .before .before)) .args .pattern .now))
+good c = true-yes _ (pattern-good _ (c .before .if1 .left) (ltb-false _ _ (c .if2 .left)))
 
 returns : tie.Need-returns
+unfolding searchSays
 returns c =
     let k = c .before .before .before in
-    let a = start k .args in
-    search-check (a .roll) (a .buf .now) (a .pattern .now) (a .slice .now) (k .check .ensures) (c .before .checked .given .1)
+    search-refused (rw (says-as (k .check .ensures .says) (c .before .checked .given .1)))
 
 returns-2 : tie.Need-returns-2
+unfolding searchSays
 returns-2 c =
     let a = start (checked (c .before)) .args in
-    search-11 (a .roll) (a .buf .now) (a .pattern .now) (a .slice .now) (sound (c .before))
-    (pattern-bad (a .pattern .now) (⊎-elim (λ w. inl (w .taken)) (λ w. inr (ltb-true _ _ (w .1 .taken))) (c .if1 .came)))
+    search-refused
+    (rw (sound-accepted (sound (c .before)), pattern-bad (a .pattern .now) (⊎-elim (λ w. inl (w .taken)) (λ w. inr (ltb-true _ _ (w .1 .taken))) (c .if1 .came))))
 
 search-sound-requires : tie.Need-search-sound-requires
-search-sound-requires c κs = (sound (c .before .before .before), true-yes _ (good (c .before)))
+search-sound-requires c κs = (sound (c .before .before .before), good (c .before))
 
 returns-3 : tie.Need-returns-3
 returns-3 c =
     let u = c .before .before in
     let e = u .before .before in
-    let a = start (checked (e .before .before)) .args in
-    search-yes (a .roll) (a .buf .now) (a .pattern .now) (a .slice .now) (sound (e .before .before)) (good e) (u .search-sound .ensures .0) (u .search-sound .ensures .1)
+    search-yes (sound (e .before .before)) (good e) (u .search-sound .ensures .0) (u .search-sound .ensures .1)
 
 pub search-spec : {M : Type 1} → statement M
 search-spec =

@@ -1,8 +1,12 @@
 -- `roll::unpack::unpack` meets its contract.
 -- Assumes nothing.
 use borrow.Author.Needs.{needs}
+use borrow.Author.Tests.{lt-ltb, le-ltb}
+use Rattle.ground.specs.Laws.Answers.{says-as}
 use Rattle.sound.specs.Paper.Roll.{Sound}
-use Rattle.roll.specs.Laws.Operations.{check-sound, unpack-check, unpack-10-start, unpack-10-end, unpack-13, unpack-yes}
+use Rattle.roll.specs.Paper.Operations.{unpackSays}
+use Rattle.roll.specs.Laws.Accepting.{sound-accepted, Unpacks}
+use Rattle.roll.specs.Laws.Operations.{check-sound, unpack-refused, unpack-yes}
 use Rattle.roll.proofs.unpack.unpack.Statement.{statement}
 use Rattle.roll.proofs.unpack.unpack.Tie as tie
 
@@ -14,44 +18,37 @@ abbrev checked : tie.After-enum-told → tie.After-check
 checked c = c .before .before
 
 sound : (c : tie.After-enum-told) → let a = start (checked c) .args in Sound (a .roll) (a .buf .now)
-sound c = let a = start (checked c) .args in check-sound (a .roll) (a .buf .now) (checked c .check .ensures) (c .enum-told .given .1)
+sound c = check-sound (checked c .check .ensures) (c .enum-told .given .1)
 
 returns : tie.Need-returns
-returns c =
-    let k = c .before .before in
-    let a = start k .args in
-    unpack-check (a .roll) (a .buf .now) (a .start) (a .end) (a .out .now) (k .check .ensures) (c .enum-told2 .given .1)
+unfolding unpackSays
+returns c = rw (c .enum-told2 .given .1) (unpack-refused (rw (says-as (c .before .before .check .ensures .says) (c .enum-told2 .given .1))))
 
 returns-2 : tie.Need-returns-2
-returns-2 c =
-    let a = start (checked (c .before)) .args in
-    unpack-10-start (a .roll) (a .buf .now) (a .start) (a .end) (a .out .now) (sound (c .before)) (c .if1 .taken)
+unfolding unpackSays
+returns-2 c = unpack-refused (rw (sound-accepted (sound (c .before)), lt-ltb _ _ (c .if1 .taken)))
 
 returns-3 : tie.Need-returns-3
+unfolding unpackSays
 returns-3 c =
     let e = c .before .before in
-    let a = start (checked (e .before)) .args in
-    unpack-10-end (a .roll) (a .buf .now) (a .start) (a .end) (a .out .now) (sound (e .before)) (e .if1 .left) (c .if2 .taken)
+    unpack-refused (rw (sound-accepted (sound (e .before)), le-ltb _ _ (e .if1 .left), lt-ltb _ _ (c .if2 .taken)))
 
 returns-4 : tie.Need-returns-4
+unfolding unpackSays
 returns-4 c =
     let e = c .before .before .before in
-    let a = start (checked (e .before)) .args in
-    unpack-13 (a .roll) (a .buf .now) (a .start) (a .end) (a .out .now) (sound (e .before)) (e .if1 .left) (c .before .if2 .left) (c .if3 .taken)
+    unpack-refused (rw (sound-accepted (sound (e .before)), le-ltb _ _ (e .if1 .left), le-ltb _ _ (c .before .if2 .left), lt-ltb _ _ (c .if3 .taken)))
+
+-- accepted
+unpacks : (l : tie.Else3) → let a = start (checked (l .before .before .before .before)) .args in Unpacks (a .roll) (a .buf .now) (a .start) (a .end) (a .out .now)
+unpacks l = let e = l .before .before .before in record { sound = sound (e .before); ordered = e .if1 .left; inside = l .before .if2 .left; fits = l .if3 .left }
 
 unpack-sound-requires : tie.Need-unpack-sound-requires
-unpack-sound-requires c κs =
-    let l = c .before in
-    let e = l .before .before .before in
-    (sound (e .before), e .if1 .left, l .before .if2 .left, l .if3 .left)
+unpack-sound-requires c κs = let u = unpacks (c .before) in (u .sound, u .ordered, u .inside, u .fits)
 
 returns-5 : tie.Need-returns-5
-returns-5 c =
-    let u = c .before .before in
-    let l = u .before .before in
-    let e = l .before .before .before in
-    let a = start (checked (e .before)) .args in
-    unpack-yes (a .roll) (a .buf .now) (a .start) (a .end) (a .out .now) (sound (e .before)) (e .if1 .left) (l .before .if2 .left) (l .if3 .left) (u .unpack-sound .ensures)
+returns-5 c = let u = c .before .before in unpack-yes (unpacks (u .before .before)) (u .unpack-sound .ensures)
 
 pub unpack-spec : {M : Type 1} → statement M
 unpack-spec =

@@ -4,11 +4,11 @@ use mathlib.Core.Path.{_≡_, sym, _∙_}
 use mathlib.Core.Bool.{true}
 use native.Mathlib.Omega.{arith}
 use borrow.Author.Needs.{needs}
-use borrow.Author.Tests.{not-true, not-false}
+use borrow.Author.Tests.{lt-leb, not-true, not-false}
 use Rattle.stopper.specs.Paper.Table.{goodTable}
-use Rattle.stopper.specs.Paper.Operations.{symbols}
+use Rattle.stopper.specs.Paper.Operations.{symbols, characterSays}
 use Rattle.stopper.specs.Laws.Table.{is-good, table-code, table-few}
-use Rattle.stopper.specs.Laws.Operations.{rank-below, character-1, character-long, character-none, character-read}
+use Rattle.stopper.specs.Laws.Operations.{rank-below, character-none, character-read}
 use Rattle.stopper.proofs.character_of.character_of.Statement.{statement}
 use Rattle.stopper.proofs.character_of.character_of.Tie as tie
 
@@ -16,10 +16,12 @@ good : (c : tie.Else1) → goodTable (c .before .before .args .table) ≡ true
 good c = sym (c .before .good-table .ensures) ∙ not-false _ (c .if1 .left)
 
 returns : tie.Need-returns
-returns c = character-1 (c .before .before .args .table) (c .before .before .args .word) (sym (c .before .good-table .ensures) ∙ not-true _ (c .if1 .taken))
+unfolding characterSays
+returns c = record { says = rw (sym (c .before .good-table .ensures) ∙ not-true _ (c .if1 .taken)) }
 
 returns-2 : tie.Need-returns-2
-returns-2 c = let a = c .before .before .before .args in character-long (a .table) (a .word) (good (c .before)) (c .if2 .taken)
+unfolding characterSays
+returns-2 c = record { says = rw (good (c .before), lt-leb _ _ (c .if2 .taken)) }
 
 rank-of-word-requires : tie.Need-rank-of-word-requires
 rank-of-word-requires c κs =
@@ -40,15 +42,13 @@ returns-3 : tie.Need-returns-3
 returns-3 c =
     let r = c .before .before .before in
     let e = r .before .before .before .before .before in
-    let a = e .before .before .before .args in
-    character-read (a .table) (a .word) (good (e .before)) (e .if2 .left) (sym (c .before .found .given .1) ∙ r .rank-of-word .ensures)
+    record { says = sym (character-read _ _ (good (e .before)) (e .if2 .left) (sym (c .before .found .given .1) ∙ r .rank-of-word .ensures)) }
 
 returns-4 : tie.Need-returns-4
 returns-4 c =
     let r = c .before .before in
     let e = r .before .before .before .before .before in
-    let a = e .before .before .before .args in
-    character-none (a .table) (a .word) (good (e .before)) (e .if2 .left) (sym (c .enum-told .given .1) ∙ r .rank-of-word .ensures)
+    record { says = sym (character-none _ _ (good (e .before)) (e .if2 .left) (sym (c .enum-told .given .1) ∙ r .rank-of-word .ensures)) }
 
 pub character-of-spec : {M : Type 1} → statement M
 character-of-spec =

@@ -10,10 +10,13 @@ use lib.Dec.{ltb}
 use lib.ListN.{length}
 use lib.Seq.{length-take-le}
 use Rattle.ground.specs.Paper.Rows.{zeros}
+use Rattle.ground.specs.Laws.Tests.{true-yes}
 use Rattle.stopper.specs.Paper.Table.{goodTable, characters, has}
+use Rattle.stopper.specs.Paper.Operations.{codewordSays}
 use Rattle.stopper.specs.Laws.Table.{is-good, table-code, table-few, length-small}
 use Rattle.stopper.specs.Laws.Characters.{has-rank}
-use Rattle.stopper.specs.Laws.Operations.{codeword-1, codeword-3, codeword-yes}
+use Rattle.stopper.specs.Laws.Accepting.{codes-is}
+use Rattle.stopper.specs.Laws.Operations.{codeword-refused, codeword-yes}
 use Rattle.stopper.proofs.codeword_of.codeword_of.Statement.{statement}
 use Rattle.stopper.proofs.codeword_of.codeword_of.Tie as tie
 
@@ -34,19 +37,17 @@ there c q =
     ∙ ap₂ ltb (sym (c .rank-of .ensures)) (length-take-le (t .sigma) (t .places) (omega (arith, long s, table-few t (is-good t (good e))))) ∙ q
 
 returns : tie.Need-returns
-returns c =
-    let s = c .before .before .before in
-    rw (c .refused .ensures) (codeword-1 (s .args .table) (s .args .character) (sym (c .before .before .good-table .ensures) ∙ not-true _ (c .before .if1 .taken)))
+unfolding codewordSays
+returns c = codeword-refused 1 (rw (sym (c .before .before .good-table .ensures) ∙ not-true _ (c .before .if1 .taken))) (c .refused .ensures)
 
 rank-of-requires : tie.Need-rank-of-requires
 rank-of-requires c κs = let e = c .before .before in let t = e .before .before .args .table in table-few t (is-good t (good e))
 
 returns-2 : tie.Need-returns-2
+unfolding codewordSays
 returns-2 c =
     let r = c .before .before in
-    let e = r .before .before .before in
-    let a = e .before .before .args in
-    rw (c .refused2 .ensures) (codeword-3 (a .table) (a .character) (good e) (there r (le-ltb _ _ (c .before .if2 .taken))))
+    codeword-refused 3 (rw (good (r .before .before .before), there r (le-ltb _ _ (c .before .if2 .taken)))) (c .refused2 .ensures)
 
 symbols-of-requires : tie.Need-symbols-of-requires
 symbols-of-requires c κs =
@@ -63,8 +64,7 @@ returns-3 c =
     let w = c .before in
     let r = w .before .before .before in
     let e = r .before .before .before in
-    let a = e .before .before .args in
-    codeword-yes (a .table) (a .character) (good e) (there r (lt-ltb _ _ (w .before .before .if2 .left))) (r .rank-of .result) _ _ (r .rank-of .ensures) (w .symbols-of .ensures .0) (w .symbols-of .ensures .1)
+    codeword-yes (codes-is _ _ .0 (true-yes _ (good e), true-yes _ (there r (lt-ltb _ _ (w .before .before .if2 .left))))) (r .rank-of .ensures) (w .symbols-of .ensures .0) (w .symbols-of .ensures .1)
 
 pub codeword-of-spec : {M : Type 1} → statement M
 codeword-of-spec =

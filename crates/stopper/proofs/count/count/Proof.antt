@@ -3,20 +3,26 @@
 use mathlib.Core.Path.{_∙_, ap}
 use native.Mathlib.Omega.{arith}
 use borrow.Author.Needs.{needs}
+use borrow.Author.Tests.{lt-ltb, eq-eqb, ne-eqb}
+use lib.ListN.{length}
 use Rattle.ground.specs.Paper.Limit.{limit}
 use Rattle.ground.specs.Paper.Rows.{zeros}
-use Rattle.stopper.specs.Laws.Operations.{count-2, count-4, count-yes}
+use Rattle.stopper.specs.Paper.Operations.{countSays}
+use Rattle.stopper.specs.Laws.Accepting.{counts-is}
+use Rattle.stopper.specs.Laws.Operations.{count-refused, count-yes}
 use Rattle.stopper.proofs.count.count.Statement.{statement}
 use Rattle.stopper.proofs.count.count.Tie as tie
 
 returns : tie.Need-returns
-returns c = let a = c .before .before .before .args in count-2 (a .text .now) (a .counts .now) (c .if1 .taken)
+unfolding countSays
+returns c = count-refused (rw (ne-eqb _ _ (c .if1 .taken)))
 
 returns-2 : tie.Need-returns-2
+unfolding countSays
 returns-2 c =
     let l = c .before in
-    let a = l .before .before .before .before .args in
-    rw (l .limit .ensures) (count-4 (a .text .now) (a .counts .now) (l .before .if1 .left) (omega (arith, l .limit .ensures, c .if2 .taken)))
+    let text = l .before .before .before .before .args .text .now in
+    rw (l .limit .ensures) (count-refused (rw (eq-eqb _ _ (l .before .if1 .left), lt-ltb limit (length text) (omega (arith, l .limit .ensures, c .if2 .taken)))))
 
 tally-requires : tie.Need-tally-requires
 tally-requires c κs =
@@ -29,8 +35,7 @@ returns-3 c =
     let t = c .before .before in
     let k = t .before .before .before .before in
     let l = k .before .before .before in
-    let a = l .before .before .before .before .args in
-    rw (t .tally .ensures) (count-yes (a .text .now) (a .counts .now) (l .before .if1 .left) (omega (arith, l .limit .ensures, k .before .before .if2 .left)))
+    count-yes (counts-is _ _ .0 (l .before .if1 .left, omega (arith, l .limit .ensures, k .before .before .if2 .left))) (t .tally .ensures)
 
 pub count-spec : {M : Type 1} → statement M
 count-spec =
