@@ -15,17 +15,19 @@ use Rattle.ground.specs.Laws.Tests.{same-test}
 use Rattle.ground.specs.Laws.Rows.{map-drop}
 use Rattle.stopper.specs.Paper.Code.{Good, IsCodeword, stop as stopper, more as continuer, place, codeword}
 use Rattle.stopper.specs.Paper.Reading.{Reading, done, readFrom, write}
-use Rattle.stopper.specs.Paper.Table.{base, stoppers, goodCode, rankIn, characters}
+use Rattle.stopper.specs.Paper.Table.{base, stoppers, goodCode, rankIn, lengthOf, characters}
 use Rattle.stopper.specs.Laws.Ranking.{_∈_}
-use Rattle.stopper.specs.Laws.Reading.{aheads, ahead-done, read-front, read-write, write-append, drop-write}
+use Rattle.stopper.specs.Laws.Reading.{aheads, ahead-done, read-front, read-write, write-append}
 use Rattle.stopper.specs.Laws.Code.{codeword-word, length-codeword}
 use Rattle.stopper.specs.Laws.Table.{one-number, code-good, table-code}
 use Rattle.stopper.specs.declared.code.Code.{Code}
 use Rattle.texts.specs.Paper.Hits.{stands, hits}
 use Rattle.texts.specs.Laws.Characters.{InTable, ranks-below, known-drop}
 use Rattle.texts.specs.Laws.Hits.{stands-ranks, Front, hit-is, stands-front, front-stands}
+use Rattle.texts.specs.Paper.Directory.{startAt}
 use Rattle.sound.specs.Paper.Roll.{textRow, symbolsFor, rowUpto, reading, ranksRead, textOf, Sound}
-use Rattle.sound.specs.Laws.Codewords.{startOf}
+use Rattle.sound.specs.Paper.Lengths.{lengthsOf}
+use Rattle.sound.specs.Laws.Codewords.{start-at, drop-start}
 use Rattle.sound.specs.Laws.Sound.{sound-row, sound-length}
 use Rattle.sound.specs.Laws.Holding.{sound-known, sound-ranked}
 use Rattle.sound.specs.declared.records.Roll.{Roll}
@@ -61,9 +63,9 @@ module _ (c : Code) (g : T (goodCode c)) (l : List ℕ) {p t : List ℕ} (hp : I
       rw map-drop
       (stands-write (base c) (stoppers c) (code-good c g) (length l) (ranks-below l hp) (ranks-below l (known-drop ht i)) ∙ stands-ranks l hp (known-drop ht i))
 
-  pub hit-start : stands (textRow c l p) (drop (startOf c (map (rankIn l) t) i) (textRow c l t)) ≡ stands p (drop i t)
-  unfolding textRow startOf
-  hit-start = rw drop-write hit-word
+  pub hit-start : stands (textRow c l p) (drop (startAt (map (lengthOf c) (map (rankIn l) t)) i) (textRow c l t)) ≡ stands p (drop i t)
+  unfolding textRow
+  hit-start = rw (drop-start c (map (rankIn l) t) i) hit-word
 
 -- ---- where every place has the same number of stoppers, a codeword starts at the first symbol and after each stopper
 
@@ -134,9 +136,9 @@ module _ (r : Roll) (buf : List ℕ) (s : Sound r buf) where
   -- what stands from the start of codeword i on
   pub stands-start : (symbols : List ℕ) (i : ℕ)
       → standsAt (r .table .code) (ranksRead (reading r buf)) symbols i
-      ≡ stands symbols (drop (startOf (r .table .code) (ranksRead (reading r buf)) i) (rowUpto (r .table .code) (r .h) buf))
-  unfolding startOf
-  stands-start symbols i = rw (sound-row r buf s, drop-write)
+      ≡ stands symbols (drop (startAt (lengthsOf r buf) i) (rowUpto (r .table .code) (r .h) buf))
+  unfolding lengthsOf
+  stands-start symbols i = rw (sound-row r buf s, drop-start (r .table .code) (ranksRead (reading r buf)) i)
 
 module _ (r : Roll) (buf : List ℕ) (long : length (r .table .places) ≡ 256) (s : Sound r buf) {p : List ℕ} (k : InTable (characters (r .table)) p) where
   pub hit-rank : (i : ℕ) → standsAt (r .table .code) (ranksRead (reading r buf)) (symbolsFor (r .table) p) i ≡ stands p (drop i (textOf r buf))
@@ -147,8 +149,8 @@ module _ (r : Roll) (buf : List ℕ) (long : length (r .table .places) ≡ 256) 
   -- the packed pattern stands at symbol q, which is the first or stands after a stopper, exactly if q is where a hit starts
   pub hit-symbols : (q : ℕ) → q < r .h → let row : List ℕ = rowUpto (r .table .code) (r .h) buf in
       (T (stands (symbolsFor (r .table) p) (drop q row)) × AfterStopper (r .table .code .s) row q)
-      ↔ ((i : ℕ) × (i ∈ hits p (textOf r buf)) × (q ≡ startOf (r .table .code) (ranksRead (reading r buf)) i))
-  unfolding startOf
+      ↔ ((i : ℕ) × (i ∈ hits p (textOf r buf)) × (q ≡ startAt (lengthsOf r buf) i))
+  unfolding lengthsOf
   hit-symbols q h =
       let c : Code = r .table .code in
       let rs : List ℕ = ranksRead (reading r buf) in
@@ -157,16 +159,16 @@ module _ (r : Roll) (buf : List ℕ) (long : length (r .table .places) ≡ 256) 
       let good : Good (base c) (stoppers c) = code-good c (table-code (r .table) (s .table)) in
       let e : row ≡ write (base c) (stoppers c) rs = sound-row r buf s in
       let many : length rs ≡ length (textOf r buf) = ap length (sound-ranked r buf long s) ∙ length-map (textOf r buf) (rankIn (characters (r .table))) in
-      let there : (i : ℕ) → q ≡ startOf c rs i → stands sy (drop q row) ≡ stands p (drop i (textOf r buf))
+      let there : (i : ℕ) → q ≡ startAt (lengthsOf r buf) i → stands sy (drop q row) ≡ stands p (drop i (textOf r buf))
       = λ i f. ap (λ (n : ℕ). stands sy (drop n row)) f ∙ sym (stands-start r buf s sy i) ∙ hit-rank i in (
         (λ x.
             let (i, k, f) = after-starts (base c) (stoppers c) good (c .s) (one-number c) rs q (omega (arith, ap length e, sound-length r buf s)) (subst (λ (l : List ℕ). AfterStopper (c .s) l q) e (x .1)) in
-            (i, hit-is p (textOf r buf) i .1 (omega arith, subst T (there i f) (x .0)), f)),
+            (i, hit-is p (textOf r buf) i .1 (omega arith, subst T (there i (f ∙ start-at c rs i)) (x .0)), f ∙ start-at c rs i)),
         (λ x.
             let (i, m, f) = x in
             let (k, t) = hit-is p (textOf r buf) i .0 m in (
               subst T (sym (there i f)) t,
               subst (AfterStopper (c .s) row) (sym f)
-                  (subst (λ (l : List ℕ). AfterStopper (c .s) l (startOf c rs i)) (sym e) (starts-after (base c) (stoppers c) good (c .s) (one-number c) rs i (omega arith))),
+                  (subst (λ (l : List ℕ). AfterStopper (c .s) l (startAt (lengthsOf r buf) i)) (sym e) (rw (← start-at c rs i) (starts-after (base c) (stoppers c) good (c .s) (one-number c) rs i (omega arith)))),
             )),
       )

@@ -1,47 +1,33 @@
 -- The directory of a sound roll: an entry is where a codeword starts, and by a right one each codeword is reached.
 -- Assumes nothing.
-use mathlib.Core.Path.{_≡_, refl, sym, ap, _∙_}
-use mathlib.Core.List.{List, [], _∷_, map}
-use Prim.Native.Nat.{ℕ, zero, suc, _+_, _*_, _/_, _%_, _≤_, _<_, _-_}
+use mathlib.Core.Path.{_≡_, sym, ap, _∙_}
+use mathlib.Core.List.{List}
+use Prim.Native.Nat.{ℕ, suc, _+_, _*_, _/_, _%_, _≤_, _<_, _-_}
 use native.Mathlib.Omega.{arith}
 use native.Mathlib.Nat.{le-refl}
-use lib.ListN.{length, take, getD, length-append, length-map, length-take, drop}
+use lib.ListN.{length, take, getD, length-map, length-take, drop}
 use lib.Seq.{take-all, getD-take, take-take, length-take-le}
 use Rattle.ground.specs.Paper.Rows.{tab}
 use Rattle.ground.specs.Paper.Runs.{over, run}
 use Rattle.ground.specs.Helpers.Moved.{laid}
 use Rattle.ground.specs.Laws.Rows.{tab-at, tab-ext}
 use Rattle.ground.specs.Laws.Runs.{run-slice}
-use Rattle.stopper.specs.Paper.Code.{codeword}
-use Rattle.stopper.specs.Paper.Table.{base, stoppers, lengthOf}
+use Rattle.stopper.specs.Paper.Table.{base, stoppers}
 use Rattle.stopper.specs.Paper.Reading.{write}
 use Rattle.stopper.specs.Laws.Table.{table-code}
 use Rattle.stopper.specs.declared.code.Code.{Code}
-use Rattle.texts.specs.Paper.Directory.{entries, sum, startAt, directoryOf, firstWrong}
+use Rattle.texts.specs.Paper.Directory.{entries, startAt, directoryOf, firstWrong}
 use Rattle.texts.specs.Laws.Directory.{entries-upto, entries-before, directory-length, directory-at, entries-inside, none-wrong, wrong-none}
 use Rattle.sound.specs.Paper.Roll.{rowUpto, reading, ranksRead, Sound}
-use Rattle.sound.specs.Helpers.Codewords.{passedFrom}
 use Rattle.sound.specs.Paper.Lengths.{lengthsOf, Right}
+use Rattle.sound.specs.Helpers.Codewords.{passedFrom}
 use Rattle.sound.specs.Helpers.Ends.{Ending, endFrom}
-use Rattle.sound.specs.Laws.Codewords.{startOf, found-word, passed-ranks}
+use Rattle.sound.specs.Laws.Codewords.{start-at, found-word, passed-ranks}
 use Rattle.sound.specs.Laws.Sound.{row-length, sound-length, sound-below, sound-row, sound-found, sound-start}
 use Rattle.sound.specs.Laws.Ends.{sound-end, sound-ends, sound-ending}
 use Rattle.sound.specs.declared.records.Roll.{Roll}
 use Rattle.sound.specs.declared.reading.Passed.{Passed}
 use Rattle.sound.specs.declared.reading.Passed.the-variants.{At}
-
--- the lengths before codeword j together: where it starts
-pub start-at : (c : Code) (rs : List ℕ) (j : ℕ) → startOf c rs j ≡ startAt (map (lengthOf c) rs) j
-unfolding startOf startAt sum write lengthOf
-start-at c rs zero = refl
-start-at c [] (suc j) = refl
-start-at c (r ∷ rs) (suc j) =
-    length-append (codeword (base c) (stoppers c) r) (write (base c) (stoppers c) (take j rs))
-    ∙ ap (λ (n : ℕ). length (codeword (base c) (stoppers c) r) + n) (start-at c rs j)
-
--- entry i of the directory of a row of ranks
-pub entry-at : (c : Code) (rs : List ℕ) (i : ℕ) → i < entries (length rs) → getD (directoryOf (map (lengthOf c) rs)) i 0 ≡ startOf c rs (i * 32)
-entry-at c rs i h = directory-at (map (lengthOf c) rs) i (rw length-map h) ∙ sym (start-at c rs (i * 32))
 
 -- ---- the directory of a sound roll
 
@@ -49,20 +35,24 @@ abbrev ranks : Roll → List ℕ → List ℕ
 ranks r buf = ranksRead (reading r buf)
 
 module _ (r : Roll) (buf : List ℕ) (s : Sound r buf) where
-  pub sound-entries : length (directoryOf (lengthsOf r buf)) ≡ entries (r .n)
+  sound-many : length (lengthsOf r buf) ≡ r .n
   unfolding lengthsOf
-  sound-entries = directory-length (lengthsOf r buf) ∙ ap entries (rw length-map (s .count))
+  sound-many = rw length-map (s .count)
+
+  pub sound-entries : length (directoryOf (lengthsOf r buf)) ≡ entries (r .n)
+  sound-entries = directory-length (lengthsOf r buf) ∙ ap entries sound-many
 
   -- a right directory has them all
   pub right-long : (dir : List ℕ) → Right r buf dir → entries (r .n) ≤ length dir
   right-long dir right = omega (arith, sym (length-take (entries (r .n)) dir) ∙ ap length right ∙ sound-entries)
 
   -- the last codeword ends at symbol h
-  pub sound-last : startOf (r .table .code) (ranks r buf) (r .n) ≡ r .h
-  unfolding startOf
+  pub sound-last : startAt (lengthsOf r buf) (r .n) ≡ r .h
+  unfolding lengthsOf
   sound-last =
       let c = r .table .code in
-      ap (λ (rs : List ℕ). length (write (base c) (stoppers c) rs)) (take-all (r .n) (ranks r buf) (omega (arith, s .count)))
+      sym (start-at c (ranks r buf) (r .n))
+      ∙ ap (λ (rs : List ℕ). length (write (base c) (stoppers c) rs)) (take-all (r .n) (ranks r buf) (omega (arith, s .count)))
       ∙ ap length (sym (sound-row r buf s))
       ∙ sound-length r buf s
 
@@ -76,21 +66,21 @@ module _ (r : Roll) (buf : List ℕ) (s : Sound r buf) (dir : List ℕ) (right :
   row = rowUpto c (r .h) buf
 
   abbrev starts : ℕ → ℕ
-  starts j = startOf c (ranks r buf) j
+  starts j = startAt (lengthsOf r buf) j
 
   pub right-held : place / 32 < length dir
   right-held =
       omega (arith, entries-inside place inside, right-long r buf s dir right)
 
-  pub right-entry : getD dir (place / 32) 0 ≡ starts (place / 32 * 32)
-  unfolding lengthsOf
+  right-entry : getD dir (place / 32) 0 ≡ starts (place / 32 * 32)
   right-entry =
       sym (getD-take (entries (r .n)) dir (place / 32) 0 (entries-inside place inside))
       ∙ ap (λ (l : List ℕ). getD l (place / 32) 0) right
-      ∙ entry-at c (ranks r buf) (place / 32) (rw (s .count) (entries-inside place inside))
+      ∙ directory-at (lengthsOf r buf) (place / 32) (rw (sound-many r buf s) (entries-inside place inside))
 
   -- the codewords from the entry on, up to the place
   pub right-passed : At (starts place) ≡ passedFrom c (r .table .sigma) row (getD dir (place / 32) 0) (place % 32)
+  unfolding lengthsOf
   right-passed =
       let e : place / 32 * 32 + place % 32 ≡ place = omega arith in
       sym (rw (right-entry, sound-row r buf s)
@@ -118,12 +108,11 @@ module _ (r : Roll) (buf : List ℕ) (s : Sound r buf) where
   wanted = directoryOf (lengthsOf r buf)
 
   pub stops-entries : (n : ℕ) → n ≤ r .n → take (entries n) wanted ≡ byStops (r .table .code) buf (entries n)
-  unfolding lengthsOf
   stops-entries n h =
       let l = entries-upto n h in
       tab-ext _ (entries n) (take (entries n) wanted) (length-take-le (entries n) wanted (omega (arith, l, sound-entries r buf s)))
       (λ i k. getD-take (entries n) wanted i 0 k
-      ∙ entry-at (r .table .code) (ranksRead (reading r buf)) i (rw (s .count) (omega arith))
+      ∙ directory-at (lengthsOf r buf) i (rw (sound-many r buf s) (omega arith))
       ∙ sym (sound-end r buf s (i * 32) (omega (arith, entries-before n k))))
 
   -- written up to character n, all of them
@@ -147,7 +136,7 @@ module _ (r : Roll) (buf : List ℕ) (s : Sound r buf) where
         let up : j + (e * 32 - j) ≡ e * 32 = omega arith in
         rw (at, sound-end r buf s j (omega arith))
         (sound-ends r buf s j (e * 32 - j) (omega arith)
-        ∙ ap (startOf (r .table .code) (ranksRead (reading r buf))) up
+        ∙ ap (startAt (lengthsOf r buf)) up
         ∙ sym (sound-end r buf s (e * 32) k))
 
 -- so the directory of a sound roll is right if none of its entries is wrong, and only then

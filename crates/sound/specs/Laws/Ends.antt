@@ -17,11 +17,13 @@ use Rattle.stopper.specs.Paper.Table.{base, stoppers}
 use Rattle.stopper.specs.Paper.Reading.{write}
 use Rattle.stopper.specs.Laws.Code.{codeword-word}
 use Rattle.stopper.specs.Laws.Table.{table-code, code-good}
-use Rattle.stopper.specs.Laws.Reading.{write-append, drop-write}
+use Rattle.stopper.specs.Laws.Reading.{write-append}
 use Rattle.symbols.specs.Paper.Symbols.{symbolsOf}
+use Rattle.texts.specs.Paper.Directory.{sum, startAt}
 use Rattle.sound.specs.Paper.Roll.{reading, ranksRead, Sound}
+use Rattle.sound.specs.Paper.Lengths.{lengthsOf}
 use Rattle.sound.specs.Helpers.Ends.{stops, endOf, symbolsFrom, Ending, endFrom}
-use Rattle.sound.specs.Laws.Codewords.{startOf, start-first, start-upto}
+use Rattle.sound.specs.Laws.Codewords.{start-at, start-upto, drop-start}
 use Rattle.sound.specs.Laws.Sound.{sound-reads, sound-row, sound-start}
 use Rattle.sound.specs.declared.records.Roll.{Roll}
 
@@ -105,41 +107,41 @@ ranks r buf = ranksRead (reading r buf)
 
 module _ (r : Roll) (buf : List ℕ) (s : Sound r buf) where
   -- the symbols of the buffer from codeword j on: the codewords from there on, and what lies behind symbol h
-  sound-from : (j : ℕ) → symbolsFrom (r .table .code) buf (startOf (r .table .code) (ranks r buf) j)
+  sound-from : (j : ℕ) → symbolsFrom (r .table .code) buf (startAt (lengthsOf r buf) j)
       ≡ write (base (r .table .code)) (stoppers (r .table .code)) (drop j (ranks r buf)) ++ drop (r .h) (symbolsOf (r .table .code .k) buf)
-  unfolding startOf
+  unfolding lengthsOf
   sound-from j =
       let c = r .table .code in
-      let p = startOf c (ranks r buf) j in
+      let p = startAt (lengthsOf r buf) j in
       let all = symbolsOf (c .k) buf in
       let words = write (base c) (stoppers c) (ranks r buf) in
       let e : all ≡ words ++ drop (r .h) all = sym (take-append-drop (r .h) all) ∙ ap (λ (l : List ℕ). l ++ drop (r .h) all) (sound-row r buf s) in
       ap (drop p) e
       ∙ drop-append-le p words (drop (r .h) all) (start-upto c (ranks r buf) j)
-      ∙ ap (λ (l : List ℕ). l ++ drop (r .h) all) (drop-write (base c) (stoppers c) (ranks r buf) j)
+      ∙ ap (λ (l : List ℕ). l ++ drop (r .h) all) (drop-start c (ranks r buf) j)
 
   -- so many codewords are left
   left : (j n : ℕ) → j + n ≤ r .n → n ≤ length (drop j (ranks r buf))
   left j n h = omega (arith, length-drop j (ranks r buf), s .count)
 
-  pub sound-stops : (j n : ℕ) → j + n ≤ r .n → n ≤ stops (stoppers (r .table .code)) 0 (symbolsFrom (r .table .code) buf (startOf (r .table .code) (ranks r buf) j))
+  pub sound-stops : (j n : ℕ) → j + n ≤ r .n → n ≤ stops (stoppers (r .table .code)) 0 (symbolsFrom (r .table .code) buf (startAt (lengthsOf r buf) j))
   sound-stops j n h =
       let c = r .table .code in
       rw (sound-from j)
       (write-stops (base c) (stoppers c) (code-good c (table-code (r .table) (s .table))) (drop (r .h) (symbolsOf (c .k) buf)) (drop j (ranks r buf)) n (left j n h))
 
-  pub sound-ends : (j n : ℕ) → j + n ≤ r .n → endFrom (r .table .code) buf (startOf (r .table .code) (ranks r buf) j) n ≡ startOf (r .table .code) (ranks r buf) (j + n)
-  unfolding endFrom startOf
+  pub sound-ends : (j n : ℕ) → j + n ≤ r .n → endFrom (r .table .code) buf (startAt (lengthsOf r buf) j) n ≡ startAt (lengthsOf r buf) (j + n)
+  unfolding endFrom lengthsOf
   sound-ends j n h =
       let c = r .table .code in
       let st = stoppers c in
       let rs = ranks r buf in
-      ap (λ (l : ℕ). startOf c rs j + l)
+      ap (λ (l : ℕ). startAt (lengthsOf r buf) j + l)
       (ap (endOf st n 0) (sound-from j)
       ∙ write-end (base c) st (code-good c (table-code (r .table) (s .table))) (drop (r .h) (symbolsOf (c .k) buf)) (drop j rs) n (left j n h))
-      ∙ sym (rw (take-add j n rs, write-append, length-append))
+      ∙ sym (rw (← start-at c rs (j + n), ← start-at c rs j, take-add j n rs, write-append, length-append))
 
-  pub sound-ending : (j n : ℕ) → j + n ≤ r .n → Ending (r .table .code) buf (startOf (r .table .code) (ranks r buf) j) n
+  pub sound-ending : (j n : ℕ) → j + n ≤ r .n → Ending (r .table .code) buf (startAt (lengthsOf r buf) j) n
   sound-ending j n h =
       record {
         good = table-code (r .table) (s .table);
@@ -149,14 +151,12 @@ module _ (r : Roll) (buf : List ℕ) (s : Sound r buf) where
 
   -- from the first codeword on
   pub sound-first : (n : ℕ) → n ≤ r .n → Ending (r .table .code) buf 0 n
-  sound-first n h = rw (start-first (r .table .code) (ranks r buf)) at (sound-ending 0 n (omega arith))
+  unfolding startAt sum
+  sound-first n h = sound-ending 0 n (omega arith)
 
-  pub sound-end : (i : ℕ) → i ≤ r .n → endFrom (r .table .code) buf 0 i ≡ startOf (r .table .code) (ranks r buf) i
-  sound-end i h =
-      let c = r .table .code in
-      sym (ap (λ (p : ℕ). endFrom c buf p i) (start-first c (ranks r buf)))
-      ∙ sound-ends 0 i (omega arith)
-      ∙ ap (startOf c (ranks r buf)) (zero-add i)
+  pub sound-end : (i : ℕ) → i ≤ r .n → endFrom (r .table .code) buf 0 i ≡ startAt (lengthsOf r buf) i
+  unfolding startAt sum
+  sound-end i h = sound-ends 0 i (omega arith) ∙ ap (startAt (lengthsOf r buf)) (zero-add i)
 
   module _ (i : ℕ) (h : i < r .n) where
     pub sound-one : Ending (r .table .code) buf (endFrom (r .table .code) buf 0 i) 1

@@ -12,8 +12,7 @@ use Rattle.stopper.specs.declared.table.Table.{Table}
 use Rattle.texts.specs.Paper.Directory.{startAt}
 use Rattle.sound.specs.Paper.Roll.{textRow, symbolsFor, reading, ranksRead, textOf, Sound}
 use Rattle.sound.specs.Paper.Lengths.{lengthsOf, lengthsFor}
-use Rattle.sound.specs.Laws.Codewords.{startOf}
-use Rattle.sound.specs.Laws.Directory.{start-at}
+use Rattle.sound.specs.Laws.Codewords.{start-at}
 use Rattle.sound.specs.Laws.Holding.{sound-ranked}
 use Rattle.sound.specs.declared.records.Roll.{Roll}
 
@@ -36,11 +35,8 @@ module _ (r : Roll) (buf : List ℕ) (long : length (r .table .places) ≡ 256) 
   sound-lengths = ap (map (lengthOf c)) (sound-ranked r buf long s) ∙ map-map (lengthOf c) (rankIn l) (textOf r buf)
 
   -- where codeword j starts: behind the symbols of the characters before it
-  pub start-row : (j : ℕ) → startOf c ranks j ≡ length (symbolsFor (r .table) (take j (textOf r buf)))
-  unfolding startOf textRow
-  start-row j =
-      ap (λ (x : List ℕ). length (write (base c) (stoppers c) x)) (ap (take j) (sound-ranked r buf long s) ∙ map-take (rankIn l) j (textOf r buf))
-
   pub start-text : (j : ℕ) → startAt (lengthsOf r buf) j ≡ length (symbolsFor (r .table) (take j (textOf r buf)))
-  unfolding lengthsOf
-  start-text j = sym (start-at c ranks j) ∙ start-row j
+  unfolding lengthsOf textRow
+  start-text j =
+      sym (start-at c ranks j)
+      ∙ ap (λ (x : List ℕ). length (write (base c) (stoppers c) x)) (ap (take j) (sound-ranked r buf long s) ∙ map-take (rankIn l) j (textOf r buf))

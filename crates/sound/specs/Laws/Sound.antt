@@ -17,10 +17,12 @@ use Rattle.stopper.specs.Laws.Reading.{write-read}
 use Rattle.symbols.specs.Paper.Symbols.{room, symbolsOf}
 use Rattle.symbols.specs.Laws.Sizes.{room-limit}
 use Rattle.symbols.specs.Laws.Rows.{symbols-below, room-row}
+use Rattle.texts.specs.Paper.Directory.{startAt}
 use Rattle.sound.specs.Paper.Roll.{rowUpto, readingFrom, reading, ranksRead, textOf, Sound}
+use Rattle.sound.specs.Paper.Lengths.{lengthsOf}
 use Rattle.sound.specs.Helpers.Codewords.{Reads, foundAt}
 use Rattle.sound.specs.Laws.Reading.{whole-is}
-use Rattle.sound.specs.Laws.Codewords.{startOf, found-rank, start-upto}
+use Rattle.sound.specs.Laws.Codewords.{found-rank, start-upto}
 use Rattle.sound.specs.declared.records.Roll.{Roll}
 use Rattle.sound.specs.declared.reading.Found.the-variants.{Word}
 
@@ -75,9 +77,10 @@ module _ (r : Roll) (buf : List ℕ) (s : Sound r buf) where
 
   -- codeword j, and where it starts
   pub sound-found : (j : ℕ) → j < r .n
-      → foundAt (r .table .code) (r .table .sigma) (row r buf) (startOf (r .table .code) (ranks r buf) j)
-      ≡ Word (getD (ranks r buf) j 0) (startOf (r .table .code) (ranks r buf) (suc j))
+      → foundAt (r .table .code) (r .table .sigma) (row r buf) (startAt (lengthsOf r buf) j) ≡ Word (getD (ranks r buf) j 0) (startAt (lengthsOf r buf) (suc j))
+  unfolding lengthsOf
   sound-found j h = rw sound-row (found-rank (r .table .code) (table-code (r .table) (s .table)) (r .table .sigma) sound-below j (omega (arith, s .count)))
 
-  pub sound-start : (j : ℕ) → startOf (r .table .code) (ranks r buf) j ≤ r .h
+  pub sound-start : (j : ℕ) → startAt (lengthsOf r buf) j ≤ r .h
+  unfolding lengthsOf
   sound-start j = omega (arith, start-upto (r .table .code) (ranks r buf) j, ap length sound-row, sound-length)

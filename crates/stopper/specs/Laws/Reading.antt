@@ -10,7 +10,7 @@ use mir.Facts.{yes-ltb, no-ltb}
 use lib.Dec.{ltb, ltb→lt, nltb→le}
 use lib.Arith.{digits-lt}
 use lib.ListN.{length, take, drop, getD, length-append}
-use lib.Seq.{drop-append-add}
+use lib.Seq.{drop-append-add, drop-append-seam}
 use Rattle.ground.specs.Helpers.Below.{Below, none, also}
 use Rattle.ground.specs.Laws.Rows.{below-append}
 use Rattle.ground.specs.Laws.Tests.{cond-yes, cond-no, by-test}
@@ -49,7 +49,7 @@ module _ (m : ℕ) (s : ℕ → ℕ) where
 -- ---- a symbol, place by place
 
 module _ (m : ℕ) (s : ℕ → ℕ) (g : Good m s) (σ : ℕ) where
-  pub read-stop : (from i x y : ℕ) (w : List ℕ) → y < s i → rankAt m s i x y < σ
+  read-stop : (from i x y : ℕ) (w : List ℕ) → y < s i → rankAt m s i x y < σ
       → readFrom m s σ from i x (y ∷ w) ≡ ahead (rankAt m s i x y) (readFrom m s σ (from + suc i) 0 0 w)
   unfolding readFrom
   read-stop from i x y w h k = cond-yes (ltb y (s i)) _ _ (yes-ltb h) ∙ cond-yes (ltb (rankAt m s i x y) σ) _ _ (yes-ltb k)
@@ -111,6 +111,43 @@ module _ (m : ℕ) (s : ℕ → ℕ) (g : Good m s) (σ : ℕ) where
   unfolding opens shorter
   opens-le i = mul-le-mul (omega (arith, le-mul-of-pos-right (opens m s i) (g .low i))) (omega arith)
 
+  -- ---- what stands first is read off, or met
+
+  -- what stands first at place i says of the reading from there
+  unfoldable Met : ℕ → ℕ → ℕ → List ℕ → First → Type 0
+  Met from i x w (whole r n) = (r < σ) × (i < n) × (n ≤ i + length w) × (readFrom m s σ from i x w ≡ ahead r (readFrom m s σ (from + n) 0 0 (drop (n - i) w)))
+  Met from i x w (broken f) = 0 < i + length w → readFrom m s σ from i x w ≡ bad f from []
+
+  met-more : (from i x y : ℕ) (w : List ℕ) (f : First) → s i ≤ y → Met from (suc i) (x * (m - s i) + (y - s i)) w f → Met from i x (y ∷ w) f
+  unfolding Met
+  met-more from i x y w (whole r n) h (k, some, upto, reads) =
+      let o : n - i ≡ suc (n - suc i) = omega arith in
+      (k, omega arith, omega arith, rw o (read-more from i x y w h ∙ reads))
+  met-more from i x y w (broken f) h later = λ _. read-more from i x y w h ∙ later (omega arith)
+
+  met : (w : List ℕ) (from i x : ℕ) → Met from i x w (firstFrom m s σ i x w)
+  unfolding Met firstFrom readFrom
+  met [] from zero x = λ h. absurd (omega arith)
+  met [] from (suc i) x = λ h. refl
+  met (y ∷ w) from i x =
+      by-symbol i x y
+      (λ h k.
+      let o : suc i - i ≡ 1 = omega arith in
+      rw (first-stop i x y w h k) (k, omega arith, omega arith, rw o (read-stop from i x y w h k)))
+      (λ h k. rw (first-stuck i x y w h k) (λ _. read-stuck from i x y w h k))
+      (λ h.
+      let next : ℕ = x * (m - s i) + (y - s i) in
+      rw (first-more i x y w h) (met-more from i x y w (firstFrom m s σ (suc i) next w) h (met w from (suc i) next)))
+
+  pub first-whole : (from : ℕ) (w : List ℕ) {r n : ℕ} → firstWord m s σ w ≡ whole r n
+      → (r < σ) × (0 < n) × (n ≤ length w) × (readFrom m s σ from 0 0 w ≡ ahead r (readFrom m s σ (from + n) 0 0 (drop n w)))
+  unfolding firstWord Met
+  first-whole from w e = let (k, some, upto, reads) = subst (Met from 0 0 w) e (met w from 0 0) in (k, some, omega arith, rw sub-zero at reads)
+
+  pub first-broken : (from : ℕ) (w : List ℕ) {f : Fault} → firstWord m s σ w ≡ broken f → 0 < length w → readFrom m s σ from 0 0 w ≡ bad f from []
+  unfolding firstWord Met
+  first-broken from w e h = subst (Met from 0 0 w) e (met w from 0 0) (omega arith)
+
   -- ---- L6: reading gives back what was written
 
   -- a codeword in front
@@ -121,13 +158,9 @@ module _ (m : ℕ) (s : ℕ → ℕ) (g : Good m s) (σ : ℕ) where
       rw (codeword-at m s g i hx hy, spell-append, length-spell, add-one) (first-spell i x (y ∷ w) hx ∙ first-stop i x y w hy h)) r
 
   -- is read off
-  pub read-codeword : (from r : ℕ) (w : List ℕ) → r < σ
+  read-codeword : (from r : ℕ) (w : List ℕ) → r < σ
       → readFrom m s σ from 0 0 (codeword m s r ++ w) ≡ ahead r (readFrom m s σ (from + length (codeword m s r)) 0 0 w)
-  read-codeword from r w =
-      by-parts m s g (λ r. r < σ → readFrom m s σ from 0 0 (codeword m s r ++ w) ≡ ahead r (readFrom m s σ (from + length (codeword m s r)) 0 0 w))
-      (λ i x y hx hy h.
-      rw (codeword-at m s g i hx hy, spell-append, length-spell, add-one)
-      (through m s g (readFrom m s σ from) (λ i x y w a _. read-more from i x y w a) i x (y ∷ w) hx ∙ read-stop from i x y w hy h)) r
+  read-codeword from r w h = rw drop-append-seam at (first-whole from (codeword m s r ++ w) (first-codeword r w h) .3)
 
   -- codewords in front are read off
   pub read-front : (from : ℕ) {rs : List ℕ} → Below σ rs → (w : List ℕ)
@@ -213,43 +246,6 @@ module _ (m : ℕ) (s : ℕ → ℕ) (g : Good m s) (σ : ℕ) where
   pub beyond-word : {w : List ℕ} → Below m w → firstWord m s σ w ≡ broken beyond → (r : ℕ) × (v : List ℕ) × (σ ≤ r) × (codeword m s r ++ v ≡ w)
   unfolding firstWord spell opens
   beyond-word {w} h e = first-high w h 0 0 (omega arith) e
-
-  -- ---- what stands first is read off, or met
-
-  -- what stands first at place i says of the reading from there
-  unfoldable Met : ℕ → ℕ → ℕ → List ℕ → First → Type 0
-  Met from i x w (whole r n) = (r < σ) × (i < n) × (n ≤ i + length w) × (readFrom m s σ from i x w ≡ ahead r (readFrom m s σ (from + n) 0 0 (drop (n - i) w)))
-  Met from i x w (broken f) = 0 < i + length w → readFrom m s σ from i x w ≡ bad f from []
-
-  met-more : (from i x y : ℕ) (w : List ℕ) (f : First) → s i ≤ y → Met from (suc i) (x * (m - s i) + (y - s i)) w f → Met from i x (y ∷ w) f
-  unfolding Met
-  met-more from i x y w (whole r n) h (k, some, upto, reads) =
-      let o : n - i ≡ suc (n - suc i) = omega arith in
-      (k, omega arith, omega arith, rw o (read-more from i x y w h ∙ reads))
-  met-more from i x y w (broken f) h later = λ _. read-more from i x y w h ∙ later (omega arith)
-
-  met : (w : List ℕ) (from i x : ℕ) → Met from i x w (firstFrom m s σ i x w)
-  unfolding Met firstFrom readFrom
-  met [] from zero x = λ h. absurd (omega arith)
-  met [] from (suc i) x = λ h. refl
-  met (y ∷ w) from i x =
-      by-symbol i x y
-      (λ h k.
-      let o : suc i - i ≡ 1 = omega arith in
-      rw (first-stop i x y w h k) (k, omega arith, omega arith, rw o (read-stop from i x y w h k)))
-      (λ h k. rw (first-stuck i x y w h k) (λ _. read-stuck from i x y w h k))
-      (λ h.
-      let next : ℕ = x * (m - s i) + (y - s i) in
-      rw (first-more i x y w h) (met-more from i x y w (firstFrom m s σ (suc i) next w) h (met w from (suc i) next)))
-
-  pub first-whole : (from : ℕ) (w : List ℕ) {r n : ℕ} → firstWord m s σ w ≡ whole r n
-      → (r < σ) × (0 < n) × (n ≤ length w) × (readFrom m s σ from 0 0 w ≡ ahead r (readFrom m s σ (from + n) 0 0 (drop n w)))
-  unfolding firstWord Met
-  first-whole from w e = let (k, some, upto, reads) = subst (Met from 0 0 w) e (met w from 0 0) in (k, some, omega arith, rw sub-zero at reads)
-
-  pub first-broken : (from : ℕ) (w : List ℕ) {f : Fault} → firstWord m s σ w ≡ broken f → 0 < length w → readFrom m s σ from 0 0 w ≡ bad f from []
-  unfolding firstWord Met
-  first-broken from w e h = subst (Met from 0 0 w) e (met w from 0 0) (omega arith)
 
 -- what is written is symbols
 module _ (m : ℕ) (s : ℕ → ℕ) (g : Good m s) where

@@ -12,13 +12,13 @@ use Rattle.ground.specs.Laws.Rows.{map-drop, map-take}
 use Rattle.stopper.specs.Paper.Table.{characters, rankIn, lengthOf}
 use Rattle.stopper.specs.declared.code.Code.{Code}
 use Rattle.stopper.specs.declared.table.Table.{Table}
+use Rattle.texts.specs.Paper.Directory.{startAt}
 use Rattle.texts.specs.Paper.Edited.{edited}
-use Rattle.sound.specs.Paper.Roll.{textRow, reading, ranksRead, textOf, Sound}
-use Rattle.sound.specs.Paper.Lengths.{lengthsFor}
-use Rattle.sound.specs.Laws.Codewords.{startOf}
+use Rattle.sound.specs.Paper.Roll.{textRow, textOf, Sound}
+use Rattle.sound.specs.Paper.Lengths.{lengthsOf, lengthsFor}
 use Rattle.sound.specs.Laws.Sound.{text-length}
 use Rattle.sound.specs.Laws.Texts.{text-append, text-take, text-drop, length-parts}
-use Rattle.sound.specs.Laws.Lengths.{start-row}
+use Rattle.sound.specs.Laws.Lengths.{start-text}
 use Rattle.sound.specs.declared.records.Roll.{Roll}
 use Rattle.store.specs.Paper.Fitting.{firstOver}
 use Rattle.store.specs.Laws.Fitting.{over-one, over-front, over-behind}
@@ -69,25 +69,22 @@ module _ (r : Roll) (buf : List ℕ) (long : length (r .table .places) ≡ 256) 
   abbrev l : List ℕ
   l = characters (r .table)
 
-  abbrev ranks : List ℕ
-  ranks = ranksRead (reading r buf)
-
   -- the first character from `from` on that does not fit
-  pub over-from : (room from j : ℕ) → from ≤ j → j ≤ r .n → startOf c ranks j ≤ room + startOf c ranks from
-      → (j < r .n → room + startOf c ranks from < startOf c ranks (suc j)) → j ≡ from + firstOver c l room (drop from (textOf r buf))
+  pub over-from : (room from j : ℕ) → from ≤ j → j ≤ r .n → startAt (lengthsOf r buf) j ≤ room + startAt (lengthsOf r buf) from
+      → (j < r .n → room + startAt (lengthsOf r buf) from < startAt (lengthsOf r buf) (suc j)) → j ≡ from + firstOver c l room (drop from (textOf r buf))
   over-from room from j a b fits past =
       let text : List ℕ = textOf r buf in
-      let part : (i : ℕ) → startOf c ranks (from + i) ≡ startOf c ranks from + length (textRow c l (take i (drop from text)))
+      let part : (i : ℕ) → startAt (lengthsOf r buf) (from + i) ≡ startAt (lengthsOf r buf) from + length (textRow c l (take i (drop from text)))
       = λ i.
-      start-row r buf long s (from + i)
+      start-text r buf long s (from + i)
       ∙ ap (λ (x : List ℕ). length (textRow c l x)) (take-add from i text)
       ∙ length-parts c l (take from text) (take i (drop from text))
-      ∙ ap (λ (n : ℕ). n + length (textRow c l (take i (drop from text)))) (sym (start-row r buf long s from)) in
+      ∙ ap (λ (n : ℕ). n + length (textRow c l (take i (drop from text)))) (sym (start-text r buf long s from)) in
       let size : length (drop from text) ≡ r .n - from = length-drop from text ∙ ap (λ (n : ℕ). n - from) (text-length s) in
       let here : from + (j - from) ≡ j = omega arith in
       let next : from + suc (j - from) ≡ suc j = omega arith in
       let e : j - from ≡ firstOver c l room (drop from text)
       = over-one c l room (drop from text) (j - from) (omega arith)
-      (omega (arith, part (j - from), ap (startOf c ranks) here))
-      (λ k. omega (arith, part (suc (j - from)), ap (startOf c ranks) next, past (omega arith))) in
+      (omega (arith, part (j - from), ap (startAt (lengthsOf r buf)) here))
+      (λ k. omega (arith, part (suc (j - from)), ap (startAt (lengthsOf r buf)) next, past (omega arith))) in
       omega arith

@@ -1,15 +1,13 @@
 -- `sound::lookup::start_of` meets its contract.
 -- Assumes nothing.
 use mathlib.Core.Path.{_≡_, sym, ap, _∙_}
-use mathlib.Core.List.{List}
 use Prim.Native.Nat.{ℕ, _/_}
 use native.Mathlib.Omega.{arith}
 use borrow.Author.Needs.{needs}
-use Rattle.sound.specs.Paper.Roll.{reading, ranksRead}
+use Rattle.texts.specs.Paper.Directory.{startAt}
 use Rattle.sound.specs.Paper.Lengths.{lengthsOf}
-use Rattle.sound.specs.Laws.Codewords.{startOf}
 use Rattle.sound.specs.Laws.Sound.{sound-reads}
-use Rattle.sound.specs.Laws.Directory.{start-at, sound-last, right-held, right-passed, right-before}
+use Rattle.sound.specs.Laws.Directory.{sound-last, right-held, right-passed, right-before}
 use Rattle.sound.specs.declared.reading.Passed.the-variants.{At}
 use Rattle.sound.proofs.lookup.start_of.Statement.{statement}
 use Rattle.sound.proofs.lookup.start_of.Tie as tie
@@ -24,23 +22,17 @@ tabled c = c .before .before .before .before
 abbrev start : tie.After-shared-slice-known3 → tie.Start
 start c = begun (tabled c .before)
 
-abbrev ranks : tie.Start → List ℕ
-ranks s = ranksRead (reading (s .args .roll) (s .args .buf .now))
-
 -- character j starts behind those before it
-passed-is : (c : tie.After-pass-over) → let s = start (c .before) in c .pass-over .result ≡ At (startOf (s .args .roll .table .code) (ranks s) (s .args .j))
+passed-is : (c : tie.After-pass-over) → let s = start (c .before) in c .pass-over .result ≡ At (startAt (lengthsOf (s .args .roll) (s .args .buf .now)) (s .args .j))
 passed-is c =
     let s = start (c .before) in
     c .pass-over .ensures ∙ sym (right-passed (s .args .roll) (s .args .buf .now) (s .pre .0) (s .args .dir .now) (s .pre .1) (s .args .j) (tabled (c .before) .if1 .left))
 
 returns : tie.Need-returns
-unfolding lengthsOf
 returns c =
     let s = begun (c .before) in
     let e : s .args .roll .n ≡ s .args .j = omega arith in
-    sym (sound-last (s .args .roll) (s .args .buf .now) (s .pre .0))
-    ∙ ap (startOf (s .args .roll .table .code) (ranks s)) e
-    ∙ start-at (s .args .roll .table .code) (ranks s) (s .args .j)
+    sym (sound-last (s .args .roll) (s .args .buf .now) (s .pre .0)) ∙ ap (startAt (lengthsOf (s .args .roll) (s .args .buf .now))) e
 
 shared-slice-read-pass-over : tie.Need-shared-slice-read-pass-over
 shared-slice-read-pass-over c =
@@ -62,13 +54,10 @@ returns-2 c =
     absurd (omega arith)
 
 returns-3 : tie.Need-returns-3
-unfolding lengthsOf
 returns-3 c =
     let p = c .before .before .before in
-    let s = start (p .before) in
     let e = sym (c .before .passed .given .1) ∙ passed-is p in
-    let n : c .before .passed .given .0 .0 ≡ startOf (s .args .roll .table .code) (ranks s) (s .args .j) = cc in
-    n ∙ start-at (s .args .roll .table .code) (ranks s) (s .args .j)
+    cc
 
 pub start-of-spec : {M : Type 1} → statement M
 start-of-spec =

@@ -12,11 +12,13 @@ use lib.ListN.{length, take, drop, getD, set, length-map, length-drop}
 use lib.Seq.{getD-drop}
 use Rattle.ground.specs.Laws.Rows.{map-at, below-at}
 use Rattle.ground.specs.Laws.Runs.{front-length, front-more}
+use Rattle.stopper.specs.Paper.Table.{lengthOf}
 use Rattle.stopper.specs.Laws.Table.{table-code, table-few}
 use Rattle.stopper.specs.declared.code.Code.{Code}
+use Rattle.texts.specs.Paper.Directory.{startAt}
 use Rattle.sound.specs.Paper.Roll.{rowUpto, readRow, readingFrom, ranksRead, textOf}
+use Rattle.sound.specs.Paper.Lengths.{lengthsOf}
 use Rattle.sound.specs.Helpers.Codewords.{foundAt}
-use Rattle.sound.specs.Laws.Codewords.{startOf}
 use Rattle.sound.specs.Laws.Sound.{sound-reads, sound-below, sound-found, sound-start}
 use Rattle.sound.specs.Laws.Ends.{sound-end, sound-first}
 use Rattle.sound.specs.declared.reading.Found.the-variants.{Word}
@@ -33,7 +35,7 @@ characters places rs = map (λ rank. getD places rank 0) rs
 abbrev Inv-loop : tie.InvT-loop
 Inv-loop buf start end out₀ code sigma places h first p₀ i₀ out p i =
     (i ≤ end - start)
-    × (p ≡ startOf code (ranks code sigma buf h) (start + i))
+    × (p ≡ startAt (map (lengthOf code) (ranks code sigma buf h)) (start + i))
     × (out ≡ take i (drop start (characters places (ranks code sigma buf h))) ++ drop i out₀)
 
 abbrev μ-loop : tie.MeasureT-loop
@@ -61,8 +63,8 @@ long s = length-drop (s .args .start) _ ∙ rw (length-map, many s)
 
 -- where character `start` starts
 first-is : (c : tie.After-pass-ends Inv-loop μ-loop) → let s = begun (c .before .before .before) in
-    c .pass-ends .result ≡ startOf (s .args .roll .table .code) (rs s) (s .args .start)
-unfolding readingFrom
+    c .pass-ends .result ≡ startAt (map (lengthOf (s .args .roll .table .code)) (rs s)) (s .args .start)
+unfolding readingFrom lengthsOf
 first-is c =
     let s = begun (c .before .before .before) in
     c .pass-ends .ensures ∙ sound-end (s .args .roll) (s .args .buf .now) (s .pre .0) (s .args .start) (omega (arith, s .pre .1, s .pre .2))
@@ -73,8 +75,8 @@ inside c = let s = entered (c .before) in omega (arith, s .pre .1, s .pre .2, c 
 
 found-is : (c : tie.After-codeword-at Inv-loop μ-loop) → let l = c .before .before in let s = entered l in
     c .codeword-at .result
-    ≡ Word (getD (rs s) (s .args .start + l .loop .i) 0) (startOf (s .args .roll .table .code) (rs s) (suc (s .args .start + l .loop .i)))
-unfolding readingFrom
+    ≡ Word (getD (rs s) (s .args .start + l .loop .i) 0) (startAt (map (lengthOf (s .args .roll .table .code)) (rs s)) (suc (s .args .start + l .loop .i)))
+unfolding readingFrom lengthsOf
 found-is c =
     let l = c .before .before in
     let s = entered l in
@@ -88,7 +90,7 @@ rank-is : (c : tie.After-found Inv-loop μ-loop) → let l = c .before .before .
 rank-is c = let e = sym (c .found .given .1) ∙ found-is (c .before .before) in cc
 
 next-is : (c : tie.After-found Inv-loop μ-loop) → let l = c .before .before .before .before in let s = entered l in
-    c .found .given .0 .1 .0 ≡ startOf (s .args .roll .table .code) (rs s) (suc (s .args .start + l .loop .i))
+    c .found .given .0 .1 .0 ≡ startAt (map (lengthOf (s .args .roll .table .code)) (rs s)) (suc (s .args .start + l .loop .i))
 next-is c = let e = sym (c .found .given .1) ∙ found-is (c .before .before) in cc
 
 -- its character, written
@@ -127,7 +129,7 @@ sub-loop : tie.Need-sub-loop Inv-loop μ-loop
 sub-loop c = entered c .pre .1
 
 codeword-at-requires : tie.Need-codeword-at-requires Inv-loop μ-loop
-unfolding readingFrom
+unfolding readingFrom lengthsOf
 codeword-at-requires c κs =
     let l = c .before in
     let s = entered l in

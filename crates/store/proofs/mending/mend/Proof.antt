@@ -13,12 +13,10 @@ use Rattle.ground.specs.Laws.Runs.{laid-none, laid-length, laid-more}
 use Rattle.stopper.specs.Laws.Table.{table-code}
 use Rattle.texts.specs.Paper.Directory.{entries}
 use Rattle.texts.specs.Laws.Directory.{entries-upto, entries-before, entries-behind}
-use Rattle.sound.specs.Paper.Roll.{reading, ranksRead}
-use Rattle.sound.specs.Paper.Lengths.{lengthsOf}
 use Rattle.sound.specs.Helpers.Ends.{endFrom}
 use Rattle.sound.specs.Laws.Sound.{sound-reads, sound-start}
 use Rattle.sound.specs.Laws.Ends.{sound-end}
-use Rattle.sound.specs.Laws.Directory.{start-at, byStops, stops-entry, stops-laid, entry-ending, entry-ends}
+use Rattle.sound.specs.Laws.Directory.{byStops, stops-entry, stops-laid, entry-ending, entry-ends}
 use Rattle.store.proofs.mending.mend.Statement.{statement}
 use Rattle.store.proofs.mending.mend.Tie as tie
 
@@ -78,7 +76,6 @@ stops-by-byte-requires : tie.Need-stops-by-byte-requires Inv-loop μ-loop
 stops-by-byte-requires c κs = let s = c .before .before .before .before in table-code (s .args .roll .table) (s .pre .0 .table)
 
 loop-holds : tie.Need-loop-holds Inv-loop μ-loop
-unfolding lengthsOf
 loop-holds c =
     let s = c .before .before .before .before .before .before .before in
     let from = s .args .from in
@@ -86,8 +83,7 @@ loop-holds c =
       omega (arith, e),
       omega (arith, e, c .before .entries-for .ensures, entries-upto from (s .pre .1)),
       omega (arith, e, entries-behind from 0),
-      s .pre .4 ∙ sym (start-at (s .args .roll .table .code) (ranksRead (reading (s .args .roll) (s .args .buf .now))) from)
-          ∙ sym (sound-end (s .args .roll) (s .args .buf .now) (s .pre .0) from (omega (arith, s .pre .1, s .pre .2))),
+      s .pre .4 ∙ sym (sound-end (s .args .roll) (s .args .buf .now) (s .pre .0) from (omega (arith, s .pre .1, s .pre .2))),
       sym (ap (laid (s .args .dir .now) _ (entries from)) e ∙ laid-none (s .args .dir .now) _ (entries from)),
     )
 

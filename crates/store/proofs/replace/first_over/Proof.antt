@@ -8,11 +8,11 @@ use native.Mathlib.Omega.{arith}
 use borrow.Author.Needs.{needs}
 use lib.ListN.{length, drop}
 use Rattle.stopper.specs.Paper.Table.{characters}
+use Rattle.texts.specs.Paper.Directory.{startAt}
 use Rattle.sound.specs.Paper.Roll.{reading, ranksRead, textOf}
 use Rattle.sound.specs.Paper.Lengths.{lengthsOf}
 use Rattle.sound.specs.Helpers.Ends.{endFrom}
-use Rattle.sound.specs.Laws.Codewords.{startOf, start-next}
-use Rattle.sound.specs.Laws.Directory.{start-at}
+use Rattle.sound.specs.Laws.Codewords.{start-next}
 use Rattle.sound.specs.Laws.Ends.{sound-end, sound-one, sound-next}
 use Rattle.store.specs.Paper.Fitting.{firstOver}
 use Rattle.store.specs.Laws.Editing.{over-from}
@@ -38,14 +38,10 @@ entered c = begun (c .before)
 
 -- where codeword j starts
 abbrev starts : tie.Start Inv-loop μ-loop → ℕ → ℕ
-starts s j = startOf (s .args .roll .table .code) (ranksRead (reading (s .args .roll) (s .args .buf .now))) j
+starts s j = startAt (lengthsOf (s .args .roll) (s .args .buf .now)) j
 
 long : (s : tie.Start Inv-loop μ-loop) → length (s .args .roll .table .places) ≡ 256
 long s = search needs
-
-first-is : (s : tie.Start Inv-loop μ-loop) → s .args .first ≡ starts s (s .args .from)
-unfolding lengthsOf
-first-is s = s .pre .2 ∙ sym (start-at (s .args .roll .table .code) (ranksRead (reading (s .args .roll) (s .args .buf .now))) (s .args .from))
 
 -- codeword j starts at the symbol in hand, and the next one where `end_at` says
 here : (l : tie.At-loop Inv-loop μ-loop) → l .loop .p ≡ starts (entered l) (l .loop .j)
@@ -69,6 +65,7 @@ next-starts c =
 
 -- no codeword starts before the one before it
 later : (s : tie.Start Inv-loop μ-loop) (j : ℕ) → j < s .args .roll .n → starts s j ≤ starts s (suc j)
+unfolding lengthsOf
 later s j h =
     omega (
       arith,
@@ -81,13 +78,13 @@ ends : (s : tie.Start Inv-loop μ-loop) (j : ℕ) → s .args .from ≤ j → j 
     → j ≡ s .args .from + firstOver (s .args .roll .table .code) (characters (s .args .roll .table)) (s .args .room) (drop (s .args .from) (textOf (s .args .roll) (s .args .buf .now)))
 ends s j a b fits past =
     over-from (s .args .roll) (s .args .buf .now) (long s) (s .pre .0) (s .args .room) (s .args .from) j a b
-    (omega (arith, fits, first-is s))
-    (λ h. omega (arith, past h, first-is s))
+    (omega (arith, fits, s .pre .2))
+    (λ h. omega (arith, past h, s .pre .2))
 
 loop-holds : tie.Need-loop-holds Inv-loop μ-loop
 loop-holds c =
     let s = begun c in
-    (omega arith, s .pre .1, first-is s ∙ sym (sound-end (s .args .roll) (s .args .buf .now) (s .pre .0) (s .args .from) (s .pre .1)), refl)
+    (omega arith, s .pre .1, s .pre .2 ∙ sym (sound-end (s .args .roll) (s .args .buf .now) (s .pre .0) (s .args .from) (s .pre .1)), refl)
 
 end-at-requires : tie.Need-end-at-requires Inv-loop μ-loop
 end-at-requires c κs =
