@@ -1,6 +1,6 @@
 -- The promises: a law for a refused call and one for an accepted call.
 -- Assumes nothing.
-use mathlib.Core.Path.{_≡_, refl, sym, _∙_}
+use mathlib.Core.Path.{_≡_, refl, sym}
 use mathlib.Core.Logic.{_≢_}
 use mathlib.Core.Bool.{true, false, not}
 use mathlib.Core.List.{List, [], _∷_, _++_}
@@ -35,40 +35,20 @@ use Rattle.store.specs.Paper.Fitting.{firstOver}
 use Rattle.store.specs.Paper.Stored.{packedInto, bytesAfter, directoryAfter}
 use Rattle.roll.specs.Paper.Operations.{packSays, Packing, checkSays, Checking, unpackSays, Unpacking, makeSays, Making, searchSays, Searching, DirectoryChecked, editSays, Editing}
 use Rattle.roll.specs.Helpers.Refused.{refusedPack, refusedEdit}
-use Rattle.roll.specs.Laws.Accepting.{accepted-sound, Unpacks, unpacks-accepted, makes-is, searches-is, right-accepted, accepted-right}
+use Rattle.roll.specs.Laws.Accepting.{accepted-sound, Packs, packs-accepted, Unpacks, unpacks-accepted, makes-is, searches-is, right-accepted, accepted-right}
 use Rattle.roll.specs.declared.pack.Packed.{Packed}
 use Rattle.roll.specs.declared.edit.Edited.{Edited}
 
 -- ---- pack
 
-module _ (t : Table) (text buf : List ℕ) where
-  abbrev foreign : ℕ
-  foreign = firstForeign (characters t) text
-
-  pack-refused : {r : Packed} (n v : ℕ) → packSays t text buf ≡ refused n v → r ≡ refusedPack t n v → Packing t text buf r buf
+module _ {t : Table} {text buf : List ℕ} where
+  pub pack-refused : {r : Packed} (n v : ℕ) → packSays t text buf ≡ refused n v → r ≡ refusedPack t n v → Packing t text buf r buf
   unfolding refusedPack
   pack-refused n v e p = rw p (record { says = sym e; roll = rw e; leaves = rw e })
 
-  pub pack-1 : {r : Packed} → goodTable t ≡ false → r ≡ refusedPack t 1 0 → Packing t text buf r buf
-  unfolding packSays
-  pack-1 g = pack-refused 1 0 (rw g)
-
-  module _ (g : goodTable t ≡ true) where
-    pub pack-3 : {r : Packed} {v : ℕ} → v ≡ foreign → v < length text → r ≡ refusedPack t 3 v → Packing t text buf r buf
-    unfolding packSays
-    pack-3 {v = v} f h = pack-refused 3 v (rw (f, g, lt-ltb _ _ (rw f at h)))
-
-    module _ (f : foreign ≡ length text) where
-      pub pack-4 : {r : Packed} {v : ℕ} → v ≡ firstOver (t .code) (characters t) (room (t .code .k) (length buf)) text → v < length text → r ≡ refusedPack t 4 v → Packing t text buf r buf
-      unfolding packSays
-      pack-4 {v = v} o h = pack-refused 4 v (rw (o, g, le-ltb _ _ (le-of-eq (sym f)), lt-ltb _ _ (rw o at h)))
-
-      pub pack-yes : firstOver (t .code) (characters t) (room (t .code .k) (length buf)) text ≡ length text → {q : Roll} → q ≡ recordOf t text
-          → {after : List ℕ} → after ≡ packedInto (t .code .k) (symbolsFor t text) buf → Packing t text buf (record { answer = Yes; roll = q }) after
-      unfolding packSays
-      pack-yes o p q =
-          let e : Accepted (packSays t text buf) = rw (g, le-ltb _ _ (le-of-eq (sym f)), le-ltb _ _ (le-of-eq (sym o))) in
-          record { says = rw e; roll = rw e p; leaves = rw e q }
+  pub pack-yes : {q : Roll} {after : List ℕ} → Packs t text buf → q ≡ recordOf t text → after ≡ packedInto (t .code .k) (symbolsFor t text) buf
+      → Packing t text buf (record { answer = Yes; roll = q }) after
+  pack-yes u p q = let e = packs-accepted t text buf u in record { says = sym e; roll = rw e p; leaves = rw e q }
 
 -- ---- check
 
@@ -140,7 +120,8 @@ pub edit-refused : {r : Roll} {buf dir : List ℕ} {start end : ℕ} {text : Lis
 unfolding refusedEdit
 edit-refused n v e p = rw p (record { says = sym e; roll = rw e; leaves = rw e; mends = rw e })
 
-module _ (r : Roll) (buf dir : List ℕ) (start end : ℕ) (text : List ℕ) where
+module _ (r : Roll) (buf dir : List ℕ) (start end : ℕ) (text : List ℕ) (s : Sound r buf) (right : Right r buf dir) (a : start ≤ end) (b : end ≤ r .n)
+    (f : firstForeign (characters (r .table)) text ≡ length text) where
   -- the edited text, and where it does not fit
   abbrev new : List ℕ
   new = edited (textOf r buf) start end text
@@ -148,30 +129,17 @@ module _ (r : Roll) (buf dir : List ℕ) (start end : ℕ) (text : List ℕ) whe
   abbrev full : ℕ
   full = firstOver (r .table .code) (characters (r .table)) (room (r .table .code .k) (length buf)) new
 
-  module _ (s : Sound r buf) (right : Right r buf dir) (a : start ≤ end) (b : end ≤ r .n) where
-    pub edit-3 : {e : Edited} {v : ℕ} → v ≡ firstForeign (characters (r .table)) text → v < length text → e ≡ refusedEdit r 3 v
-        → Editing r buf dir start end text e buf dir
-    unfolding editSays
-    edit-3 {v = v} p h = edit-refused 3 v (rw (p, right-accepted r buf dir s right, le-ltb _ _ a, le-ltb _ _ b, lt-ltb _ _ (rw p at h)))
+  pub edit-4 : {e : Edited} {v : ℕ} → v ≡ full → v < length new → e ≡ refusedEdit r 4 v → Editing r buf dir start end text e buf dir
+  unfolding editSays
+  edit-4 {v = v} p h =
+      edit-refused 4 v (rw (p, right-accepted r buf dir s right, le-ltb _ _ a, le-ltb _ _ b, le-ltb _ _ (le-of-eq (sym f)), lt-ltb _ _ (rw p at h)))
 
-    module _ (f : firstForeign (characters (r .table)) text ≡ length text) where
-      pub edit-4 : {e : Edited} {v : ℕ} → v ≡ full → v < length new → e ≡ refusedEdit r 4 v → Editing r buf dir start end text e buf dir
-      unfolding editSays
-      edit-4 {v = v} p h =
-          edit-refused 4 v (rw (p, right-accepted r buf dir s right, le-ltb _ _ a, le-ltb _ _ b, le-ltb _ _ (le-of-eq (sym f)), lt-ltb _ _ (rw p at h)))
+  -- the last row decides
+  pub edit-last : full ≡ length new → editSays r buf dir start end text ≡ judged (refuse 12 (entries (length new)) (ltb (length dir) (entries (length new))) ∷ []) tt
+  unfolding editSays
+  edit-last o = rw (right-accepted r buf dir s right, le-ltb _ _ a, le-ltb _ _ b, le-ltb _ _ (le-of-eq (sym f)), le-ltb _ _ (le-of-eq (sym o)))
 
-      module _ (o : full ≡ length new) where
-        -- the last row decides
-        edit-last : editSays r buf dir start end text ≡ judged (refuse 12 (entries (length new)) (ltb (length dir) (entries (length new))) ∷ []) tt
-        unfolding editSays
-        edit-last = rw (right-accepted r buf dir s right, le-ltb _ _ a, le-ltb _ _ b, le-ltb _ _ (le-of-eq (sym f)), le-ltb _ _ (le-of-eq (sym o)))
-
-        pub edit-12 : {e : Edited} {v : ℕ} → v ≡ entries (length new) → length dir < v → e ≡ refusedEdit r 12 v → Editing r buf dir start end text e buf dir
-        edit-12 {v = v} p h = edit-refused 12 v (edit-last ∙ rw (p, lt-ltb _ _ (rw p at h)))
-
-        pub edit-yes : {e : Edited} {q : Roll} {after behind : List ℕ} → entries (length new) ≤ length dir
-            → e ≡ record { answer = Yes; roll = q } → q ≡ recordOf (r .table) new
-            → after ≡ bytesAfter r new buf → behind ≡ directoryAfter r new dir → Editing r buf dir start end text e after behind
-        edit-yes h p q x y =
-            let e : Accepted (editSays r buf dir start end text) = edit-last ∙ rw (le-ltb _ _ h) in
-            rw p (record { says = sym e; roll = rw e q; leaves = rw e x; mends = rw e y })
+pub edit-yes : {r : Roll} {buf dir : List ℕ} {start end : ℕ} {text : List ℕ} {q : Roll} {after behind : List ℕ} → let new = edited (textOf r buf) start end text in
+    Accepted (editSays r buf dir start end text) → q ≡ recordOf (r .table) new → after ≡ bytesAfter r new buf → behind ≡ directoryAfter r new dir
+    → Editing r buf dir start end text (record { answer = Yes; roll = q }) after behind
+edit-yes e p q o = record { says = sym e; roll = rw e p; leaves = rw e q; mends = rw e o }

@@ -4,6 +4,7 @@ use mathlib.Core.Path.{_≡_, refl, subst}
 use Prim.Native.Nat.{ℕ, _-_}
 use native.Mathlib.Omega.{arith}
 use borrow.Author.Needs.{needs}
+use borrow.Author.Tests.{lt-ltb, le-ltb}
 use lib.ListN.{length, length-replicate}
 use Rattle.ground.specs.Paper.Rows.{zeros}
 use Rattle.stopper.specs.Laws.Table.{table-code, code-width}
@@ -13,7 +14,9 @@ use Rattle.store.specs.Helpers.Replacing.{Located}
 use Rattle.store.specs.Laws.Changing.{first-room, over-text, over-text-few, over-text-within}
 use Rattle.store.specs.declared.measure.Extent.{Extent}
 use Rattle.store.specs.declared.measure.Extent.the-variants.{Fits, Foreign, Over}
-use Rattle.roll.specs.Laws.Operations.{edit-3, edit-4}
+use Rattle.roll.specs.Paper.Operations.{editSays}
+use Rattle.roll.specs.Laws.Accepting.{right-accepted}
+use Rattle.roll.specs.Laws.Operations.{edit-refused, edit-4}
 use Rattle.roll.proofs.edit.change.Statement.{statement}
 use Rattle.roll.proofs.edit.change.Tie as tie
 
@@ -59,14 +62,13 @@ extent-is m x e =
     (subst (Measured (a .roll .table) (roomed m .room-of .result - first (roomed m)) (a .text .now) (m .measure .last .1 .1 .1 .0) (m .measure .last .1 .1 .1 .1 .0)) e (m .measure .ensures))
 
 returns : tie.Need-returns
-unfolding Measured
+unfolding Measured editSays
 returns c =
     let x = c .before .before in
     let m = x .before .before .before .before in
-    let s = begun (roomed m) in
-    let a = s .args in
+    let p = begun (roomed m) .pre in
     let e = extent-is m (Foreign _) (x .extent .given .1) in
-    edit-3 (a .roll) (a .buf .now) (a .dir .now) (a .start) (a .end) (a .text .now) (s .pre .0) (s .pre .1) (s .pre .2) (s .pre .3) (e .0) (e .1) (c .refused .ensures)
+    edit-refused 3 _ (rw (e .0, right-accepted _ _ _ (p .0) (p .1), le-ltb _ _ (p .2), le-ltb _ _ (p .3), lt-ltb _ _ (rw (e .0) at (e .1)))) (c .refused .ensures)
 
 add-refused : tie.Need-add-refused
 unfolding Measured
@@ -86,7 +88,7 @@ returns-2 c =
     let s = begun r in
     let a = s .args in
     let e = extent-is m (Over _) (x .extent2 .given .1) in
-    edit-4 (a .roll) (a .buf .now) (a .dir .now) (a .start) (a .end) (a .text .now) (s .pre .0) (s .pre .1) (s .pre .2) (s .pre .3) (e .0)
+    edit-4 _ _ _ _ _ _ (s .pre .0) (s .pre .1) (s .pre .2) (s .pre .3) (e .0)
     (over-text (long s) (located r) (a .text .now) (e .1) (e .2))
     (over-text-within (long s) (located r) (a .text .now) (e .1) (e .2))
     (c .refused2 .ensures)

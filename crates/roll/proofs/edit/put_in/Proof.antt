@@ -1,19 +1,22 @@
 -- `roll::edit::put_in` meets its contract.
 -- Assumes nothing.
-use mathlib.Core.Path.{_≡_, refl, sym, ap, _∙_}
+use mathlib.Core.Path.{_≡_, sym, ap, _∙_}
+use mathlib.Core.List.{[], _∷_}
 use Prim.Native.Nat.{ℕ, _+_, _-_, _≤_, _<_}
 use native.Mathlib.Omega.{arith}
 use borrow.Author.Needs.{needs}
+use borrow.Author.Tests.{lt-ltb, le-ltb}
+use lib.Dec.{ltb}
 use lib.ListN.{length}
-use Rattle.stopper.specs.Paper.Table.{characters}
+use Rattle.ground.specs.Paper.Refusals.{refuse, refused, judged}
 use Rattle.symbols.specs.Paper.Symbols.{room}
 use Rattle.texts.specs.Paper.Directory.{entries}
 use Rattle.texts.specs.Paper.Edited.{edited}
 use Rattle.sound.specs.Paper.Roll.{textOf}
-use Rattle.store.specs.Paper.Fitting.{firstOver}
 use Rattle.store.specs.Laws.Located.{run-inside, count-after}
 use Rattle.store.specs.Laws.Changing.{count-few, over-tail, over-tail-within, over-none}
-use Rattle.roll.specs.Laws.Operations.{edit-4, edit-12, edit-yes}
+use Rattle.roll.specs.Paper.Operations.{editSays}
+use Rattle.roll.specs.Laws.Operations.{edit-refused, edit-4, edit-last, edit-yes}
 use Rattle.roll.proofs.edit.put_in.Statement.{statement}
 use Rattle.roll.proofs.edit.put_in.Tie as tie
 
@@ -60,7 +63,7 @@ returns c =
     let s = begun (roomed o) in
     let a = s .args in
     let p = s .pre .0 in
-    edit-4 (a .roll) (a .buf .now) (a .dir .now) (a .run .start) (a .run .end) (a .text .now) (p .sound) (p .right) (p .ordered) (p .inside) (s .pre .1 .known)
+    edit-4 _ _ _ _ _ _ (p .sound) (p .right) (p .ordered) (p .inside) (s .pre .1 .known)
     (over-tail (long s) p (s .pre .1) (s .pre .2) (rest (roomed o)) (o .before .before .if1 .taken) (o .first-over .ensures))
     (within o)
     (c .refused .ensures)
@@ -79,9 +82,14 @@ left n = n .before .before .before .before
 abbrev start : tie.After-entries-for → tie.Start
 start n = begun (left n .before .before .before .before)
 
-none-over : (n : tie.After-entries-for) → let a = start n .args in let new = edited (textOf (a .roll) (a .buf .now)) (a .run .start) (a .run .end) (a .text .now) in
-    firstOver (a .roll .table .code) (characters (a .roll .table)) (room (a .roll .table .code .k) (length (a .buf .now))) new ≡ length new
-none-over n = let s = start n in over-none (long s) (s .pre .0) (s .pre .1) (s .pre .2) (rest (left n .before .before .before .before)) (left n .if1 .left)
+-- the last row decides
+decided : (n : tie.After-entries-for) → let a = start n .args in let least = entries (length (edited (textOf (a .roll) (a .buf .now)) (a .run .start) (a .run .end) (a .text .now))) in
+    editSays (a .roll) (a .buf .now) (a .dir .now) (a .run .start) (a .run .end) (a .text .now) ≡ judged (refuse 12 least (ltb (length (a .dir .now)) least) ∷ []) tt
+decided n =
+    let s = start n in
+    let p = s .pre .0 in
+    edit-last _ _ _ _ _ _ (p .sound) (p .right) (p .ordered) (p .inside) (s .pre .1 .known)
+    (over-none (long s) p (s .pre .1) (s .pre .2) (rest (left n .before .before .before .before)) (left n .if1 .left))
 
 -- the entries that the edited text needs
 needed : (n : tie.After-entries-for) → let a = start n .args in
@@ -91,30 +99,15 @@ needed n = let s = start n in n .entries-for .ensures ∙ ap entries (sym (count
 returns-2 : tie.Need-returns-2
 returns-2 c =
     let n = c .before .before in
-    let s = start n in
-    let a = s .args in
-    let p = s .pre .0 in
-    edit-12 (a .roll) (a .buf .now) (a .dir .now) (a .run .start) (a .run .end) (a .text .now) (p .sound) (p .right) (p .ordered) (p .inside) (s .pre .1 .known)
-    (none-over n)
-    (needed n)
-    (c .before .if2 .taken)
-    (c .refused2 .ensures)
+    edit-refused 12 _ (decided n ∙ rw (lt-ltb _ _ (rw (needed n) at (c .before .if2 .taken))) (ap (λ (v : ℕ). refused 12 v) (sym (needed n)))) (c .refused2 .ensures)
 
 returns-3 : tie.Need-returns-3
 returns-3 c =
     let r = c .before .before .before .before in
     let e = r .before .before .before in
     let n = e .before in
-    let s = start n in
-    let a = s .args in
-    let p = s .pre .0 in
-    edit-yes (a .roll) (a .buf .now) (a .dir .now) (a .run .start) (a .run .end) (a .text .now) (p .sound) (p .right) (p .ordered) (p .inside) (s .pre .1 .known)
-    (none-over n)
-    (omega (arith, needed n, e .if2 .left))
-    refl
-    (r .replace .ensures .0)
-    (r .replace .ensures .1 .0)
-    (r .replace .ensures .1 .1)
+    let made = r .replace .ensures in
+    edit-yes (decided n ∙ rw (le-ltb _ _ (rw (needed n) at (e .if2 .left)))) (made .0) (made .1 .0) (made .1 .1)
 
 pub put-in-spec : {M : Type 1} → statement M
 put-in-spec =

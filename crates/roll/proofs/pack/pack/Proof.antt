@@ -4,28 +4,28 @@ use mathlib.Core.Path.{_≡_, refl, sym, subst, _∙_}
 use mathlib.Core.Bool.{true}
 use mathlib.Core.List.{List}
 use Prim.Native.Nat.{ℕ}
+use native.Mathlib.Nat.{le-of-eq}
 use native.Mathlib.Omega.{arith}
 use borrow.Author.Needs.{needs}
-use borrow.Author.Tests.{not-true, not-false}
+use borrow.Author.Tests.{lt-ltb, le-ltb, not-true, not-false}
 use lib.ListN.{length, length-replicate}
 use Rattle.ground.specs.Paper.Rows.{zeros}
 use Rattle.stopper.specs.Paper.Table.{goodTable, characters}
 use Rattle.stopper.specs.Laws.Table.{is-good, table-code, code-width}
 use Rattle.stopper.specs.declared.table.Table.{Table}
 use Rattle.symbols.specs.Paper.Symbols.{room}
+use Rattle.texts.specs.Laws.Characters.{foreign-known}
 use Rattle.store.specs.Helpers.Measured.{Measured}
-use Rattle.store.specs.Laws.Fitting.{over-all}
 use Rattle.store.specs.declared.measure.Extent.{Extent}
 use Rattle.store.specs.declared.measure.Extent.the-variants.{Fits, Foreign, Over}
-use Rattle.roll.specs.Laws.Operations.{pack-1, pack-3, pack-4, pack-yes}
+use Rattle.roll.specs.Paper.Operations.{packSays}
+use Rattle.roll.specs.Laws.Operations.{pack-refused, pack-yes}
 use Rattle.roll.proofs.pack.pack.Statement.{statement}
 use Rattle.roll.proofs.pack.pack.Tie as tie
 
 returns : tie.Need-returns
-returns c =
-    let g = c .before .before in
-    let a = g .before .before .before .args in
-    pack-1 (a .table) (a .text .now) (a .buf .now) (sym (g .good-table .ensures) ∙ not-true _ (c .before .if1 .taken)) (c .refused .ensures)
+unfolding packSays
+returns c = pack-refused 1 0 (rw (sym (c .before .before .good-table .ensures) ∙ not-true _ (c .before .if1 .taken))) (c .refused .ensures)
 
 -- ---- under a good table
 
@@ -65,20 +65,20 @@ extent-is m x e =
     (subst (Measured (table m) (m .before .before .before .room-of .result) (text m) (m .measure .last .1 .1 .1 .0) (m .measure .last .1 .1 .1 .1 .0)) e (m .measure .ensures))
 
 returns-2 : tie.Need-returns-2
-unfolding Measured
+unfolding Measured packSays
 returns-2 c =
     let x = c .before .before in
     let m = x .before .before .before .before in
     let e = extent-is m (Foreign _) (x .extent .given .1) in
-    pack-3 (table m) (text m) (buf m) (good (checked m)) (e .0) (e .1) (c .refused2 .ensures)
+    pack-refused 3 _ (rw (e .0, good (checked m), lt-ltb _ _ (rw (e .0) at (e .1)))) (c .refused2 .ensures)
 
 returns-3 : tie.Need-returns-3
-unfolding Measured
+unfolding Measured packSays
 returns-3 c =
     let x = c .before .before in
     let m = x .before .before .before .before in
     let e = extent-is m (Over _) (x .extent2 .given .1) in
-    pack-4 (table m) (text m) (buf m) (good (checked m)) (e .0) (e .1) (e .2) (c .refused3 .ensures)
+    pack-refused 4 _ (rw (e .1, good (checked m), le-ltb _ _ (le-of-eq (sym (e .0))), lt-ltb _ _ (rw (e .1) at (e .2)))) (c .refused3 .ensures)
 
 store-text-requires : tie.Need-store-text-requires
 unfolding Measured
@@ -95,8 +95,8 @@ returns-4 c =
     let x = s .before .before .before .before .before in
     let m = x .before .before .before .before in
     let e = extent-is m (Fits _) (x .extent3 .given .1) in
-    pack-yes (table m) (text m) (buf m) (good (checked m)) (e .0 .known)
-    (over-all (table m .code) (characters (table m)) (room (table m .code .k) (length (buf m))) (text m) .1 (omega (arith, e .0 .count, e .1)))
+    pack-yes
+    (record { good = is-good (table m) (good (checked m)); known = foreign-known (characters (table m)) (text m) (e .0 .known); fits = omega (arith, e .0 .count, e .1) })
     (s .store-text .ensures .0)
     (s .store-text .ensures .1)
 
