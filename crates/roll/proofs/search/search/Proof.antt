@@ -1,13 +1,11 @@
 -- `roll::search::search` meets its contract.
 -- Assumes nothing.
-use mathlib.Core.Path.{_≡_}
-use mathlib.Core.Logic.{⊎-elim, inl, inr}
+use mathlib.Core.Path.{_≡_, sym, _∙_}
 use mathlib.Core.Bool.{true}
 use borrow.Author.Needs.{needs}
-use borrow.Author.Tests.{ltb-true, ltb-false}
+use borrow.Author.Tests.{not-true, not-false}
 use Rattle.ground.specs.Laws.Tests.{true-yes}
 use Rattle.texts.specs.Paper.Hits.{goodPattern}
-use Rattle.texts.specs.Laws.Patterns.{pattern-bad, pattern-good}
 use Rattle.sound.specs.Paper.Roll.{Sound}
 use Rattle.roll.specs.Laws.Operations.{check-sound, search-check, search-11, search-yes}
 use Rattle.roll.proofs.search.search.Statement.{statement}
@@ -23,8 +21,8 @@ checked c = c .before .before
 sound : (c : tie.After-enum-told) → let a = start (checked c) .args in Sound (a .roll) (a .buf .now)
 sound c = let a = start (checked c) .args in check-sound (a .roll) (a .buf .now) (checked c .check .ensures) (c .enum-told .given .1)
 
-good : (c : tie.Else2) → goodPattern (start (checked (c .before .before)) .args .pattern .now) ≡ true
-good c = pattern-good _ (c .before .if1 .left) (ltb-false _ _ (c .if2 .left))
+good : (c : tie.Else1) → goodPattern (start (checked (c .before .before)) .args .pattern .now) ≡ true
+good c = sym (c .before .good-pattern .ensures) ∙ not-false _ (c .if1 .left)
 
 returns : tie.Need-returns
 returns c =
@@ -34,9 +32,9 @@ returns c =
 
 returns-2 : tie.Need-returns-2
 returns-2 c =
-    let a = start (checked (c .before)) .args in
-    search-11 (a .roll) (a .buf .now) (a .pattern .now) (a .slice .now) (sound (c .before))
-    (pattern-bad (a .pattern .now) (⊎-elim (λ w. inl (w .taken)) (λ w. inr (ltb-true _ _ (w .1 .taken))) (c .if1 .came)))
+    let g = c .before in
+    let a = start (checked (g .before)) .args in
+    search-11 (a .roll) (a .buf .now) (a .pattern .now) (a .slice .now) (sound (g .before)) (sym (g .good-pattern .ensures) ∙ not-true _ (c .if1 .taken))
 
 search-sound-requires : tie.Need-search-sound-requires
 search-sound-requires c κs = (sound (c .before .before .before), true-yes _ (good (c .before)))
@@ -56,6 +54,7 @@ search-spec =
     (λ c. search needs)
     returns
     (λ c. search needs)
+    (λ c κs. search needs)
     returns-2
     search-sound-requires
     (λ c. search needs)
