@@ -6,6 +6,7 @@ use roll::search::search;
 use stopper::choose::choose;
 use stopper::count::count;
 use symbols::size::bytes_for;
+use texts::pattern::good_pattern;
 use writing::decimal::decimal_out;
 use writing::decimal::numbers_out;
 use writing::hexadecimal::hex_out;
@@ -110,10 +111,7 @@ pub fn report(input: &[u8], out: &mut [u8; 147456]) -> usize
     ensures out { λ _. ⌜ now (out .exit) ≡ reportOf (now (input .entry)) ++ drop (length (reportOf (now (input .entry)))) (now (out .entry)) ⌝ }
 {
     let end = line_end(input);
-    if end < 1 {
-        return refused_out(out, 11, 0);
-    }
-    if 64 < end {
+    if !good_pattern(&input[..end]) {
         return refused_out(out, 11, 0);
     }
     let from = text_start(input, end);

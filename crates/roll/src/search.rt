@@ -4,6 +4,7 @@ use find::finding::search_sound;
 use ground::answers::Done;
 use ground::answers::Total;
 use sound::records::Roll;
+use texts::pattern::good_pattern;
 ghost use Rattle.roll.specs.Paper.Operations.{Searching};
 
 pub fn search(roll: Roll, buf: &[u8], pattern: &[u8], slice: &mut [u32]) -> Total
@@ -13,7 +14,7 @@ pub fn search(roll: Roll, buf: &[u8], pattern: &[u8], slice: &mut [u32]) -> Tota
     if let Done::Refused(number, value) = checked {
         return Total::Refused(number, value);
     }
-    if pattern.len() < 1 || 64 < pattern.len() {
+    if !good_pattern(pattern) {
         return Total::Refused(11, 0);
     }
     Total::Of(search_sound(roll, buf, pattern, slice))

@@ -1,8 +1,7 @@
 // The directory of a sound roll compared, and gone by.
+use crate::ends::end_at;
 use crate::ends::pass_ends;
 use crate::ends::stops_by_byte;
-use crate::reading::Passed;
-use crate::reading::pass_over;
 use crate::records::Roll;
 use texts::entries::entries_for;
 ghost use mathlib.Core.Path.{_≡_};
@@ -42,16 +41,16 @@ pub fn start_of(roll: Roll, buf: &[u8], dir: &[u32], j: usize) -> usize
     requires { ⌜ Sound roll (now buf) × Right roll (now buf) (now dir) × (j ≤ roll .n) ⌝ }
     ensures { λ r. ⌜ r ≡ startAt (lengthsOf roll (now (buf .entry))) j ⌝ }
 {
-    let h = roll.h as usize;
     if roll.n as usize <= j {
-        return h;
+        return roll.h as usize;
     }
     let table = roll.table;
     let code = table.code;
-    let sigma = table.sigma as u32;
-    let passed = pass_over(code, sigma, buf, h, dir[j / 32] as usize, j % 32);
-    let Passed::At(at) = passed else {
-        return h;
-    };
+    let mut at = dir[j / 32] as usize;
+    let mut i = j / 32 * 32;
+    while i < j {
+        at = end_at(code, buf, at);
+        i += 1;
+    }
     at
 }

@@ -2,16 +2,15 @@
 -- Assumes nothing.
 use mathlib.Core.Path.{_≡_, sym, ap, ap₂, _∙_}
 use mathlib.Core.Bool.{true}
-use mathlib.Core.Logic.{inl, inr}
 use mathlib.Core.List.{List, _++_}
-use Prim.Native.Nat.{ℕ, _-_, _<_}
+use Prim.Native.Nat.{ℕ, _-_}
 use native.Mathlib.Omega.{arith}
 use borrow.Author.Needs.{needs}
+use borrow.Author.Tests.{not-true, not-false}
 use lib.ListN.{length, take, drop, length-drop}
 use lib.Seq.{length-take-le, take-length}
 use Rattle.ground.specs.Laws.Tests.{true-yes}
 use Rattle.texts.specs.Paper.Hits.{goodPattern}
-use Rattle.texts.specs.Laws.Patterns.{pattern-bad, pattern-good}
 use Rattle.report.specs.Paper.Report.{givenPattern, givenText, reportOf}
 use Rattle.report.specs.Helpers.Answers.{startOfText, answerFor}
 use Rattle.report.specs.Laws.Split.{pattern-take, text-drop}
@@ -36,74 +35,72 @@ abbrev input : tie.After-line-end → List ℕ
 input l = begun l .args .input .now
 
 -- the array lent is as long as its type says
-lent : (c : tie.After-answer-arg3) → length (begun (c .before .before .before .before .before .before .before) .args .out .now) ≡ 147456
+lent : (c : tie.After-answer-arg3) → length (begun (c .before .before .before .before .before .before .before .before) .args .out .now) ≡ 147456
 lent c = search needs
 
-good : (e : tie.Else2) → let l = e .before .before in goodPattern (givenPattern (input l)) ≡ true
-good e =
-    let l = e .before .before in
-    pattern-good (givenPattern (input l)) (omega (arith, l .line-end .ensures .1, e .before .if1 .left)) (omega (arith, l .line-end .ensures .1, e .if2 .left))
+pattern-lent : (l : tie.After-line-end) → take (l .line-end .result) (input l) ≡ givenPattern (input l)
+pattern-lent l = ap (λ (n : ℕ). take n (input l)) (l .line-end .ensures .1) ∙ pattern-take (input l)
+
+good-is : (g : tie.After-good-pattern) → let l = g .before .before in g .good-pattern .result ≡ goodPattern (givenPattern (input l))
+good-is g = g .good-pattern .ensures ∙ ap goodPattern (pattern-lent (g .before .before))
+
+good : (e : tie.Else1) → let l = e .before .before .before in goodPattern (givenPattern (input l)) ≡ true
+good e = sym (good-is (e .before)) ∙ not-false _ (e .if1 .left)
+
+slice-aggregate-good-pattern : tie.Need-slice-aggregate-good-pattern
+slice-aggregate-good-pattern c = sym (length-take-le _ _ (c .before .line-end .ensures .0))
 
 returns : tie.Need-returns
 returns c =
-    let l = c .before .before .before in
-    let bad : length (givenPattern (input l)) < 1 = omega (arith, l .line-end .ensures .1, c .before .before .if1 .taken) in
-    told (input l) _ (begun l .args .out .now) (report-11 (input l) (pattern-bad (givenPattern (input l)) (inl bad))) (c .refused-out .ensures)
-
-returns-2 : tie.Need-returns-2
-returns-2 c =
-    let l = c .before .before .before .before in
-    let bad : 64 < length (givenPattern (input l)) = omega (arith, l .line-end .ensures .1, c .before .before .if2 .taken) in
-    told (input l) _ (begun l .args .out .now) (report-11 (input l) (pattern-bad (givenPattern (input l)) (inr bad))) (c .refused-out2 .ensures)
+    let t = c .before .before in
+    let l = t .before .before .before in
+    told (input l) _ (begun l .args .out .now) (report-11 (input l) (sym (good-is (t .before)) ∙ not-true _ (t .if1 .taken))) (c .refused-out .ensures)
 
 -- ---- the text
 
-text-is : (t : tie.After-text-start) → let l = t .before .before .before in drop (t .text-start .result) (input l) ≡ givenText (input l)
+text-is : (t : tie.After-text-start) → let l = t .before .before .before .before in drop (t .text-start .result) (input l) ≡ givenText (input l)
 text-is t =
-    let l = t .before .before .before in
+    let l = t .before .before .before .before in
     ap (λ (n : ℕ). drop n (input l)) (t .text-start .ensures .1 ∙ ap (λ (n : ℕ). startOfText n (length (input l))) (l .line-end .ensures .1)) ∙ text-drop (input l)
 
-text-long : (t : tie.After-text-start) → let l = t .before .before .before in length (input l) - t .text-start .result ≡ length (givenText (input l))
-text-long t = let l = t .before .before .before in sym (length-drop (t .text-start .result) (input l)) ∙ ap length (text-is t)
+text-long : (t : tie.After-text-start) → let l = t .before .before .before .before in length (input l) - t .text-start .result ≡ length (givenText (input l))
+text-long t = let l = t .before .before .before .before in sym (length-drop (t .text-start .result) (input l)) ∙ ap length (text-is t)
 
-returns-3 : tie.Need-returns-3
-returns-3 c =
+returns-2 : tie.Need-returns-2
+returns-2 c =
     let t = c .before .before .before in
-    let l = t .before .before .before in
-    told (input l) _ (begun l .args .out .now) (report-4 (input l) (good (t .before)) (omega (arith, text-long t, c .before .before .if3 .taken)))
-    (c .refused-out3 .ensures)
+    let l = t .before .before .before .before in
+    told (input l) _ (begun l .args .out .now) (report-4 (input l) (good (t .before)) (omega (arith, text-long t, c .before .before .if2 .taken)))
+    (c .refused-out2 .ensures)
 
 slice-aggregate-answer : tie.Need-slice-aggregate-answer
-slice-aggregate-answer c = sym (length-take-le _ _ (c .before .before .before .before .before .line-end .ensures .0))
+slice-aggregate-answer c = sym (length-take-le _ _ (c .before .before .before .before .before .before .line-end .ensures .0))
 
 -- what is lent to answer
-pattern-lent : (e : tie.Else3) → let l = e .before .before .before .before in take (l .line-end .result) (input l) ≡ givenPattern (input l)
-pattern-lent e = let l = e .before .before .before .before in ap (λ (n : ℕ). take n (input l)) (l .line-end .ensures .1) ∙ pattern-take (input l)
-
-text-lent : (e : tie.Else3) → let t = e .before in let l = t .before .before .before in
+text-lent : (e : tie.Else2) → let t = e .before in let l = t .before .before .before .before in
     take (length (input l) - t .text-start .result) (drop (t .text-start .result) (input l)) ≡ givenText (input l)
 text-lent e =
     let t = e .before in
-    let l = t .before .before .before in
+    let l = t .before .before .before .before in
     ap₂ take (text-long t) (text-is t) ∙ take-length (givenText (input l))
 
 answer-requires : tie.Need-answer-requires
 answer-requires c κs =
     let e = c .before .before .before in
     let t = e .before in
-    let l = t .before .before .before in (
-      rw (pattern-lent e) (true-yes _ (good (t .before))),
-      rw (text-lent e) (omega (arith, text-long t, e .if3 .left)),
+    let l = t .before .before .before .before in (
+      rw (pattern-lent l) (true-yes _ (good (t .before))),
+      rw (text-lent e) (omega (arith, text-long t, e .if2 .left)),
       lent c,
     )
 
-returns-4 : tie.Need-returns-4
-returns-4 c =
+returns-3 : tie.Need-returns-3
+returns-3 c =
     let e = c .before .before .before .before in
     let t = e .before in
-    let l = t .before .before .before in
+    let l = t .before .before .before .before in
     told (input l) _ (begun l .args .out .now)
-    (report-answer (input l) (good (t .before)) (omega (arith, text-long t, e .if3 .left)) ∙ sym (ap₂ answerFor (pattern-lent e) (text-lent e)))
+    (report-answer (input l) (good (t .before)) (omega (arith, text-long t, e .if2 .left)) ∙ sym (ap₂ answerFor (pattern-lent l) (text-lent e)))
     (c .answer .ensures)
 
 pub report-spec : {M : Type 1} → statement M
@@ -111,17 +108,17 @@ report-spec =
     tie.close
     (tie.spec
     (λ c κs. search needs)
+    slice-aggregate-good-pattern
+    (λ c κs. search needs)
     (λ c κs. search needs)
     returns
     (λ c κs. search needs)
-    returns-2
-    (λ c κs. search needs)
     (λ c. search needs)
     (λ c κs. search needs)
-    returns-3
+    returns-2
     slice-aggregate-answer
     (λ c. search needs)
     (λ c. search needs)
     (λ c. search needs)
     answer-requires
-    returns-4)
+    returns-3)

@@ -1,13 +1,12 @@
 -- `roll::search::search` meets its contract.
 -- Assumes nothing.
-use mathlib.Core.Logic.{⊎-elim, inl, inr}
+use mathlib.Core.Path.{sym, _∙_}
 use borrow.Author.Needs.{needs}
-use borrow.Author.Tests.{ltb-true, ltb-false}
+use borrow.Author.Tests.{not-true, not-false}
 use lib.Dec.{T}
 use Rattle.ground.specs.Laws.Answers.{says-as}
 use Rattle.ground.specs.Laws.Tests.{true-yes}
 use Rattle.texts.specs.Paper.Hits.{goodPattern}
-use Rattle.texts.specs.Laws.Patterns.{pattern-bad, pattern-good}
 use Rattle.sound.specs.Paper.Roll.{Sound}
 use Rattle.roll.specs.Paper.Operations.{searchSays}
 use Rattle.roll.specs.Laws.Accepting.{sound-accepted}
@@ -25,8 +24,8 @@ checked c = c .before .before
 sound : (c : tie.After-enum-told) → let a = start (checked c) .args in Sound (a .roll) (a .buf .now)
 sound c = check-sound (checked c .check .ensures) (c .enum-told .given .1)
 
-good : (c : tie.Else2) → T (goodPattern (start (checked (c .before .before)) .args .pattern .now))
-good c = true-yes _ (pattern-good _ (c .before .if1 .left) (ltb-false _ _ (c .if2 .left)))
+good : (c : tie.Else1) → T (goodPattern (start (checked (c .before .before)) .args .pattern .now))
+good c = true-yes _ (sym (c .before .good-pattern .ensures) ∙ not-false _ (c .if1 .left))
 
 returns : tie.Need-returns
 unfolding searchSays
@@ -37,9 +36,8 @@ returns c =
 returns-2 : tie.Need-returns-2
 unfolding searchSays
 returns-2 c =
-    let a = start (checked (c .before)) .args in
-    search-refused
-    (rw (sound-accepted (sound (c .before)), pattern-bad (a .pattern .now) (⊎-elim (λ w. inl (w .taken)) (λ w. inr (ltb-true _ _ (w .1 .taken))) (c .if1 .came))))
+    let g = c .before in
+    search-refused (rw (sound-accepted (sound (g .before)), sym (g .good-pattern .ensures) ∙ not-true _ (c .if1 .taken)))
 
 search-sound-requires : tie.Need-search-sound-requires
 search-sound-requires c κs = (sound (c .before .before .before), good (c .before))
@@ -58,6 +56,7 @@ search-spec =
     (λ c. search needs)
     returns
     (λ c. search needs)
+    (λ c κs. search needs)
     returns-2
     search-sound-requires
     (λ c. search needs)

@@ -1,77 +1,100 @@
--- `sound::lookup::start_of` meets its contract.
+-- `sound::lookup::start_of` meets its contract: from the entry on, codeword i starts at the symbol in hand.
 -- Assumes nothing.
 use mathlib.Core.Path.{_≡_, sym, ap, _∙_}
-use Prim.Native.Nat.{ℕ, _/_}
+use Prim.Native.Nat.{ℕ, _-_, _*_, _/_, _≤_}
 use native.Mathlib.Omega.{arith}
 use borrow.Author.Needs.{needs}
 use Rattle.texts.specs.Paper.Directory.{startAt}
 use Rattle.sound.specs.Paper.Lengths.{lengthsOf}
-use Rattle.sound.specs.Laws.Sound.{sound-reads}
-use Rattle.sound.specs.Laws.Directory.{sound-last, right-held, right-passed, right-before}
-use Rattle.sound.specs.declared.reading.Passed.the-variants.{At}
+use Rattle.sound.specs.Helpers.Ends.{endFrom}
+use Rattle.sound.specs.Laws.Directory.{sound-last, right-held, right-entry}
+use Rattle.sound.specs.Laws.Ends.{sound-end, sound-one, sound-next}
 use Rattle.sound.proofs.lookup.start_of.Statement.{statement}
 use Rattle.sound.proofs.lookup.start_of.Tie as tie
 
+abbrev Inv-loop : tie.InvT-loop
+Inv-loop buf dir j code at₀ i₀ at i = (i ≤ j) × (at ≡ endFrom code buf 0 i)
+
+abbrev μ-loop : tie.MeasureT-loop
+μ-loop buf dir j code at₀ i₀ at i = j - i
+
 -- the way back from a place
-abbrev begun : tie.After-struct-known2 → tie.Start
-begun c = c .before .before .before .before
+abbrev begun : tie.Else1 Inv-loop μ-loop → tie.Start Inv-loop μ-loop
+begun e = e .before .before .before .before
 
-abbrev tabled : tie.After-shared-slice-known3 → tie.Else1
-tabled c = c .before .before .before .before
+abbrev entered : tie.At-loop Inv-loop μ-loop → tie.Else1 Inv-loop μ-loop
+entered l = l .before .before .before .before
 
-abbrev start : tie.After-shared-slice-known3 → tie.Start
-start c = begun (tabled c .before)
-
--- character j starts behind those before it
-passed-is : (c : tie.After-pass-over) → let s = start (c .before) in c .pass-over .result ≡ At (startAt (lengthsOf (s .args .roll) (s .args .buf .now)) (s .args .j))
-passed-is c =
-    let s = start (c .before) in
-    c .pass-over .ensures ∙ sym (right-passed (s .args .roll) (s .args .buf .now) (s .pre .0) (s .args .dir .now) (s .pre .1) (s .args .j) (tabled (c .before) .if1 .left))
-
-returns : tie.Need-returns
+returns : tie.Need-returns Inv-loop μ-loop
 returns c =
-    let s = begun (c .before) in
+    let s = c .before .before .before .before .before in
     let e : s .args .roll .n ≡ s .args .j = omega arith in
     sym (sound-last (s .args .roll) (s .args .buf .now) (s .pre .0)) ∙ ap (startAt (lengthsOf (s .args .roll) (s .args .buf .now))) e
 
-shared-slice-read-pass-over : tie.Need-shared-slice-read-pass-over
-shared-slice-read-pass-over c =
-    let s = start c in
-    right-held (s .args .roll) (s .args .buf .now) (s .pre .0) (s .args .dir .now) (s .pre .1) (s .args .j) (tabled c .if1 .left)
+shared-slice-read-at : tie.Need-shared-slice-read-at Inv-loop μ-loop
+shared-slice-read-at c =
+    let e = c .before .before .before in
+    let s = begun e in
+    right-held (s .args .roll) (s .args .buf .now) (s .pre .0) (s .args .dir .now) (s .pre .1) (s .args .j) (e .if1 .left)
 
-cast-pass-over : tie.Need-cast-pass-over
-cast-pass-over c = omega (arith, c .shared-slice-known3 .given (start c .args .j / 32))
+cast-at : tie.Need-cast-at Inv-loop μ-loop
+cast-at c = omega (arith, c .shared-slice-known3 .given (begun (c .before .before .before) .args .j / 32))
 
-pass-over-requires : tie.Need-pass-over-requires
-pass-over-requires c κs =
-    let s = start c in
-    let b = right-before (s .args .roll) (s .args .buf .now) (s .pre .0) (s .args .dir .now) (s .pre .1) (s .args .j) (tabled c .if1 .left) in
-    sound-reads (s .args .roll) (s .args .buf .now) (s .pre .0) _ (omega arith)
+loop-holds : tie.Need-loop-holds Inv-loop μ-loop
+loop-holds c =
+    let e = c .before .before .before in
+    let s = begun e in
+    let a = s .args in (
+      omega arith,
+      right-entry (a .roll) (a .buf .now) (s .pre .0) (a .dir .now) (s .pre .1) (a .j) (e .if1 .left)
+          ∙ sym (sound-end (a .roll) (a .buf .now) (s .pre .0) (a .j / 32 * 32) (omega (arith, s .pre .2))),
+    )
 
-returns-2 : tie.Need-returns-2
+end-at-requires : tie.Need-end-at-requires Inv-loop μ-loop
+end-at-requires c κs =
+    let l = c .before in
+    let e = entered l in
+    let s = begun e in
+    rw (l .loop .inv .1) (sound-one (s .args .roll) (s .args .buf .now) (s .pre .0) (l .loop .i) (omega (arith, c .loop-test .taken, e .if1 .left)))
+
+loop-again : tie.Need-loop-again Inv-loop μ-loop
+loop-again c =
+    let l = c .before .before in
+    let e = entered l in
+    let s = begun e in
+    let a = s .args in (
+      omega arith,
+      c .end-at .ensures
+          ∙ ap (λ (p : ℕ). endFrom (a .roll .table .code) (a .buf .now) p 1) (l .loop .inv .1)
+          ∙ sound-next (a .roll) (a .buf .now) (s .pre .0) (l .loop .i) (omega (arith, c .before .loop-test .taken, e .if1 .left)),
+    )
+
+returns-2 : tie.Need-returns-2 Inv-loop μ-loop
 returns-2 c =
-    let z : _≡_ {A = ℕ} 0 1 = cc (c .enum-told .given .1, passed-is (c .before .before)) in
-    absurd (omega arith)
-
-returns-3 : tie.Need-returns-3
-returns-3 c =
-    let p = c .before .before .before in
-    let e = sym (c .before .passed .given .1) ∙ passed-is p in
-    cc
+    let l = c .before in
+    let s = begun (entered l) in
+    let a = s .args in
+    let e : l .loop .i ≡ a .j = omega arith in
+    l .loop .inv .1
+    ∙ ap (endFrom (a .roll .table .code) (a .buf .now) 0) e
+    ∙ sound-end (a .roll) (a .buf .now) (s .pre .0) (a .j) (s .pre .2)
 
 pub start-of-spec : {M : Type 1} → statement M
 start-of-spec =
     tie.close
     (tie.spec
+    Inv-loop
+    μ-loop
     (λ c. search needs)
     (λ c. search needs)
     returns
-    (λ c. search needs)
-    (λ c. search needs)
-    shared-slice-read-pass-over
-    cast-pass-over
-    pass-over-requires
-    (λ c. search needs)
-    (λ c. search needs)
-    returns-2
-    returns-3)
+    (λ c. omega arith)
+    shared-slice-read-at
+    cast-at
+    (λ c. omega arith)
+    loop-holds
+    end-at-requires
+    (λ c. omega arith)
+    (λ c. omega arith)
+    loop-again
+    returns-2)

@@ -1,0 +1,9 @@
+// Whether a pattern may be searched for.
+ghost use mathlib.Core.Path.{_≡_};
+ghost use Rattle.texts.specs.Paper.Hits.{goodPattern};
+
+pub fn good_pattern(pattern: &[u8]) -> bool
+    ensures { λ r. ⌜ r ≡ goodPattern (now (pattern .entry)) ⌝ }
+{
+    1 <= pattern.len() && pattern.len() <= 64
+}
