@@ -72,7 +72,7 @@ module _ (r : Roll) (buf : List ℕ) (s : Sound r buf) (dir : List ℕ) (right :
   right-held =
       omega (arith, entries-inside place inside, right-long r buf s dir right)
 
-  right-entry : getD dir (place / 32) 0 ≡ starts (place / 32 * 32)
+  pub right-entry : getD dir (place / 32) 0 ≡ starts (place / 32 * 32)
   right-entry =
       sym (getD-take (entries (r .n)) dir (place / 32) 0 (entries-inside place inside))
       ∙ ap (λ (l : List ℕ). getD l (place / 32) 0) right
