@@ -15,9 +15,9 @@ use taken::table_of;
 use taken::told;
 ghost use mathlib.Core.Path.{_≡_};
 ghost use Rattle.ground.specs.Paper.Refusals.{accepted, _then_, kept};
-ghost use Rattle.stopper.specs.Paper.Operations.{countSays, countLeaves, chooseSays, chooseTable, chooseTotal, codewordSays, codewordGiven, characterSays};
-ghost use Rattle.roll.specs.Paper.Operations.{packSays, packRoll, packLeaves, checkSays, unpackSays, unpackLeaves, makeSays, makeLeaves};
-ghost use Rattle.roll.specs.Paper.Operations.{readSays, searchSays, searchLeaves, editSays, editRoll, editLeaves, editMends};
+ghost use Rattle.stopper.specs.Paper.Operations.{codewordSays, codewordGiven, characterSays};
+ghost use Rattle.choosing.specs.Paper.Operations.{countSays, countLeaves, chooseSays, chooseTable, chooseTotal};
+ghost use Rattle.roll.specs.Paper.Operations.{packSays, packRoll, packLeaves, checkSays, unpackSays, unpackLeaves, makeSays, makeLeaves, readSays, searchSays, searchLeaves, editSays, editRoll, editLeaves, editMends};
 ghost use Rattle.cabi.specs.Paper.Taken.{Told, tableAt, rollAt};
 
 #[no_mangle]
@@ -25,7 +25,7 @@ pub extern "C" fn monterculo_count(text: &[u8], counts: &mut [u32], value: &mut 
     ensures told { λ r. ⌜ Told (countSays (now (text .entry)) (now (counts .entry)) then accepted 0) r (now (value .exit)) ⌝ }
     ensures counts { λ _. ⌜ now (counts .exit) ≡ countLeaves (now (text .entry)) (now (counts .entry)) ⌝ }
 {
-    let answer = stopper::count::count(text, counts);
+    let answer = choosing::count::count(text, counts);
     told(answer, 0, value)
 }
 
@@ -44,7 +44,7 @@ pub extern "C" fn monterculo_choose(
     ensures sigma { λ _. ⌜ now (sigma .exit) ≡ kept (chooseSays k (now (counts .entry))) (now (sigma .entry)) (chooseTable k (now (counts .entry)) .sigma) ⌝ }
     ensures places { λ _. ⌜ now (places .exit) ≡ kept (chooseSays k (now (counts .entry))) (now (places .entry)) (chooseTable k (now (counts .entry)) .places) ⌝ }
 {
-    let choice = stopper::choose::choose(k, counts);
+    let choice = choosing::choose::choose(k, counts);
     let answer = choice.answer;
     let table = choice.table;
     let code = table.code;

@@ -1,11 +1,8 @@
 // The stopper code alone: counting, choosing a table, the codeword of a character and the character of a codeword.
 // Read code.rt (a code), table.rt (a table), word.rt (codewords) and reading.rt (reading them), then the four operations.
 pub mod character_of;
-pub mod choose;
 pub mod code;
 pub mod codeword_of;
-pub mod count;
-pub mod ranking;
 pub mod reading;
 pub mod table;
 pub mod word;

@@ -267,7 +267,7 @@ fn count_case(s: &[u8], at: usize) -> usize {
 
 fn counted(text: &[u8], counts: &mut [u32]) {
     io::write_all(1, b"count");
-    done(stopper::count::count(text, counts));
+    done(choosing::count::count(text, counts));
     list(counts);
     end();
 }
@@ -284,7 +284,7 @@ fn choose_case(s: &[u8], at: usize) -> usize {
 
 fn chosen(k: u8, counts: &[u32]) {
     io::write_all(1, b"choose");
-    let choice = stopper::choose::choose(k, counts);
+    let choice = choosing::choose::choose(k, counts);
     let answer = choice.answer;
     let table = choice.table;
     done(answer);

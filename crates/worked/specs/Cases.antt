@@ -12,10 +12,11 @@ use Rattle.ground.specs.Paper.Rows.{tab, zeros, padded, allZero}
 use Rattle.stopper.specs.Paper.Code.{codeword, place, first, shorter, opens, spell, rankOf, rankFrom, rankAt}
 use Rattle.stopper.specs.Paper.Table.{stoppers, goodWidth, goodCode, goodCharacters, goodTable, has, repeats, rankIn, lengthOf, wordOf, tableOf}
 use Rattle.stopper.specs.Paper.Reading.{readFrom, ahead, write}
-use Rattle.stopper.specs.Paper.Ranking.{key, insert, rankedFrom, ranked}
-use Rattle.stopper.specs.Paper.Choosing.{occurs, countsOf, counted, totalFrom, total, least, chosen, chosenTable}
-use Rattle.stopper.specs.Paper.Operations.{countSays, countLeaves, chooseSays, chooseTable, chooseTotal, codewordSays, characterSays}
+use Rattle.stopper.specs.Paper.Operations.{codewordSays, characterSays}
 use Rattle.stopper.specs.declared.table.Table.{Table}
+use Rattle.choosing.specs.Paper.Ranking.{key, insert, rankedFrom, ranked}
+use Rattle.choosing.specs.Paper.Choosing.{occurs, countsOf, counted, totalFrom, total, least, chosen, chosenTable}
+use Rattle.choosing.specs.Paper.Operations.{countSays, countLeaves, chooseSays, chooseTable, chooseTotal}
 use Rattle.symbols.specs.Paper.Symbols.{per, bytesFor, room, shift, symbolAt, symbolsOf, number, byteAt, bytesOf}
 use Rattle.texts.specs.Paper.Characters.{firstForeign}
 use Rattle.texts.specs.Paper.Directory.{entries, sum, startAt, directoryOf, firstWrong}

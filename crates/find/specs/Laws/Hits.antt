@@ -16,15 +16,15 @@ use Rattle.ground.specs.Laws.Rows.{map-drop}
 use Rattle.stopper.specs.Paper.Code.{Good, IsCodeword, stop as stopper, more as continuer, place, codeword}
 use Rattle.stopper.specs.Paper.Reading.{Reading, done, readFrom, write}
 use Rattle.stopper.specs.Paper.Table.{base, stoppers, goodCode, rankIn, lengthOf, characters}
-use Rattle.stopper.specs.Laws.Ranking.{_∈_}
+use Rattle.stopper.specs.Laws.Characters.{_∈_}
 use Rattle.stopper.specs.Laws.Reading.{aheads, ahead-done, read-front, read-write, write-append}
 use Rattle.stopper.specs.Laws.Code.{codeword-word, length-codeword}
 use Rattle.stopper.specs.Laws.Table.{one-number, code-good, table-code}
 use Rattle.stopper.specs.declared.code.Code.{Code}
 use Rattle.texts.specs.Paper.Hits.{stands, hits}
+use Rattle.texts.specs.Paper.Directory.{startAt}
 use Rattle.texts.specs.Laws.Characters.{InTable, ranks-below, known-drop}
 use Rattle.texts.specs.Laws.Hits.{stands-ranks, Front, hit-is, stands-front, front-stands}
-use Rattle.texts.specs.Paper.Directory.{startAt}
 use Rattle.sound.specs.Paper.Roll.{textRow, symbolsFor, rowUpto, reading, ranksRead, textOf, Sound}
 use Rattle.sound.specs.Paper.Lengths.{lengthsOf}
 use Rattle.sound.specs.Laws.Codewords.{start-at, drop-start}

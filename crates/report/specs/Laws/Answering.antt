@@ -20,11 +20,11 @@ use Rattle.ground.specs.declared.answers.Done.the-variants.{Yes}
 use Rattle.ground.specs.declared.answers.Total.{Total}
 use Rattle.ground.specs.declared.answers.Total.the-variants.{Of}
 use Rattle.stopper.specs.Paper.Table.{goodWidth}
-use Rattle.stopper.specs.Paper.Choosing.{countsOf, chosenTable, chosen}
-use Rattle.stopper.specs.Paper.Operations.{Counting, chooseTable, Choosing}
-use Rattle.stopper.specs.Laws.Accepting.{counts-is, chooses-is}
 use Rattle.stopper.specs.declared.table.Table.{Table}
-use Rattle.stopper.specs.declared.choose.Choice.{Choice}
+use Rattle.choosing.specs.Paper.Choosing.{countsOf, chosenTable, chosen}
+use Rattle.choosing.specs.Paper.Operations.{Counting, chooseTable, Choosing}
+use Rattle.choosing.specs.Laws.Accepting.{counts-is, chooses-is}
+use Rattle.choosing.specs.declared.choose.Choice.{Choice}
 use Rattle.symbols.specs.Paper.Symbols.{Width, bytesFor, bytesOf}
 use Rattle.symbols.specs.Laws.Sizes.{room-bytes}
 use Rattle.symbols.specs.Laws.Packing.{bytes-length}

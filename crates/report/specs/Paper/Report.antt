@@ -7,8 +7,8 @@ use lib.Dec.{ltb, eqb}
 use lib.ListN.{length}
 use Rattle.ground.specs.Paper.Refusals.{Row, Outcome, accepted, refused, refuse, judged, _then_}
 use Rattle.ground.specs.Paper.Rows.{zeros}
-use Rattle.stopper.specs.Paper.Choosing.{countsOf, counted, chosenTable}
 use Rattle.stopper.specs.declared.table.Table.{Table}
+use Rattle.choosing.specs.Paper.Choosing.{countsOf, counted, chosenTable}
 use Rattle.symbols.specs.Paper.Symbols.{bytesOf}
 use Rattle.texts.specs.Paper.Hits.{hits, goodPattern}
 use Rattle.sound.specs.Paper.Roll.{symbolsFor, recordOf}

@@ -11,10 +11,10 @@ use lib.Seq.{take-append-seam, drop-append-seam, take-suc}
 use Rattle.ground.specs.Helpers.Below.{Below}
 use Rattle.stopper.specs.Paper.Table.{base, stoppers, goodCode, wordOf, lengthOf, rankIn}
 use Rattle.stopper.specs.Paper.Reading.{write}
-use Rattle.stopper.specs.Laws.Choosing.{symbolsTaken}
 use Rattle.stopper.specs.Laws.Reading.{write-below}
 use Rattle.stopper.specs.Laws.Table.{code-good}
 use Rattle.stopper.specs.declared.code.Code.{Code}
+use Rattle.choosing.specs.Laws.Choosing.{symbolsTaken}
 use Rattle.sound.specs.Paper.Roll.{textRow}
 
 -- ---- symbols are below 2 ^ k

@@ -13,6 +13,15 @@ use lib.ListN.{length, drop, getD}
 use lib.Seq.{drop-cons, drop-length}
 use Rattle.stopper.specs.Paper.Table.{has, repeats, rankIn}
 
+infix 50 _∈_
+abbrev pub _∈_ : ℕ → List ℕ → Type 0
+_∈_ x l = List·Memᴰ x l
+
+pub mem-at : (l : List ℕ) (i : ℕ) → i < length l → getD l i 0 ∈ l
+mem-at [] i h = absurd (omega arith)
+mem-at (x ∷ l) zero h = List·Memᴰ·head refl
+mem-at (x ∷ l) (suc i) h = List·Memᴰ·tail (mem-at l i (omega arith))
+
 module _ (l : List ℕ) (i : ℕ) (h : i < length l) where
   pub rank-here : (b : ℕ) → getD l i 0 ≡ b → rankIn (drop i l) b ≡ 0
   unfolding rankIn

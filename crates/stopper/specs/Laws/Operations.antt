@@ -13,41 +13,16 @@ use Rattle.ground.specs.Paper.Refusals.{accepted, refused}
 use Rattle.ground.specs.Paper.Rows.{zeros}
 use Rattle.ground.specs.Laws.Refusals.{Accepted}
 use Rattle.ground.specs.Laws.Rows.{padded-over}
-use Rattle.ground.specs.declared.answers.Done.the-variants.{Yes, Refused}
+use Rattle.ground.specs.declared.answers.Done.the-variants.{Yes}
 use Rattle.stopper.specs.Paper.Code.{isWord, rankOf}
 use Rattle.stopper.specs.Paper.Table.{base, stoppers, characters, goodTable, rankIn, wordOf, lengthOf}
-use Rattle.stopper.specs.Paper.Choosing.{countsOf, counted, chosenTable}
-use Rattle.stopper.specs.Paper.Operations.{countSays, Counting, chooseSays, Choosing, codewordSays, Coding, isOne, symbols, characterSays}
-use Rattle.stopper.specs.Helpers.Answers.{rankingOf, bestOf, refusedChoice, refusedCoded, rankedAs}
+use Rattle.stopper.specs.Paper.Operations.{codewordSays, Coding, isOne, symbols, characterSays}
+use Rattle.stopper.specs.Helpers.Answers.{refusedCoded, rankedAs}
 use Rattle.stopper.specs.declared.code.Code.{Code}
 use Rattle.stopper.specs.declared.table.Table.{Table}
-use Rattle.stopper.specs.declared.choose.Choice.{Choice}
-use Rattle.stopper.specs.declared.ranking.Ranking.{Ranking}
-use Rattle.stopper.specs.declared.ranking.Best.{Best}
 use Rattle.stopper.specs.declared.codeword_of.Codeword.{Codeword}
 use Rattle.stopper.specs.declared.codeword_of.Coded.{Coded}
 use Rattle.stopper.specs.declared.character_of.Ranked.the-variants.{At, Nothing}
-
--- ---- count a text
-
-module _ {text counts : List ℕ} where
-  pub count-refused : {n v : ℕ} → countSays text counts ≡ refused n v → Counting text counts (Refused n v) counts
-  count-refused e = record { says = sym e; leaves = rw e }
-
-  pub count-yes : {after : List ℕ} → Accepted (countSays text counts) → after ≡ countsOf text → Counting text counts Yes after
-  count-yes e p = record { says = sym e; leaves = rw e p }
-
--- ---- choose
-
-module _ {k : ℕ} {counts : List ℕ} where
-  pub choose-refused : {r : Choice} (n v : ℕ) → chooseSays k counts ≡ refused n v → r ≡ refusedChoice k n v → Choosing k counts r
-  unfolding refusedChoice
-  choose-refused n v e p = rw p (record { says = sym e; table = rw e; total = rw e })
-
-  pub choose-yes : {ranking : Ranking} {best : Best} → Accepted (chooseSays k counts) → ranking ≡ rankingOf (counted counts) → best ≡ bestOf k (counted counts)
-      → Choosing k counts (record { answer = Yes; table = record { code = best .code; sigma = ranking .sigma; places = ranking .places }; total = best .total })
-  unfolding chosenTable
-  choose-yes e p q = rw (p, q) (record { says = sym e; table = rw e; total = rw e })
 
 -- ---- codeword of a character
 

@@ -14,8 +14,7 @@ use lib.ListN.{length, take, drop, getD, length-take}
 use lib.Seq.{getD-take, length-take-le, drop-cons, drop-length}
 use Rattle.ground.specs.Helpers.Below.{Below, none, also}
 use Rattle.stopper.specs.Paper.Table.{has, repeats, rankIn, characters, goodTable}
-use Rattle.stopper.specs.Laws.Characters.{has-rank, mem-has}
-use Rattle.stopper.specs.Laws.Ranking.{_∈_, mem-at}
+use Rattle.stopper.specs.Laws.Characters.{has-rank, mem-has, _∈_, mem-at}
 use Rattle.stopper.specs.Laws.Table.{table-few}
 use Rattle.stopper.specs.declared.table.Table.{Table}
 use Rattle.texts.specs.Paper.Characters.{firstForeign}

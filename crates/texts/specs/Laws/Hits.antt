@@ -12,7 +12,7 @@ use lib.Dec.{T, eqb, eqb→eq, eqb-refl}
 use lib.ListN.{length, drop, getD}
 use Rattle.ground.specs.Laws.Tests.{same-test}
 use Rattle.stopper.specs.Paper.Table.{has, rankIn}
-use Rattle.stopper.specs.Laws.Ranking.{_∈_}
+use Rattle.stopper.specs.Laws.Characters.{_∈_}
 use Rattle.texts.specs.Paper.Characters.{firstForeign}
 use Rattle.texts.specs.Paper.Hits.{stands, hitsFrom, hits}
 use Rattle.texts.specs.Laws.Characters.{InTable, empty, char, rank-character, known-foreign}

@@ -1,0 +1,14 @@
+-- `choosing::choose::refused` meets its contract.
+-- Assumes nothing.
+use mathlib.Core.Path.{refl}
+use Rattle.ground.specs.Paper.Rows.{zeros, padded}
+use Rattle.choosing.specs.Helpers.Answers.{refusedChoice}
+use Rattle.choosing.proofs.choose.refused.Statement.{statement}
+use Rattle.choosing.proofs.choose.refused.Tie as tie
+
+returns : tie.Need-returns
+unfolding refusedChoice zeros padded
+returns c = refl
+
+pub refused-spec : {M : Type 1} → statement M
+refused-spec = tie.close (tie.spec returns)

@@ -1,0 +1,6 @@
+-- What is proved of the definitions, by subject: it needs no belief, and crates above may cite it.
+pub mod Ranking
+pub mod Choosing
+pub mod Counting
+pub mod Accepting
+pub mod Operations

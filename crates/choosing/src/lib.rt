@@ -1,0 +1,4 @@
+// Counting a text, the house ranking, and choosing a table for counts.
+pub mod choose;
+pub mod count;
+pub mod ranking;
