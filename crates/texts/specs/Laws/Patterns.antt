@@ -2,7 +2,7 @@
 -- Assumes nothing.
 use mathlib.Core.Path.{_≡_}
 use mathlib.Core.Logic.{_⊎_, inl, inr}
-use mathlib.Core.Bool.{true, false}
+use mathlib.Core.Bool.{false}
 use mathlib.Core.List.{List}
 use Prim.Native.Nat.{ℕ, _≤_, _<_}
 use native.Mathlib.Omega.{arith}
@@ -17,10 +17,6 @@ module _ (pattern : List ℕ) where
   unfolding goodPattern
   pattern-bad (inl h) = rw (lt-leb 1 (length pattern) h)
   pattern-bad (inr h) = rw (le-leb 1 (length pattern) (omega arith), lt-leb (length pattern) 64 h)
-
-  pub pattern-good : 1 ≤ length pattern → length pattern ≤ 64 → goodPattern pattern ≡ true
-  unfolding goodPattern
-  pattern-good h k = rw (le-leb 1 (length pattern) h, le-leb (length pattern) 64 k)
 
   pub pattern-least : T (goodPattern pattern) → 1 ≤ length pattern
   unfolding goodPattern
