@@ -8,6 +8,7 @@ mod taken;
 
 use ground::answers::Done;
 use ground::answers::Total;
+use stopper::code::LONGEST;
 use stopper::codeword_of::Codeword;
 use taken::read;
 use taken::roll_of;
@@ -72,7 +73,7 @@ pub extern "C" fn monterculo_codeword_of(
     sigma: u16,
     places: &[u8; 256],
     character: u8,
-    word: &mut [u8; 86],
+    word: &mut [u8; LONGEST],
     value: &mut u64,
 ) -> u32
     ensures told { λ r. ⌜ Told (codewordSays (tableAt k s sigma (now (places .entry))) character then accepted (codewordGiven (tableAt k s sigma (now (places .entry))) character .length)) r (now (value .exit)) ⌝ }
@@ -104,7 +105,7 @@ pub extern "C" fn monterculo_character_of(
     sigma: u16,
     places: &[u8; 256],
     length: usize,
-    word: &[u8; 86],
+    word: &[u8; LONGEST],
     value: &mut u64,
 ) -> u32
     ensures { λ r. ⌜ Told (characterSays (tableAt k s sigma (now (places .entry))) (record { length = length; symbols = now (word .entry) })) r (now (value .exit)) ⌝ }

@@ -2,7 +2,7 @@
 use ground::answers::Answer;
 use ground::answers::Done;
 use sound::records::Roll;
-use stopper::code::Code;
+use stopper::code::even_code;
 use stopper::table::Table;
 ghost use mathlib.Core.Path.{_≡_};
 ghost use Rattle.ground.specs.Paper.Refusals.{accepted, _then_};
@@ -14,7 +14,7 @@ pub fn table_of(k: u8, s: u8, sigma: u16, places: &[u8; 256]) -> Table
 {
     let held = *places;
     Table {
-        code: Code { k, s },
+        code: even_code(k, s),
         sigma,
         places: held,
     }

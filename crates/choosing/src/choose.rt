@@ -1,10 +1,10 @@
 // Choosing a table for counts.
-use stopper::code::Code;
-use stopper::code::good_width;
 use crate::ranking::best_of;
 use crate::ranking::ranking_of;
-use stopper::table::Table;
 use ground::answers::Done;
+use stopper::code::even_code;
+use stopper::code::good_width;
+use stopper::table::Table;
 ghost use mathlib.Core.Path.{_≡_};
 ghost use Rattle.choosing.specs.Paper.Operations.{Choosing};
 ghost use Rattle.choosing.specs.Helpers.Answers.{refusedChoice};
@@ -22,7 +22,7 @@ fn refused(k: u8, number: u8, value: u64) -> Choice
     Choice {
         answer: Done::Refused(number, value),
         table: Table {
-            code: Code { k, s: 0 },
+            code: even_code(k, 0),
             sigma: 0,
             places: [0; 256],
         },

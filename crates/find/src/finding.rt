@@ -2,15 +2,17 @@
 use sound::ends::end_at;
 use sound::records::Roll;
 use stopper::code::Code;
+use stopper::code::LONGEST;
 use stopper::table::ranks_of;
-use stopper::word::symbols_of;
+use stopper::word::spell_word;
 use symbols::symbol::get;
+use texts::pattern::MOST_PATTERN;
 ghost use mathlib.Core.Path.{_≡_};
-ghost use Prim.Native.Nat.{_≤_};
+ghost use Prim.Native.Nat.{_*_, _≤_};
 ghost use lib.Dec.{T};
 ghost use lib.ListN.{length, take};
-ghost use Rattle.stopper.specs.Paper.Table.{goodCode};
-ghost use Rattle.texts.specs.Paper.Hits.{hits, goodPattern, listed};
+ghost use Rattle.stopper.specs.Paper.Table.{goodCode, longest};
+ghost use Rattle.texts.specs.Paper.Hits.{hits, goodPattern, listed, mostPattern};
 ghost use Rattle.sound.specs.Paper.Roll.{textOf, Sound};
 ghost use Rattle.find.specs.Helpers.Finding.{patternRow, wordHits};
 
@@ -22,7 +24,7 @@ fn spell_pattern(
     pattern: &[u8],
     symbols: &mut [u8],
 ) -> usize
-    requires { ⌜ T (goodCode code) × (sigma ≤ 256) × (length (now pattern) ≤ 64) × (length (now symbols) ≡ 5504) ⌝ }
+    requires { ⌜ T (goodCode code) × (sigma ≤ 256) × (length (now pattern) ≤ mostPattern) × (length (now symbols) ≡ mostPattern * longest) ⌝ }
     ensures length { λ r. ⌜ r ≡ length (patternRow code (take sigma places) (now (pattern .entry))) ⌝ }
     ensures symbols { λ r. ⌜ take r (now (symbols .exit)) ≡ patternRow code (take sigma places) (now (pattern .entry)) ⌝ }
 {
@@ -34,8 +36,8 @@ fn spell_pattern(
         if sigma <= rank {
             return 0;
         }
-        let end = p + 86;
-        p += symbols_of(code, rank as u32, &mut symbols[p..end]);
+        let end = p + LONGEST;
+        p += spell_word(code, rank as u32, &mut symbols[p..end]);
         i += 1;
     }
     p
@@ -92,7 +94,7 @@ pub fn search_sound(roll: Roll, buf: &[u8], pattern: &[u8], slice: &mut [u32]) -
     let code = table.code;
     let sigma = table.sigma;
     let places = table.places;
-    let mut symbols = [0u8; 5504];
+    let mut symbols = [0u8; MOST_PATTERN * LONGEST];
     let long = spell_pattern(code, sigma, places, pattern, &mut symbols);
     if long == 0 {
         return 0;

@@ -1,10 +1,10 @@
 // What the program answers.
+use choosing::choose::choose;
+use choosing::count::count;
 use ground::answers::Done;
 use ground::answers::Total;
 use roll::pack::pack;
 use roll::search::search;
-use choosing::choose::choose;
-use choosing::count::count;
 use symbols::size::bytes_for;
 use texts::pattern::good_pattern;
 use writing::decimal::decimal_out;

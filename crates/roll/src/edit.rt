@@ -4,6 +4,7 @@ use ground::answers::Done;
 use sound::lookup::first_wrong;
 use sound::lookup::start_of;
 use sound::records::Roll;
+use stopper::code::LONGEST;
 use store::measure::Extent;
 use store::measure::measure;
 use store::replace::Run;
@@ -102,7 +103,7 @@ fn change(
     let last = start_of(roll, buf, dir, end);
     let space = room_of(code.k, buf.len()) - first;
     let mut lengths = [0u8; 256];
-    let mut words = [0u8; 22016];
+    let mut words = [0u8; 256 * LONGEST];
     let extent = measure(table, space, text, &mut lengths, &mut words);
     match extent {
         Extent::Foreign(place) => refused(roll, 3, place as u64),

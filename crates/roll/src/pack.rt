@@ -1,6 +1,7 @@
 // Packing a text under a table.
 use ground::answers::Done;
 use sound::records::Roll;
+use stopper::code::LONGEST;
 use stopper::table::Table;
 use stopper::table::good_table;
 use store::fresh::store_text;
@@ -33,7 +34,7 @@ pub fn pack(table: Table, text: &[u8], buf: &mut [u8]) -> Packed
     }
     let code = table.code;
     let mut lengths = [0u8; 256];
-    let mut words = [0u8; 22016];
+    let mut words = [0u8; 256 * LONGEST];
     let extent = measure(
         table,
         room_of(code.k, buf.len()),

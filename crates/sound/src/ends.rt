@@ -4,7 +4,7 @@ use stopper::code::stoppers_at;
 use stopper::reading::next_place;
 use symbols::bits::byte_of;
 use symbols::bits::per_byte;
-use symbols::bits::place_of;
+use symbols::bits::place_in_byte;
 use symbols::symbol::get;
 ghost use mathlib.Core.Path.{_≡_};
 ghost use mathlib.Core.List.{[], _∷_};
@@ -72,7 +72,7 @@ pub fn pass_ends(code: Code, stops: &[u8], buf: &[u8], p: usize, count: usize) -
     let mut left = count;
     while 0 < left {
         let k = code.k;
-        if place_of(k, q) == 0 {
+        if place_in_byte(k, q) == 0 {
             let ended = stops[buf[byte_of(k, q)] as usize] as usize;
             if ended < left {
                 left -= ended;

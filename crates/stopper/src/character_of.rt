@@ -1,5 +1,6 @@
 // The character of a codeword.
 use crate::code::Code;
+use crate::code::LONGEST;
 use crate::code::base_of;
 use crate::codeword_of::Codeword;
 use crate::reading::Step;
@@ -12,7 +13,7 @@ ghost use mathlib.Core.Path.{_≡_};
 ghost use Prim.Native.Nat.{_≤_};
 ghost use lib.Dec.{T};
 ghost use lib.ListN.{take};
-ghost use Rattle.stopper.specs.Paper.Table.{goodCode};
+ghost use Rattle.stopper.specs.Paper.Table.{goodCode, longest};
 ghost use Rattle.stopper.specs.Paper.Operations.{Decoding};
 ghost use Rattle.stopper.specs.Helpers.Answers.{rankedAs, ifLast};
 
@@ -38,8 +39,8 @@ fn if_last(rank: u32, read: usize, length: usize) -> Ranked
     Ranked::At(rank)
 }
 
-pub fn rank_of_word(code: Code, sigma: u32, length: usize, symbols: [u8; 86]) -> Ranked
-    requires { ⌜ T (goodCode code) × (sigma ≤ 256) × (length ≤ 86) ⌝ }
+pub fn rank_of_word(code: Code, sigma: u32, length: usize, symbols: [u8; LONGEST]) -> Ranked
+    requires { ⌜ T (goodCode code) × (sigma ≤ 256) × (length ≤ longest) ⌝ }
     ensures { λ r. ⌜ r ≡ rankedAs code sigma (take length symbols) ⌝ }
 {
     let m = base_of(code);
@@ -74,7 +75,7 @@ pub fn character_of(table: Table, word: Codeword) -> Answer
         return Answer::Refused(1, 0);
     }
     let length = word.length;
-    if 86 < length {
+    if LONGEST < length {
         return Answer::Refused(6, 0);
     }
     let code = table.code;

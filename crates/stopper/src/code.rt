@@ -2,12 +2,22 @@
 ghost use mathlib.Core.Path.{_≡_};
 ghost use Prim.Native.Nat.{_<_};
 ghost use lib.Dec.{T};
-ghost use Rattle.stopper.specs.Paper.Table.{base, stoppers, goodWidth, goodCode, lengthOf};
+ghost use Rattle.stopper.specs.Paper.Table.{evenCode, base, stoppers, goodWidth, goodCode, lengthOf};
 ghost use Rattle.stopper.specs.Helpers.Answers.{placeOf};
 
 pub struct Code {
     pub k: u8,
     pub s: u8,
+}
+
+// No codeword of a rank below 256 has more symbols.
+pub const LONGEST: usize = 86;
+
+// The code with the same number of stoppers at every place.
+pub fn even_code(k: u8, s: u8) -> Code
+    ensures { λ r. ⌜ r ≡ evenCode k s ⌝ }
+{
+    Code { k, s }
 }
 
 // Where the stopper of a codeword stands, and its rank less the number of shorter codewords.

@@ -1,8 +1,9 @@
 // The codeword of a character.
+use crate::code::LONGEST;
 use crate::table::Table;
 use crate::table::good_table;
 use crate::table::rank_of;
-use crate::word::symbols_of;
+use crate::word::spell_word;
 use ground::answers::Done;
 ghost use mathlib.Core.Path.{_≡_};
 ghost use Rattle.stopper.specs.Paper.Operations.{Coding};
@@ -11,7 +12,7 @@ ghost use Rattle.stopper.specs.Helpers.Answers.{refusedCoded};
 // Symbols, one to a byte, 0 past the length.
 pub struct Codeword {
     pub length: usize,
-    pub symbols: [u8; 86],
+    pub symbols: [u8; LONGEST],
 }
 
 pub struct Coded {
@@ -26,7 +27,7 @@ fn refused(number: u8) -> Coded
         answer: Done::Refused(number, 0),
         word: Codeword {
             length: 0,
-            symbols: [0; 86],
+            symbols: [0; LONGEST],
         },
     }
 }
@@ -43,8 +44,8 @@ pub fn codeword_of(table: Table, character: u8) -> Coded
     if sigma <= rank {
         return refused(3);
     }
-    let mut symbols = [0u8; 86];
-    let length = symbols_of(code, rank as u32, &mut symbols);
+    let mut symbols = [0u8; LONGEST];
+    let length = spell_word(code, rank as u32, &mut symbols);
     Coded {
         answer: Done::Yes,
         word: Codeword { length, symbols },

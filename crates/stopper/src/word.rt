@@ -25,7 +25,7 @@ fn emit(code: Code, x: u32, i: u32, out: &mut [u8])
 }
 
 // The codeword of a rank, written from the start of out; its length.
-pub fn symbols_of(code: Code, rank: u32, out: &mut [u8]) -> usize
+pub fn spell_word(code: Code, rank: u32, out: &mut [u8]) -> usize
     requires { ⌜ T (goodCode code) × (rank < 256) × (lengthOf code rank ≤ length (now out)) ⌝ }
     ensures length { λ r. ⌜ r ≡ lengthOf code rank ⌝ }
     ensures symbols { λ _. ⌜ now (out .exit) ≡ wordOf code rank ++ drop (lengthOf code rank) (now (out .entry)) ⌝ }

@@ -4,10 +4,11 @@ use crate::words::fitting;
 use crate::words::spell_all;
 use stopper::table::Table;
 ghost use mathlib.Core.Path.{_≡_};
+ghost use Prim.Native.Nat.{_*_};
 ghost use lib.Dec.{T};
 ghost use lib.ListN.{length};
 ghost use Rattle.ground.specs.Paper.Rows.{zeros};
-ghost use Rattle.stopper.specs.Paper.Table.{goodTable};
+ghost use Rattle.stopper.specs.Paper.Table.{goodTable, longest};
 ghost use Rattle.store.specs.Helpers.Measured.{Measured};
 
 // All fit, with so many symbols; or the place of the first character that is not in the table; or, all being in it, of the first that does not fit.
@@ -26,7 +27,7 @@ pub fn measure(
     lengths: &mut [u8],
     words: &mut [u8],
 ) -> Extent
-    requires { ⌜ T (goodTable table) × (now lengths ≡ zeros 256) × (length (now words) ≡ 22016) ⌝ }
+    requires { ⌜ T (goodTable table) × (now lengths ≡ zeros 256) × (length (now words) ≡ 256 * longest) ⌝ }
     ensures { λ r. ⌜ Measured table room (now (text .entry)) (now (lengths .exit)) (now (words .exit)) r ⌝ }
 {
     if text.len() == 0 {

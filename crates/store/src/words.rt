@@ -1,7 +1,8 @@
 // The codewords of a table, worked out once for a call: for each character its length, and its symbols in 86 places of their own.
 // A length of 0 says that the character is not in the table.
 use stopper::code::Code;
-use stopper::word::symbols_of;
+use stopper::code::LONGEST;
+use stopper::word::spell_word;
 use symbols::gather::Gather;
 use symbols::gather::add;
 use symbols::gather::add_each;
@@ -9,12 +10,12 @@ use symbols::gather::begin;
 use symbols::gather::finish;
 use symbols::gather::join_all;
 ghost use mathlib.Core.Path.{_≡_};
-ghost use Prim.Native.Nat.{_+_, _≤_, _<_};
+ghost use Prim.Native.Nat.{_*_, _+_, _≤_, _<_};
 ghost use lib.Dec.{T};
 ghost use lib.ListN.{length, take, drop};
 ghost use Rattle.ground.specs.Paper.Rows.{zeros};
 ghost use Rattle.ground.specs.Helpers.Moved.{laidFrom};
-ghost use Rattle.stopper.specs.Paper.Table.{goodCode};
+ghost use Rattle.stopper.specs.Paper.Table.{goodCode, longest};
 ghost use Rattle.symbols.specs.Paper.Symbols.{symbolsOf};
 ghost use Rattle.symbols.specs.Helpers.Gathered.{Waiting, Added};
 ghost use Rattle.store.specs.Helpers.Words.{Spelt, goesOn, fitOf, foreignOf, wordAt, WordsLaid, Numbers, Laid, rowOf};
@@ -27,16 +28,16 @@ fn wide(x: u8) -> usize
 
 // From the last character to the first.
 pub fn spell_all(code: Code, sigma: u16, places: [u8; 256], lengths: &mut [u8], words: &mut [u8])
-    requires { ⌜ T (goodCode code) × (sigma ≤ 256) × (now lengths ≡ zeros 256) × (length (now words) ≡ 22016) ⌝ }
+    requires { ⌜ T (goodCode code) × (sigma ≤ 256) × (now lengths ≡ zeros 256) × (length (now words) ≡ 256 * longest) ⌝ }
     ensures { λ _. ⌜ Spelt code (take sigma places) (now (lengths .exit)) (now (words .exit)) ⌝ }
 {
     let mut i = sigma as usize;
     while 0 < i {
         i -= 1;
         let b = wide(places[i]);
-        let at = b * 86;
-        let end = at + 86;
-        let long = symbols_of(code, i as u32, &mut words[at..end]);
+        let at = b * LONGEST;
+        let end = at + LONGEST;
+        let long = spell_word(code, i as u32, &mut words[at..end]);
         lengths[b] = long as u8;
     }
 }
@@ -95,7 +96,7 @@ fn numbers_of(k: u8, lengths: &[u8], words: &[u8]) -> [u32; 256]
     while b < 256 {
         let long = wide(lengths[b]);
         if long <= 8 {
-            let at = b * 86;
+            let at = b * LONGEST;
             let end = at + long;
             numbers[b] = join_all(k, &words[at..end]);
         }
@@ -121,7 +122,7 @@ fn add_word(
     if long <= 8 {
         return add(k, g, buf, numbers[b], long);
     }
-    let at = b * 86;
+    let at = b * LONGEST;
     let end = at + long;
     add_each(k, g, buf, &words[at..end])
 }

@@ -21,7 +21,7 @@ pub fn byte_of(k: u8, i: usize) -> usize
 }
 
 // The place of symbol i among the symbols of its byte.
-pub fn place_of(k: u8, i: usize) -> usize
+pub fn place_in_byte(k: u8, i: usize) -> usize
     requires { ⌜ Width k ⌝ }
     ensures { λ r. ⌜ r ≡ i % per k ⌝ }
 {
@@ -33,7 +33,7 @@ pub fn shift_of(k: u8, i: usize) -> u8
     requires { ⌜ Width k ⌝ }
     ensures { λ r. ⌜ r ≡ shift k (i % per k) ⌝ }
 {
-    8 - k - k * (place_of(k, i) as u8)
+    8 - k - k * (place_in_byte(k, i) as u8)
 }
 
 pub fn cut_out(b: u8, k: u8, low: u8) -> u8

@@ -39,7 +39,7 @@ pub fn begin(k: u8, buf: &[u8], p: usize) -> Gather
     ensures symbols { λ r. ⌜ gathered k r (now (buf .entry)) ≡ take p (symbolsOf k (now (buf .entry))) ⌝ }
 {
     let next = bits::byte_of(k, p);
-    let count = bits::place_of(k, p);
+    let count = bits::place_in_byte(k, p);
     if count == 0 {
         return Gather {
             bits: 0,

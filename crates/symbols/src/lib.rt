@@ -4,7 +4,7 @@
 //     run::clear, up, down, all_zero    a run of symbols
 //     gather::begin, add, finish        symbols stored one after the other
 //     size::bytes_for, unused, room_of  bytes for symbols, symbols for bytes
-//     bits::per_byte, byte_of, place_of where a symbol stands
+//     bits::per_byte, byte_of, place_in_byte   where a symbol stands
 // and each contract is of that row, or of those sizes. The other modules are what these are made of.
 pub mod bits;
 mod each;

@@ -10,7 +10,7 @@ pub fn bytes_for(k: u8, h: usize) -> usize
     ensures { λ r. ⌜ r ≡ bytesFor k h ⌝ }
 {
     let whole = bits::byte_of(k, h);
-    if bits::place_of(k, h) == 0 {
+    if bits::place_in_byte(k, h) == 0 {
         whole
     } else {
         whole + 1
@@ -22,7 +22,7 @@ pub fn unused(k: u8, h: usize) -> usize
     requires { ⌜ Width k ⌝ }
     ensures { λ r. ⌜ r ≡ bytesFor k h * per k - h ⌝ }
 {
-    let used = bits::place_of(k, h);
+    let used = bits::place_in_byte(k, h);
     if used == 0 {
         0
     } else {

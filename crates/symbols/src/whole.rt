@@ -51,7 +51,7 @@ pub fn down(k: u8, buf: &mut [u8], first: usize, last: usize, by: usize)
     ensures { λ _. ⌜ symbolsOf k (now (buf .exit)) ≡ movedDown (symbolsOf k (now (buf .entry))) (first * per k + by) (last * per k + by) by ⌝ }
 {
     let ahead = bits::byte_of(k, by);
-    let place = bits::place_of(k, by) as u8;
+    let place = bits::place_in_byte(k, by) as u8;
     let mut j = first;
     while j < last {
         buf[j] = window(k, buf, j + ahead, place);

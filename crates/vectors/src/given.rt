@@ -1,6 +1,6 @@
 // What a case is given: numbers, rows of bytes, tables, rolls.
 use sound::records::Roll;
-use stopper::code::Code;
+use stopper::code::even_code;
 use stopper::table::Table;
 ghost use Prim.Native.Nat.{_≤_};
 ghost use lib.ListN.{length};
@@ -131,10 +131,7 @@ pub fn table_at(s: &[u8], at: usize) -> TableAt {
     let row = bytes(s, sigma.next, &mut places);
     TableAt {
         table: Table {
-            code: Code {
-                k: (k.value % 256) as u8,
-                s: (stoppers.value % 256) as u8,
-            },
+            code: even_code((k.value % 256) as u8, (stoppers.value % 256) as u8),
             sigma: (sigma.value % 65536) as u16,
             places,
         },

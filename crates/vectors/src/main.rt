@@ -23,6 +23,7 @@ use printed::roll_out;
 use printed::runs;
 use printed::table_out;
 use sound::records::Roll;
+use stopper::code::LONGEST;
 use stopper::codeword_of::Codeword;
 use stopper::table::Table;
 
@@ -320,7 +321,7 @@ fn coded(table: Table, wanted: u8) {
 fn character_case(s: &[u8], at: usize) -> usize {
     let given = table_at(s, at);
     let length = number(s, given.next);
-    let mut symbols = [0u8; 86];
+    let mut symbols = [0u8; LONGEST];
     let row = bytes(s, length.next, &mut symbols);
     let table = given.table;
     let word = Codeword {

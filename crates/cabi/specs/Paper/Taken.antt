@@ -4,6 +4,7 @@ use mathlib.Core.Path.{_≡_}
 use mathlib.Core.List.{List}
 use Prim.Native.Nat.{ℕ}
 use Rattle.ground.specs.Paper.Refusals.{Outcome, accepted, refused}
+use Rattle.stopper.specs.Paper.Table.{evenCode}
 use Rattle.stopper.specs.declared.table.Table.{Table}
 use Rattle.sound.specs.declared.records.Roll.{Roll}
 
@@ -22,7 +23,7 @@ pub record Told (outcome : Outcome ℕ) (number value : ℕ) : Type 0 where
   pub value-is : value ≡ valueOf outcome
 
 abbrev pub tableAt : ℕ → ℕ → ℕ → List ℕ → Table
-tableAt k s sigma places = record { code = record { k = k; s = s }; sigma = sigma; places = places }
+tableAt k s sigma places = record { code = evenCode k s; sigma = sigma; places = places }
 
 abbrev pub rollAt : ℕ → ℕ → ℕ → List ℕ → ℕ → ℕ → Roll
 rollAt k s sigma places n h = record { table = tableAt k s sigma places; n = n; h = h }

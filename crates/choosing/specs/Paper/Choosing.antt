@@ -6,7 +6,7 @@ use Prim.Native.Nat.{ℕ, zero, suc, _+_, _-_, _*_, _^_}
 use lib.Dec.{ltb, eqb}
 use lib.ListN.{getD}
 use Rattle.ground.specs.Paper.Rows.{tab}
-use Rattle.stopper.specs.Paper.Table.{lengthOf, tableOf}
+use Rattle.stopper.specs.Paper.Table.{evenCode, lengthOf, tableOf}
 use Rattle.stopper.specs.declared.code.Code.{Code}
 use Rattle.stopper.specs.declared.table.Table.{Table}
 use Rattle.choosing.specs.Paper.Ranking.{ranked}
@@ -39,7 +39,7 @@ least f (suc n) = let b : ℕ = least f n in cond (ltb (f (suc n)) (f b)) (suc n
 
 -- the code of width k with s = j + 1, and its total
 abbrev pub codeFor : ℕ → ℕ → Code
-codeFor k j = record { k = k; s = suc j }
+codeFor k j = evenCode k (suc j)
 
 abbrev pub totalFor : ℕ → (ℕ → ℕ) → ℕ → ℕ
 totalFor k count j = total (codeFor k j) count

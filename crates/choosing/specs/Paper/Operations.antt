@@ -10,7 +10,7 @@ use Rattle.ground.specs.Paper.Limit.{limit}
 use Rattle.ground.specs.Paper.Refusals.{Row, refuse, Outcome, judged, kept}
 use Rattle.ground.specs.Paper.Answers.{doneSays}
 use Rattle.ground.specs.declared.answers.Done.{Done}
-use Rattle.stopper.specs.Paper.Table.{goodWidth, tableOf}
+use Rattle.stopper.specs.Paper.Table.{evenCode, goodWidth, tableOf}
 use Rattle.stopper.specs.declared.table.Table.{Table}
 use Rattle.choosing.specs.Paper.Choosing.{countsOf, counted, total, chosen, chosenTable}
 use Rattle.choosing.specs.declared.choose.Choice.{Choice}
@@ -44,7 +44,7 @@ chooseRows k counts =
 
 -- beside a refusal: k as given, s 0, σ 0, all places 0
 abbrev pub noTable : ℕ → Table
-noTable k = tableOf (record { k = k; s = 0 }) []
+noTable k = tableOf (evenCode k 0) []
 
 unfoldable pub chooseSays : ℕ → List ℕ → Outcome (Unit {0})
 chooseSays k counts = judged (chooseRows k counts) tt

@@ -14,7 +14,6 @@ use Rattle.stopper.specs.Paper.Reading.{write}
 use Rattle.stopper.specs.Laws.Reading.{write-below}
 use Rattle.stopper.specs.Laws.Table.{code-good}
 use Rattle.stopper.specs.declared.code.Code.{Code}
-use Rattle.choosing.specs.Laws.Choosing.{symbolsTaken}
 use Rattle.sound.specs.Paper.Roll.{textRow}
 
 -- ---- symbols are below 2 ^ k
@@ -69,11 +68,6 @@ module _ (c : Code) (l : List ℕ) where
   length-up (b ∷ text) (suc i) zero h = absurd (omega arith)
   length-up (b ∷ text) (suc i) (suc j) h =
       omega (arith, length-cons b (take i text), length-cons b (take j text), length-up text i j (le-of-suc-le-suc h))
-
-  pub symbols-taken : (text : List ℕ) → symbolsTaken c l text ≡ length (textRow c l text)
-  unfolding symbolsTaken
-  symbols-taken [] = sym length-none
-  symbols-taken (b ∷ text) = ap (λ (n : ℕ). lengthOf c (rankIn l b) + n) (symbols-taken text) ∙ sym (length-cons b text)
 
 module _ (c : Code) (l p : List ℕ) (i : ℕ) (h : i < length p) where
   pub text-more : textRow c l (take (suc i) p) ≡ textRow c l (take i p) ++ wordOf c (rankIn l (getD p i 0))

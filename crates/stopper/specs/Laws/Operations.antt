@@ -15,7 +15,7 @@ use Rattle.ground.specs.Laws.Refusals.{Accepted}
 use Rattle.ground.specs.Laws.Rows.{padded-over}
 use Rattle.ground.specs.declared.answers.Done.the-variants.{Yes}
 use Rattle.stopper.specs.Paper.Code.{isWord, rankOf}
-use Rattle.stopper.specs.Paper.Table.{base, stoppers, characters, goodTable, rankIn, wordOf, lengthOf}
+use Rattle.stopper.specs.Paper.Table.{base, stoppers, characters, goodTable, rankIn, wordOf, lengthOf, longest}
 use Rattle.stopper.specs.Paper.Operations.{codewordSays, Coding, isOne, symbols, characterSays}
 use Rattle.stopper.specs.Helpers.Answers.{refusedCoded, rankedAs}
 use Rattle.stopper.specs.declared.code.Code.{Code}
@@ -33,10 +33,10 @@ module _ {t : Table} {b : ℕ} where
 
   -- the codeword of rank r, laid over zeros
   pub codeword-yes : {r n : ℕ} {l : List ℕ} → Accepted (codewordSays t b) → r ≡ rankIn (characters t) b
-      → n ≡ lengthOf (t .code) r → l ≡ wordOf (t .code) r ++ drop (lengthOf (t .code) r) (zeros 86)
+      → n ≡ lengthOf (t .code) r → l ≡ wordOf (t .code) r ++ drop (lengthOf (t .code) r) (zeros longest)
       → Coding t b (record { answer = Yes; word = record { length = n; symbols = l } })
   unfolding lengthOf
-  codeword-yes {r} e p q o = record { says = sym e; word = rw (e, q, o, padded-over 86 (wordOf (t .code) r), p) }
+  codeword-yes {r} e p q o = record { says = sym e; word = rw (e, q, o, padded-over longest (wordOf (t .code) r), p) }
 
 -- ---- character of a codeword
 
@@ -64,7 +64,7 @@ rank-below c σ w {k} e =
     let l : rankOf (base c) (stoppers c) w < σ = ltb→lt _ _ (and-yes (isWord (base c) (stoppers c) 0 w) _ (subst T (sym (f .0)) tt) .1) in
     omega (arith, f .1)
 
-module _ (t : Table) (w : Codeword) (g : goodTable t ≡ true) (h : w .length ≤ 86) where
+module _ (t : Table) (w : Codeword) (g : goodTable t ≡ true) (h : w .length ≤ longest) where
   pub character-none : Nothing ≡ rankedAs (t .code) (t .sigma) (symbols w) → characterSays t w ≡ refused 6 0
   unfolding characterSays
   character-none e = rw (g, le-leb _ _ h, rank-none _ _ _ e)

@@ -9,7 +9,7 @@ use native.Mathlib.Numerals.{add-one}
 use mir.Facts.{and-yes, yes-and, or-yes, eqb-yes, leb-yes, yes-leb}
 use lib.Dec.{T, leb, eqb}
 use Rattle.stopper.specs.Paper.Code.{Good, shorter}
-use Rattle.stopper.specs.Paper.Table.{base, stoppers, goodWidth, goodCode, lengthOf, goodTable, goodCharacters, repeats, characters}
+use Rattle.stopper.specs.Paper.Table.{base, stoppers, goodWidth, goodCode, lengthOf, goodTable, goodCharacters, repeats, characters, longest}
 use Rattle.stopper.specs.Helpers.Answers.{placeOf}
 use Rattle.stopper.specs.Laws.Code.{length-codeword, length-86, opens-const}
 use Rattle.stopper.specs.declared.table.Table.{Table}
@@ -66,7 +66,7 @@ module _ (c : Code) (g : T (goodCode c)) where
   unfolding lengthOf placeOf
   length-place r = length-codeword (base c) (stoppers c) code-good r ∙ sym (add-one _)
 
-  pub length-small : (r : ℕ) → r < 256 → lengthOf c r ≤ 86
+  pub length-small : (r : ℕ) → r < 256 → lengthOf c r ≤ longest
   unfolding lengthOf
   length-small r h = length-86 (base c) (stoppers c) code-good (code-base .0) r h
 

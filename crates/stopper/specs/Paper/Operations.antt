@@ -11,7 +11,7 @@ use Rattle.ground.specs.Paper.Answers.{doneSays, answerSays}
 use Rattle.ground.specs.Paper.Rows.{padded}
 use Rattle.ground.specs.declared.answers.Answer.{Answer}
 use Rattle.stopper.specs.Paper.Code.{isWord, rankOf}
-use Rattle.stopper.specs.Paper.Table.{base, stoppers, has, characters, goodTable, rankIn, wordOf}
+use Rattle.stopper.specs.Paper.Table.{base, stoppers, has, characters, goodTable, rankIn, wordOf, longest}
 use Rattle.stopper.specs.declared.code.Code.{Code}
 use Rattle.stopper.specs.declared.table.Table.{Table}
 use Rattle.stopper.specs.declared.codeword_of.Codeword.{Codeword}
@@ -24,7 +24,7 @@ codewordRows t b = refuse 1 0 (not (goodTable t)) ∷ refuse 3 0 (not (has b (ch
 
 -- a row of symbols in 86 bytes, 0 past its length
 abbrev pub codewordFor : List ℕ → Codeword
-codewordFor w = record { length = length w; symbols = padded 86 w }
+codewordFor w = record { length = length w; symbols = padded longest w }
 
 unfoldable pub codewordSays : Table → ℕ → Outcome (Unit {0})
 codewordSays t b = judged (codewordRows t b) tt
@@ -50,7 +50,7 @@ symbols w = take (w .length) (w .symbols)
 abbrev pub characterRows : Table → Codeword → List Row
 characterRows t w =
     refuse 1 0 (not (goodTable t))
-    ∷ refuse 6 0 (not (leb (w .length) 86 && isOne (t .code) (t .sigma) (symbols w)))
+    ∷ refuse 6 0 (not (leb (w .length) longest && isOne (t .code) (t .sigma) (symbols w)))
     ∷ []
 
 -- the character at its rank

@@ -12,6 +12,10 @@ use Rattle.stopper.specs.declared.table.Table.{Table}
 
 -- ---- the code
 
+-- the same number of stoppers at every place
+abbrev pub evenCode : ℕ → ℕ → Code
+evenCode k s = record { k = k; s = s }
+
 -- the number of base symbols
 abbrev pub base : Code → ℕ
 base c = 2 ^ c .k
@@ -34,6 +38,10 @@ wordOf c r = codeword (base c) (stoppers c) r
 
 unfoldable pub lengthOf : Code → ℕ → ℕ
 lengthOf c r = length (wordOf c r)
+
+-- no codeword of a rank below 256 has more symbols (P9)
+abbrev pub longest : ℕ
+longest = 86
 
 -- ---- the characters
 

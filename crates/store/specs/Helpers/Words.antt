@@ -8,7 +8,7 @@ use lib.Dec.{ltb, leb, eqb}
 use lib.ListN.{length, take, drop, getD}
 use Rattle.ground.specs.Paper.Rows.{tab}
 use Rattle.ground.specs.Helpers.Below.{Below}
-use Rattle.stopper.specs.Paper.Table.{has, rankIn, wordOf, lengthOf}
+use Rattle.stopper.specs.Paper.Table.{has, rankIn, wordOf, lengthOf, longest}
 use Rattle.stopper.specs.declared.code.Code.{Code}
 use Rattle.symbols.specs.Paper.Symbols.{Width, symbolsOf}
 use Rattle.symbols.specs.Helpers.Gathered.{Joins}
@@ -20,8 +20,8 @@ lengthFor c l b = cond (has b l) (lengthOf c (rankIn l b)) 0
 
 pub record Spelt (c : Code) (l lengths words : List ℕ) : Type 0 where
   pub sizes : lengths ≡ tab (lengthFor c l) 0 256
-  pub long : length words ≡ 22016
-  pub word : (b : ℕ) → b < 256 → has b l ≡ true → take (lengthFor c l b) (drop (b * 86) words) ≡ wordOf c (rankIn l b)
+  pub long : length words ≡ 256 * longest
+  pub word : (b : ℕ) → b < 256 → has b l ≡ true → take (lengthFor c l b) (drop (b * longest) words) ≡ wordOf c (rankIn l b)
 
 -- ---- a text under lengths, 0 for a character that is not in the table
 
@@ -53,7 +53,7 @@ foreignOf lengths (b ∷ text) = let later : ℕ = suc (foreignOf lengths text) 
 -- ---- a text under lengths and words
 
 unfoldable pub wordAt : List ℕ → List ℕ → ℕ → List ℕ
-wordAt lengths words b = take (getD lengths b 0) (drop (b * 86) words)
+wordAt lengths words b = take (getD lengths b 0) (drop (b * longest) words)
 
 unfoldable pub rowOf : List ℕ → List ℕ → List ℕ → List ℕ
 rowOf lengths words [] = []
@@ -63,8 +63,8 @@ rowOf lengths words (b ∷ text) = wordAt lengths words b ++ rowOf lengths words
 pub record WordsLaid (k : ℕ) (lengths words : List ℕ) : Type 0 where
   pub width : Width k
   pub characters : length lengths ≡ 256
-  pub few : Below 87 lengths
-  pub places : length words ≡ 22016
+  pub few : Below (suc longest) lengths
+  pub places : length words ≡ 256 * longest
   pub symbols : (b : ℕ) → b < 256 → Below (2 ^ k) (wordAt lengths words b)
 
 -- those of at most 8 symbols as numbers

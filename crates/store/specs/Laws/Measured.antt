@@ -2,14 +2,14 @@
 -- Assumes nothing.
 use mathlib.Core.Path.{_≡_, refl, sym, ap, _∙_}
 use mathlib.Core.List.{List, [], _∷_}
-use Prim.Native.Nat.{ℕ, _+_, _≤_, _<_}
+use Prim.Native.Nat.{ℕ, suc, _+_, _*_, _≤_, _<_}
 use native.Mathlib.Omega.{arith}
 use lib.Dec.{T}
 use lib.ListN.{length, drop, getD-replicate}
 use Rattle.ground.specs.Paper.Rows.{zeros}
 use Rattle.ground.specs.Helpers.Below.{Below, none}
 use Rattle.ground.specs.Laws.Rows.{below-zeros, length-zeros}
-use Rattle.stopper.specs.Paper.Table.{goodTable, goodCode, characters}
+use Rattle.stopper.specs.Paper.Table.{goodTable, goodCode, characters, longest}
 use Rattle.stopper.specs.Paper.Reading.{write}
 use Rattle.stopper.specs.Laws.Table.{table-code, table-few, code-width}
 use Rattle.stopper.specs.declared.table.Table.{Table}
@@ -26,7 +26,7 @@ module _ (t : Table) (good : T (goodTable t)) (room : ℕ) where
   code = table-code t good
 
   -- an empty text, under lengths that are 0
-  pub measured-none : (text : List ℕ) {lengths : List ℕ} (words : List ℕ) → length text ≡ 0 → lengths ≡ zeros 256 → length words ≡ 22016 → Measured t room text lengths words (Fits 0)
+  pub measured-none : (text : List ℕ) {lengths : List ℕ} (words : List ℕ) → length text ≡ 0 → lengths ≡ zeros 256 → length words ≡ 256 * longest → Measured t room text lengths words (Fits 0)
   unfolding Measured firstForeign textRow write rowOf wordAt zeros
   measured-none [] words e z w =
       rw z (
@@ -36,7 +36,7 @@ module _ (t : Table) (good : T (goodTable t)) (room : ℕ) where
           laid = record {
             width = code-width (t .code) code;
             characters = length-zeros 256;
-            few = below-zeros 87 256 (omega arith);
+            few = below-zeros (suc longest) 256 (omega arith);
             places = w;
             symbols = λ b h. rw (getD-replicate {A = ℕ} 256 b 0 0 h) none;
           };

@@ -16,7 +16,7 @@ use lib.Seq.{take-suc, drop-cons, length-take-le}
 use Rattle.ground.specs.Helpers.Below.{Below, none, also}
 use Rattle.ground.specs.Laws.Rows.{getD-below, below-append, length-tab, tab-at, tab-below}
 use Rattle.stopper.specs.Paper.Reading.{write}
-use Rattle.stopper.specs.Paper.Table.{base, stoppers, goodCode, has, rankIn, wordOf, lengthOf}
+use Rattle.stopper.specs.Paper.Table.{base, stoppers, goodCode, has, rankIn, wordOf, lengthOf, longest}
 use Rattle.stopper.specs.Laws.Characters.{has-rank}
 use Rattle.stopper.specs.Laws.Reading.{write-below}
 use Rattle.stopper.specs.Laws.Table.{code-good, code-width, length-place, length-small}
@@ -143,15 +143,15 @@ module _ (lengths words : List ℕ) where
 -- ---- words laid out
 
 -- the part of the words that is lent
-pub lent : (lengths words : List ℕ) (b : ℕ) {n : ℕ} → n ≡ getD lengths b 0 → take (b * 86 + n - b * 86) (drop (b * 86) words) ≡ wordAt lengths words b
+pub lent : (lengths words : List ℕ) (b : ℕ) {n : ℕ} → n ≡ getD lengths b 0 → take (b * longest + n - b * longest) (drop (b * longest) words) ≡ wordAt lengths words b
 unfolding wordAt
-lent lengths words b {n} f = let q : b * 86 + n - b * 86 ≡ n = omega arith in rw (q, f)
+lent lengths words b {n} f = let q : b * longest + n - b * longest ≡ n = omega arith in rw (q, f)
 
 module _ {k : ℕ} {lengths words : List ℕ} (a : WordsLaid k lengths words) where
   pub word-length : (b : ℕ) → b < 256 → length (wordAt lengths words b) ≡ getD lengths b 0
   unfolding wordAt
   word-length b h =
-      length-take-le (getD lengths b 0) (drop (b * 86) words)
+      length-take-le (getD lengths b 0) (drop (b * longest) words)
       (rw (length-drop, a .places) (omega (arith, getD-below (a .few) (omega arith) b)))
 
   -- past the last character too
@@ -269,12 +269,12 @@ module _ (c : Code) (g : T (goodCode c)) (l : List ℕ) where
     words-laid few = record {
       width = code-width c g;
       characters = ap length (s .sizes) ∙ length-tab (lengthFor c l) 0 256;
-      few = rw (s .sizes) (tab-below (lengthFor c l) 87 0 256 short);
+      few = rw (s .sizes) (tab-below (lengthFor c l) (suc longest) 0 256 short);
       places = s .long;
       symbols = word-below;
     }
       where
-        short : (b : ℕ) → lengthFor c l b < 87
+        short : (b : ℕ) → lengthFor c l b < (suc longest)
         short b =
             cases (has b l)
             (λ e.

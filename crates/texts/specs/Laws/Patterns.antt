@@ -10,18 +10,18 @@ use borrow.Author.Tests.{lt-leb, le-leb}
 use mir.Facts.{and-yes}
 use lib.Dec.{T, leb, leb→le}
 use lib.ListN.{length}
-use Rattle.texts.specs.Paper.Hits.{goodPattern}
+use Rattle.texts.specs.Paper.Hits.{goodPattern, mostPattern}
 
 module _ (pattern : List ℕ) where
-  pub pattern-bad : (length pattern < 1) ⊎ (64 < length pattern) → goodPattern pattern ≡ false
+  pub pattern-bad : (length pattern < 1) ⊎ (mostPattern < length pattern) → goodPattern pattern ≡ false
   unfolding goodPattern
   pattern-bad (inl h) = rw (lt-leb 1 (length pattern) h)
-  pattern-bad (inr h) = rw (le-leb 1 (length pattern) (omega arith), lt-leb (length pattern) 64 h)
+  pattern-bad (inr h) = rw (le-leb 1 (length pattern) (omega arith), lt-leb (length pattern) mostPattern h)
 
   pub pattern-least : T (goodPattern pattern) → 1 ≤ length pattern
   unfolding goodPattern
-  pattern-least g = leb→le _ _ (and-yes (leb 1 (length pattern)) (leb (length pattern) 64) g .0)
+  pattern-least g = leb→le _ _ (and-yes (leb 1 (length pattern)) (leb (length pattern) mostPattern) g .0)
 
-  pub pattern-most : T (goodPattern pattern) → length pattern ≤ 64
+  pub pattern-most : T (goodPattern pattern) → length pattern ≤ mostPattern
   unfolding goodPattern
-  pattern-most g = leb→le _ _ (and-yes (leb 1 (length pattern)) (leb (length pattern) 64) g .1)
+  pattern-most g = leb→le _ _ (and-yes (leb 1 (length pattern)) (leb (length pattern) mostPattern) g .1)

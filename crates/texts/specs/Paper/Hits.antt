@@ -23,8 +23,11 @@ unfoldable pub hits : List ℕ → List ℕ → List ℕ
 hits pattern text = hitsFrom pattern 0 text
 
 -- a good pattern has 1 to 64 characters
+abbrev pub mostPattern : ℕ
+mostPattern = 64
+
 unfoldable pub goodPattern : List ℕ → Bool
-goodPattern pattern = leb 1 (length pattern) && leb (length pattern) 64
+goodPattern pattern = leb 1 (length pattern) && leb (length pattern) mostPattern
 
 -- the first of a list, as many as the slice holds; later entries of the slice unchanged
 abbrev pub listed : List ℕ → List ℕ → List ℕ

@@ -1,6 +1,6 @@
 -- `choosing::choose::refused` meets its contract.
 -- Assumes nothing.
-use mathlib.Core.Path.{refl}
+use borrow.Author.Needs.{needs}
 use Rattle.ground.specs.Paper.Rows.{zeros, padded}
 use Rattle.choosing.specs.Helpers.Answers.{refusedChoice}
 use Rattle.choosing.proofs.choose.refused.Statement.{statement}
@@ -8,7 +8,7 @@ use Rattle.choosing.proofs.choose.refused.Tie as tie
 
 returns : tie.Need-returns
 unfolding refusedChoice zeros padded
-returns c = refl
+returns c = rw (c .even-code .ensures)
 
 pub refused-spec : {M : Type 1} → statement M
-refused-spec = tie.close (tie.spec returns)
+refused-spec = tie.close (tie.spec (λ c κs. search needs) returns)

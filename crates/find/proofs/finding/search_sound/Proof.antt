@@ -11,7 +11,7 @@ use lib.ListN.{length, take, length-take}
 use Rattle.stopper.specs.Paper.Table.{goodCode, characters}
 use Rattle.stopper.specs.Laws.Table.{table-code, table-few}
 use Rattle.texts.specs.Paper.Characters.{firstForeign}
-use Rattle.texts.specs.Paper.Hits.{hits, listed}
+use Rattle.texts.specs.Paper.Hits.{hits, listed, mostPattern}
 use Rattle.texts.specs.Laws.Patterns.{pattern-most}
 use Rattle.texts.specs.Laws.Finding.{listed-none}
 use Rattle.sound.specs.Paper.Roll.{textOf}
@@ -26,7 +26,7 @@ places-long s = search needs
 code : (s : tie.Start) → T (goodCode (s .args .roll .table .code))
 code s = table-code (s .args .roll .table) (s .pre .0 .table)
 
-few : (s : tie.Start) → length (s .args .pattern .now) ≤ 64
+few : (s : tie.Start) → length (s .args .pattern .now) ≤ mostPattern
 few s = pattern-most (s .args .pattern .now) (s .pre .1)
 
 abbrev begun : tie.After-spell-pattern → tie.Start

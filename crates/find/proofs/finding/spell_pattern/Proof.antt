@@ -13,7 +13,8 @@ use lib.Seq.{length-take-le, take-at, take-all}
 use Rattle.ground.specs.Paper.Runs.{over}
 use Rattle.ground.specs.Laws.Rows.{tab-at}
 use Rattle.ground.specs.Laws.Runs.{over-length}
-use Rattle.stopper.specs.Paper.Table.{rankIn, wordOf, lengthOf}
+use Rattle.texts.specs.Paper.Hits.{mostPattern}
+use Rattle.stopper.specs.Paper.Table.{rankIn, wordOf, lengthOf, longest}
 use Rattle.stopper.specs.Helpers.Answers.{ranksOf}
 use Rattle.stopper.specs.Laws.Table.{length-small}
 use Rattle.stopper.specs.declared.code.Code.{Code}
@@ -48,11 +49,11 @@ module _ {c : Code} {l pattern symbols : List ℕ} {p i : ℕ} (s : Spelling c l
 
   -- one more: its word laid after the others
   more : i < length pattern → {r n : ℕ} → r ≡ rankIn l (getD pattern i 0) → r < length l → n ≡ lengthOf c r → {after ys : List ℕ} (tail : List ℕ)
-      → after ≡ over symbols p ys (p + 86) → ys ≡ wordOf c r ++ tail → Spelling c l pattern after (p + n) (i + 1)
+      → after ≡ over symbols p ys (p + longest) → ys ≡ wordOf c r ++ tail → Spelling c l pattern after (p + n) (i + 1)
   unfolding lengthOf
   more h {r} {n} e k size {after} {ys} tail laid word =
       let w : List ℕ = wordOf c r in
-      let rest : List ℕ = drop (p + 86) symbols in
+      let rest : List ℕ = drop (p + longest) symbols in
       let t : textRow c l (take (i + 1) pattern) ≡ take p symbols ++ w
       = ap (λ (m : ℕ). textRow c l (take m pattern)) (add-one i) ∙ text-more c l pattern i h ∙ ap₂ (λ (a b : List ℕ). a ++ b) (sym (s .row)) (ap (wordOf c) (sym e)) in
       let long : p + n ≡ length (take p symbols ++ w) = omega (arith, length-append (take p symbols) w, ap length (s .row), s .long, size) in
@@ -64,7 +65,7 @@ module _ {c : Code} {l pattern symbols : List ℕ} {p i : ℕ} (s : Spelling c l
 
 abbrev Inv-loop : tie.InvT-loop
 Inv-loop code sigma pattern symbols₀ ranks p₀ i₀ symbols p i =
-    (i ≤ length pattern) × (p ≤ i * 86) × (length symbols ≡ 5504) × ((l : List ℕ) → length l ≡ sigma → ranks ≡ ranksOf l → Spelling code l pattern symbols p i)
+    (i ≤ length pattern) × (p ≤ i * longest) × (length symbols ≡ mostPattern * longest) × ((l : List ℕ) → length l ≡ sigma → ranks ≡ ranksOf l → Spelling code l pattern symbols p i)
 
 abbrev μ-loop : tie.MeasureT-loop
 μ-loop code sigma pattern symbols₀ ranks p₀ i₀ symbols p i = length pattern - i
@@ -127,21 +128,21 @@ returns c =
     (sym (ap length e), sym e)
 
 -- the part that its word goes to, and the length of its word
-part-long : (l : tie.At-loop Inv-loop μ-loop) → l .loop .p + 86 ≤ 5504 → length (take (l .loop .p + 86 - l .loop .p) (drop (l .loop .p) (l .loop .symbols))) ≡ 86
-part-long l h = mid-len (l .loop .p) (l .loop .p + 86) (l .loop .symbols) (omega (arith, l .loop .inv .2)) ∙ omega arith
+part-long : (l : tie.At-loop Inv-loop μ-loop) → l .loop .p + longest ≤ mostPattern * longest → length (take (l .loop .p + longest - l .loop .p) (drop (l .loop .p) (l .loop .symbols))) ≡ longest
+part-long l h = mid-len (l .loop .p) (l .loop .p + longest) (l .loop .symbols) (omega (arith, l .loop .inv .2)) ∙ omega arith
 
-fits : (c : tie.Else1 Inv-loop μ-loop) → c .before .before .before .loop .p + 86 ≤ 5504
+fits : (c : tie.Else1 Inv-loop μ-loop) → c .before .before .before .loop .p + longest ≤ mostPattern * longest
 fits c =
     let n = c .before .before in
     omega (arith, n .loop-test .taken, n .before .loop .inv .1, entered (n .before) .pre .2)
 
-short : (c : tie.Else1 Inv-loop μ-loop) → let l = c .before .before .before in lengthOf (entered l .args .code) (getD (l .before .ranks-of .result) (character (c .before)) 0) ≤ 86
+short : (c : tie.Else1 Inv-loop μ-loop) → let l = c .before .before .before in lengthOf (entered l .args .code) (getD (l .before .ranks-of .result) (character (c .before)) 0) ≤ longest
 short c =
     let s = entered (c .before .before .before) in
     length-small (s .args .code) (s .pre .0) _ (omega (arith, c .if1 .left, s .pre .1))
 
-symbols-of-requires : tie.Need-symbols-of-requires Inv-loop μ-loop
-symbols-of-requires c κs =
+spell-word-requires : tie.Need-spell-word-requires Inv-loop μ-loop
+spell-word-requires c κs =
     let e = c .before in
     let l = e .before .before .before in
     let s = entered l in
@@ -151,7 +152,7 @@ add-p : tie.Need-add-p Inv-loop μ-loop
 add-p c =
     let u = c .before .before in
     let e = u .before .before in
-    omega (arith, u .symbols-of .ensures .0, short e, fits e)
+    omega (arith, u .spell-word .ensures .0, short e, fits e)
 
 loop-again : tie.Need-loop-again Inv-loop μ-loop
 loop-again c =
@@ -160,14 +161,14 @@ loop-again c =
     let n = e .before .before in
     let l = n .before in
     let p = l .loop .p in
-    let laid = ap (λ (r : List ℕ). take p (l .loop .symbols) ++ (u .symbols-of .last .1 .1 .0 ++ r)) (post-is p (p + 86) (l .loop .symbols) (omega arith)) in
-    let full = u .symbols-of .kept .1 .1 .0 ∙ part-long l (fits e) in (
+    let laid = ap (λ (r : List ℕ). take p (l .loop .symbols) ++ (u .spell-word .last .1 .1 .0 ++ r)) (post-is p (p + longest) (l .loop .symbols) (omega arith)) in
+    let full = u .spell-word .kept .1 .1 .0 ∙ part-long l (fits e) in (
       omega (arith, n .loop-test .taken),
-      omega (arith, u .symbols-of .ensures .0, short e, l .loop .inv .1),
-      ap length laid ∙ over-length (l .loop .symbols) p (u .symbols-of .last .1 .1 .0) (p + 86) (omega (arith, full)) (omega (arith, fits e, l .loop .inv .2)) ∙ l .loop .inv .2,
+      omega (arith, u .spell-word .ensures .0, short e, l .loop .inv .1),
+      ap length laid ∙ over-length (l .loop .symbols) p (u .spell-word .last .1 .1 .0) (p + longest) (omega (arith, full)) (omega (arith, fits e, l .loop .inv .2)) ∙ l .loop .inv .2,
       λ row long ranks.
-          more (l .loop .inv .3 row long ranks) (n .loop-test .taken) (rank-is (e .before) row ranks) (omega (arith, e .if1 .left, long)) (u .symbols-of .ensures .0) _ laid
-          (u .symbols-of .ensures .1),
+          more (l .loop .inv .3 row long ranks) (n .loop-test .taken) (rank-is (e .before) row ranks) (omega (arith, e .if1 .left, long)) (u .spell-word .ensures .0) _ laid
+          (u .spell-word .ensures .1),
     )
 
 same-length-2 : tie.Need-same-length-2 Inv-loop μ-loop
@@ -197,7 +198,7 @@ spell-pattern-spec =
     (λ c. omega arith)
     (λ c. omega arith)
     (λ c. omega arith)
-    symbols-of-requires
+    spell-word-requires
     add-p
     (λ c. omega arith)
     (λ c. omega arith)

@@ -1,12 +1,13 @@
 -- `roll::edit::change` meets its contract.
 -- Assumes nothing.
 use mathlib.Core.Path.{_≡_, refl, subst}
-use Prim.Native.Nat.{ℕ, _-_}
+use Prim.Native.Nat.{ℕ, _-_, _*_}
 use native.Mathlib.Omega.{arith}
 use borrow.Author.Needs.{needs}
 use borrow.Author.Tests.{lt-ltb, le-ltb}
 use lib.ListN.{length, length-replicate}
 use Rattle.ground.specs.Paper.Rows.{zeros}
+use Rattle.stopper.specs.Paper.Table.{longest}
 use Rattle.stopper.specs.Laws.Table.{table-code, code-width}
 use Rattle.symbols.specs.Paper.Symbols.{room}
 use Rattle.store.specs.Helpers.Measured.{Measured}
@@ -47,7 +48,7 @@ sub-space c = omega (arith, c .room-of .ensures, first-room (long (begun c)) (lo
 
 measure-requires : tie.Need-measure-requires
 unfolding zeros
-measure-requires c κs = (begun (c .before .before) .pre .0 .table, refl, length-replicate {A = ℕ} 22016 0)
+measure-requires c κs = (begun (c .before .before) .pre .0 .table, refl, length-replicate {A = ℕ} (256 * longest) 0)
 
 -- ---- the text measured
 

@@ -3,14 +3,14 @@
 use mathlib.Core.Path.{_≡_, refl, sym, subst, _∙_}
 use mathlib.Core.Bool.{true}
 use mathlib.Core.List.{List}
-use Prim.Native.Nat.{ℕ}
+use Prim.Native.Nat.{ℕ, _*_}
 use native.Mathlib.Nat.{le-of-eq}
 use native.Mathlib.Omega.{arith}
 use borrow.Author.Needs.{needs}
 use borrow.Author.Tests.{lt-ltb, le-ltb, not-true, not-false}
 use lib.ListN.{length, length-replicate}
 use Rattle.ground.specs.Paper.Rows.{zeros}
-use Rattle.stopper.specs.Paper.Table.{goodTable, characters}
+use Rattle.stopper.specs.Paper.Table.{goodTable, characters, longest}
 use Rattle.stopper.specs.Laws.Table.{is-good, table-code, code-width}
 use Rattle.stopper.specs.declared.table.Table.{Table}
 use Rattle.symbols.specs.Paper.Symbols.{room}
@@ -42,7 +42,7 @@ measure-requires : tie.Need-measure-requires
 unfolding zeros
 measure-requires c κs =
     let e = c .before .before .before .before in
-    (is-good _ (good e), refl, length-replicate {A = ℕ} 22016 0)
+    (is-good _ (good e), refl, length-replicate {A = ℕ} (256 * longest) 0)
 
 -- ---- measured
 

@@ -61,7 +61,7 @@ byte-passed c =
     let k = c .before .before in
     let t = k .before .before in
     let l = t .before .before .before in
-    passing-byte (l .loop .inv) (t .before .before .loop-test .taken) (sym (t .before .place-of .ensures) ∙ t .if1 .taken) _ _ (l .before .per-byte .ensures) (ended-is k) (c .if2 .taken)
+    passing-byte (l .loop .inv) (t .before .before .loop-test .taken) (sym (t .before .place-in-byte .ensures) ∙ t .if1 .taken) _ _ (l .before .per-byte .ensures) (ended-is k) (c .if2 .taken)
 
 -- ---- one symbol
 
@@ -84,8 +84,8 @@ per-byte-requires c κs = good-width (c .before .before .before)
 loop-holds : tie.Need-loop-holds Inv-loop μ-loop
 loop-holds c = passing-first (c .before .before .before .before .pre .0)
 
-place-of-requires : tie.Need-place-of-requires Inv-loop μ-loop
-place-of-requires c κs = good-width (entered (c .before))
+place-in-byte-requires : tie.Need-place-in-byte-requires Inv-loop μ-loop
+place-in-byte-requires c κs = good-width (entered (c .before))
 
 byte-of-requires : tie.Need-byte-of-requires Inv-loop μ-loop
 byte-of-requires c κs = good-width (entered (c .before .before .before))
@@ -142,7 +142,7 @@ pass-ends-spec =
     (λ c κs. search needs)
     per-byte-requires
     loop-holds
-    place-of-requires
+    place-in-byte-requires
     byte-of-requires
     shared-slice-read-ended
     cast-ended

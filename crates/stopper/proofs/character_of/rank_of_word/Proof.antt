@@ -7,6 +7,7 @@ use native.Mathlib.Omega.{arith}
 use borrow.Author.Needs.{needs}
 use lib.ListN.{take, getD}
 use lib.Seq.{length-take-le, getD-take}
+use Rattle.stopper.specs.Paper.Table.{longest}
 use Rattle.stopper.specs.Laws.Seen.{Seen, seen-none, seen-small, seen-open}
 use Rattle.stopper.specs.declared.code.Code.{Code}
 use Rattle.stopper.specs.declared.reading.Reader.{Reader}
@@ -16,7 +17,7 @@ use Rattle.stopper.proofs.character_of.rank_of_word.Tie as tie
 
 pub record At (c : Code) (σ n : ℕ) (symbols : List ℕ) (i : ℕ) (r : Reader) : Type 0 where
   pub long : lib.ListN.length (take n symbols) ≡ n
-  pub room : n ≤ 86
+  pub room : n ≤ longest
   pub seen : Seen c σ (take n symbols) i r
 
 abbrev Inv-loop : tie.InvT-loop
@@ -31,7 +32,7 @@ word c = take (c .args .length) (c .args .t4)
 
 long : (c : tie.Start Inv-loop μ-loop) → lib.ListN.length (word c) ≡ c .args .length
 long c =
-    let e : lib.ListN.length (c .args .t4) ≡ 86 = search needs in
+    let e : lib.ListN.length (c .args .t4) ≡ longest = search needs in
     length-take-le (c .args .length) (c .args .t4) (omega (arith, c .pre .2))
 
 here : (c : tie.In-loop Inv-loop μ-loop) → let s = c .before .before .before .before in getD (word s) (c .before .loop .i) 0 ≡ getD (s .args .t4) (c .before .loop .i) 0

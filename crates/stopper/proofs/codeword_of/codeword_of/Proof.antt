@@ -49,8 +49,8 @@ returns-2 c =
     let r = c .before .before in
     codeword-refused 3 (rw (good (r .before .before .before), there r (le-ltb _ _ (c .before .if2 .taken)))) (c .refused2 .ensures)
 
-symbols-of-requires : tie.Need-symbols-of-requires
-symbols-of-requires c κs =
+spell-word-requires : tie.Need-spell-word-requires
+spell-word-requires c κs =
     let r = c .before .before in
     let e = r .before .before .before in
     let t = e .before .before .args .table in
@@ -64,7 +64,7 @@ returns-3 c =
     let w = c .before in
     let r = w .before .before .before in
     let e = r .before .before .before in
-    codeword-yes (codes-is _ _ .0 (true-yes _ (good e), true-yes _ (there r (lt-ltb _ _ (w .before .before .if2 .left))))) (r .rank-of .ensures) (w .symbols-of .ensures .0) (w .symbols-of .ensures .1)
+    codeword-yes (codes-is _ _ .0 (true-yes _ (good e), true-yes _ (there r (lt-ltb _ _ (w .before .before .if2 .left))))) (r .rank-of .ensures) (w .spell-word .ensures .0) (w .spell-word .ensures .1)
 
 pub codeword-of-spec : {M : Type 1} → statement M
 codeword-of-spec =
@@ -79,5 +79,5 @@ codeword-of-spec =
     returns-2
     (λ c. search needs)
     (λ c. search needs)
-    symbols-of-requires
+    spell-word-requires
     returns-3)

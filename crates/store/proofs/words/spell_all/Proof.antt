@@ -18,7 +18,7 @@ use Rattle.ground.specs.Paper.Rows.{tab, zeros}
 use Rattle.ground.specs.Paper.Runs.{over}
 use Rattle.ground.specs.Laws.Rows.{length-zeros, length-tab, tab-at, tab-ext, tab-set, tab-zeros}
 use Rattle.ground.specs.Laws.Runs.{over-length, drop-over, run-before, run-after}
-use Rattle.stopper.specs.Paper.Table.{goodCode, has, rankIn, wordOf, lengthOf}
+use Rattle.stopper.specs.Paper.Table.{goodCode, has, rankIn, wordOf, lengthOf, longest}
 use Rattle.stopper.specs.Laws.Characters.{has-rank, rank-here, rank-next, has-next, has-end}
 use Rattle.stopper.specs.Laws.Table.{length-small}
 use Rattle.stopper.specs.declared.code.Code.{Code}
@@ -37,10 +37,10 @@ pub record From (c : Code) (l : List ℕ) (i : ℕ) (lengths words : List ℕ) :
   pub inside : i ≤ length l
   pub few : length l ≤ 256
   pub sizes : lengths ≡ tab (lengthFrom c l i) 0 256
-  pub long : length words ≡ 22016
-  pub word : (b : ℕ) → b < 256 → has b (drop i l) ≡ true → take (lengthOf c (rankFrom l i b)) (drop (b * 86) words) ≡ wordOf c (rankFrom l i b)
+  pub long : length words ≡ 256 * longest
+  pub word : (b : ℕ) → b < 256 → has b (drop i l) ≡ true → take (lengthOf c (rankFrom l i b)) (drop (b * longest) words) ≡ wordOf c (rankFrom l i b)
 
-start : (c : Code) (places lengths words : List ℕ) (n : ℕ) → length places ≡ 256 → n ≤ 256 → lengths ≡ zeros 256 → length words ≡ 22016
+start : (c : Code) (places lengths words : List ℕ) (n : ℕ) → length places ≡ 256 → n ≤ 256 → lengths ≡ zeros 256 → length words ≡ 256 * longest
     → From c (take n places) n lengths words
 start c places lengths words n e h z w =
     let t : length (take n places) ≡ n = length-take-le n places (omega arith) in
@@ -64,20 +64,20 @@ whole {c} {l} {i = zero} s h =
 whole {i = suc i} s h = absurd (omega arith)
 
 -- the part of another character is as it was
-apart : (words ys : List ℕ) (b x n : ℕ) → length words ≡ 22016 → length ys ≡ 86 → b < 256 → n ≤ 86 → x ≢ b
-    → take n (drop (x * 86) (over words (b * 86) ys (b * 86 + 86))) ≡ take n (drop (x * 86) words)
+apart : (words ys : List ℕ) (b x n : ℕ) → length words ≡ 256 * longest → length ys ≡ longest → b < 256 → n ≤ longest → x ≢ b
+    → take n (drop (x * longest) (over words (b * longest) ys (b * longest + longest))) ≡ take n (drop (x * longest) words)
 apart words ys b x n w y h k q =
-    let e : x * 86 + n - x * 86 ≡ n = omega arith in
-    ap (λ (m : ℕ). take m (drop (x * 86) (over words (b * 86) ys (b * 86 + 86)))) (sym e)
+    let e : x * longest + n - x * longest ≡ n = omega arith in
+    ap (λ (m : ℕ). take m (drop (x * longest) (over words (b * longest) ys (b * longest + longest)))) (sym e)
     ∙ elim (decLt x b) [
-      | yes p ↦ run-before words (b * 86) ys (b * 86 + 86) (x * 86) (x * 86 + n) (omega arith) (omega arith) (omega arith)
-      | no p ↦ run-after words (b * 86) ys (b * 86 + 86) (x * 86) (x * 86 + n) (omega arith) (omega arith) (omega arith)
+      | yes p ↦ run-before words (b * longest) ys (b * longest + longest) (x * longest) (x * longest + n) (omega arith) (omega arith) (omega arith)
+      | no p ↦ run-after words (b * longest) ys (b * longest + longest) (x * longest) (x * longest + n) (omega arith) (omega arith) (omega arith)
     ]
-    ∙ ap (λ (m : ℕ). take m (drop (x * 86) words)) e
+    ∙ ap (λ (m : ℕ). take m (drop (x * longest) words)) e
 
 -- one place down, at character b: its length and its word are stored
 module _ {c : Code} (g : T (goodCode c)) {l : List ℕ} {j : ℕ} {lengths words : List ℕ} (s : From c l (suc j) lengths words) {b n : ℕ} (this : getD l j 0 ≡ b) (h : b < 256)
-    (size : n ≡ lengthOf c j) {after ys : List ℕ} (tail : List ℕ) (laid : after ≡ over words (b * 86) ys (b * 86 + 86)) (full : length ys ≡ 86) (word : ys ≡ wordOf c j ++ tail) where
+    (size : n ≡ lengthOf c j) {after ys : List ℕ} (tail : List ℕ) (laid : after ≡ over words (b * longest) ys (b * longest + longest)) (full : length ys ≡ longest) (word : ys ≡ wordOf c j ++ tail) where
   in-row : j < length l
   in-row = s .inside
 
@@ -93,16 +93,16 @@ module _ {c : Code} (g : T (goodCode c)) {l : List ℕ} {j : ℕ} {lengths words
   rank-other : (x : ℕ) → x ≢ b → rankFrom l j x ≡ rankFrom l (suc j) x
   rank-other x q = ap (λ (r : ℕ). j + r) (rank-next l j in-row x (λ p. q (sym p ∙ this))) ∙ omega arith
 
-  ends : b * 86 + 86 ≤ length words
+  ends : b * longest + longest ≤ length words
   ends = omega (arith, s .long)
 
-  word-here : take (lengthOf c j) (drop (b * 86) after) ≡ wordOf c j
+  word-here : take (lengthOf c j) (drop (b * longest) after) ≡ wordOf c j
   unfolding lengthOf
   word-here =
-      rw (laid, drop-over words (b * 86) ys (b * 86 + 86) (omega arith) ends, word, append-assoc) (take-at (wordOf c j) _ (lengthOf c j) refl)
+      rw (laid, drop-over words (b * longest) ys (b * longest + longest) (omega arith) ends, word, append-assoc) (take-at (wordOf c j) _ (lengthOf c j) refl)
 
   word-other : (x : ℕ) → x ≢ b → has x (drop (suc j) l) ≡ true
-      → take (lengthOf c (rankFrom l (suc j) x)) (drop (x * 86) after) ≡ take (lengthOf c (rankFrom l (suc j) x)) (drop (x * 86) words)
+      → take (lengthOf c (rankFrom l (suc j) x)) (drop (x * longest) after) ≡ take (lengthOf c (rankFrom l (suc j) x)) (drop (x * longest) words)
   word-other x q e =
       let r : rankIn (drop (suc j) l) x < length (drop (suc j) l) = ltb-true _ _ (sym (has-rank (drop (suc j) l) x) ∙ e) in
       let k : rankFrom l (suc j) x < 256 = omega (arith, length-drop (suc j) l, s .few, s .inside) in
@@ -116,11 +116,11 @@ module _ {c : Code} (g : T (goodCode c)) {l : List ℕ} {j : ℕ} {lengths words
         (tab-set (lengthFrom c l (suc j)) (lengthFrom c l j) 256 b n h
         (rw here (ap (lengthOf c) rank ∙ sym size))
         (λ x q. rw (has-other x q, rank-other x q)));
-    long = ap length laid ∙ over-length words (b * 86) ys (b * 86 + 86) (omega arith) ends ∙ s .long;
+    long = ap length laid ∙ over-length words (b * longest) ys (b * longest + longest) (omega arith) ends ∙ s .long;
     word = λ x k e. entry x k e (ℕ-discrete x b);
   }
     where
-      entry : (x : ℕ) → x < 256 → has x (drop j l) ≡ true → Dec (x ≡ b) → take (lengthOf c (rankFrom l j x)) (drop (x * 86) after) ≡ wordOf c (rankFrom l j x)
+      entry : (x : ℕ) → x < 256 → has x (drop j l) ≡ true → Dec (x ≡ b) → take (lengthOf c (rankFrom l j x)) (drop (x * longest) after) ≡ wordOf c (rankFrom l j x)
       entry x k e (yes q) = rw (q, rank) word-here
       entry x k e (no q) =
           let f : has x (drop (suc j) l) ≡ true = sym (has-other x q) ∙ e in
@@ -144,13 +144,13 @@ loop-holds c =
     start (s .args .code) (s .args .t3) _ _ (s .args .sigma) (places-long s) (s .pre .1) (s .pre .2) (s .pre .3)
 
 -- the part of the character in hand
-part-long : (w : tie.After-wide Inv-loop μ-loop) → let at : ℕ = w .wide .result * 86 in length (take (at + 86 - at) (drop at (w .before .before .loop .words))) ≡ 86
+part-long : (w : tie.After-wide Inv-loop μ-loop) → let at : ℕ = w .wide .result * longest in length (take (at + longest - at) (drop at (w .before .before .loop .words))) ≡ longest
 part-long w =
-    let at : ℕ = w .wide .result * 86 in
-    mid-len at (at + 86) (w .before .before .loop .words) (omega arith) ∙ omega arith
+    let at : ℕ = w .wide .result * longest in
+    mid-len at (at + longest) (w .before .before .loop .words) (omega arith) ∙ omega arith
 
-symbols-of-requires : tie.Need-symbols-of-requires Inv-loop μ-loop
-symbols-of-requires c κs =
+spell-word-requires : tie.Need-spell-word-requires Inv-loop μ-loop
+spell-word-requires c κs =
     let w = c .before in
     let l = w .before .before in
     let s = l .before .before .before in
@@ -161,7 +161,7 @@ cast-lengths c =
     let u = c .before .before in
     let l = u .before .before .before .before in
     let s = l .before .before .before in
-    omega (arith, u .symbols-of .ensures .0, length-small (s .args .code) (s .pre .0) (l .loop .i - 1) (omega arith))
+    omega (arith, u .spell-word .ensures .0, length-small (s .args .code) (s .pre .0) (l .loop .i - 1) (omega arith))
 
 slice-write-lengths : tie.Need-slice-write-lengths Inv-loop μ-loop
 slice-write-lengths c =
@@ -175,17 +175,17 @@ loop-again c =
     let l = w .before .before in
     let s = l .before .before .before in
     let a = s .args in
-    let at : ℕ = w .wide .result * 86 in
+    let at : ℕ = w .wide .result * longest in
     let row = take (a .sigma) (a .t3) in
     down (s .pre .0)
     (subst (λ (i : ℕ). From (a .code) row i (l .loop .lengths) (l .loop .words)) {y = suc (l .loop .i - 1)} (omega arith) (l .loop .inv))
     (getD-take (a .sigma) (a .t3) (l .loop .i - 1) 0 (omega (arith, row-long s)) ∙ sym (w .wide .ensures .0))
     (w .wide .ensures .1)
-    (u .symbols-of .ensures .0)
+    (u .spell-word .ensures .0)
     _
-    (ap (λ (r : List ℕ). take at (l .loop .words) ++ (u .symbols-of .last .1 .1 .0 ++ r)) (post-is at (at + 86) (l .loop .words) (omega arith)))
-    (u .symbols-of .kept .1 .1 .0 ∙ part-long w)
-    (u .symbols-of .ensures .1)
+    (ap (λ (r : List ℕ). take at (l .loop .words) ++ (u .spell-word .last .1 .1 .0 ++ r)) (post-is at (at + longest) (l .loop .words) (omega arith)))
+    (u .spell-word .kept .1 .1 .0 ∙ part-long w)
+    (u .spell-word .ensures .1)
 
 same-length : tie.Need-same-length Inv-loop μ-loop
 same-length c =
@@ -214,7 +214,7 @@ spell-all-spec =
     (λ c. omega arith)
     (λ c. omega arith)
     (λ c. omega arith)
-    symbols-of-requires
+    spell-word-requires
     cast-lengths
     slice-write-lengths
     (λ c. omega arith)

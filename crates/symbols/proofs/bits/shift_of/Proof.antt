@@ -10,14 +10,14 @@ use Rattle.symbols.proofs.bits.shift_of.Statement.{statement}
 use Rattle.symbols.proofs.bits.shift_of.Tie as tie
 
 -- the symbol, and those before it, lie within the byte
-ends : (c : tie.After-place-of) → c .before .args .k * suc (c .place-of .result) ≤ 8
-ends c = rw (c .place-of .ensures) (ends-within (c .before .pre) (mod-lt (c .before .args .i) (per-pos (c .before .pre))))
+ends : (c : tie.After-place-in-byte) → c .before .args .k * suc (c .place-in-byte .result) ≤ 8
+ends c = rw (c .place-in-byte .ensures) (ends-within (c .before .pre) (mod-lt (c .before .args .i) (per-pos (c .before .pre))))
 
 sub-result : tie.Need-sub-result
 sub-result c = omega (arith, narrow (c .pre))
 
 cast-result : tie.Need-cast-result
-cast-result c = omega (arith, c .place-of .ensures, mod-lt (c .before .args .i) (per-pos (c .before .pre)), per-few (c .before .pre))
+cast-result c = omega (arith, c .place-in-byte .ensures, mod-lt (c .before .args .i) (per-pos (c .before .pre)), per-few (c .before .pre))
 
 mul-result : tie.Need-mul-result
 mul-result c = omega (arith, ends c)
@@ -27,7 +27,7 @@ sub-result-2 c = omega (arith, ends c)
 
 returns : tie.Need-returns
 unfolding shift
-returns c = rw (c .place-of .ensures) (omega arith)
+returns c = rw (c .place-in-byte .ensures) (omega arith)
 
 pub shift-of-spec : {M : Type 1} → statement M
 shift-of-spec =

@@ -17,21 +17,21 @@ use Rattle.symbols.proofs.gather.begin.Statement.{statement}
 use Rattle.symbols.proofs.gather.begin.Tie as tie
 
 -- the place is within the byte
-within : (c : tie.After-place-of) → c .place-of .result < per (c .before .before .before .args .k)
+within : (c : tie.After-place-in-byte) → c .place-in-byte .result < per (c .before .before .before .args .k)
 within c =
     let s = c .before .before .before in
-    rw (c .place-of .ensures) (mod-lt (s .args .p) (per-pos (s .pre .0)))
+    rw (c .place-in-byte .ensures) (mod-lt (s .args .p) (per-pos (s .pre .0)))
 
-bits : (c : tie.After-place-of) → c .before .before .before .args .k * c .place-of .result < 8
+bits : (c : tie.After-place-in-byte) → c .before .before .before .args .k * c .place-in-byte .result < 8
 bits c =
-    let h : c .place-of .result < 1 * per (c .before .before .before .args .k) = omega (arith, within c) in
+    let h : c .place-in-byte .result < 1 * per (c .before .before .before .args .k) = omega (arith, within c) in
     bits-under (c .before .before .before .pre .0) 1 h
 
 -- the byte and the place are those of the symbol
-at : (c : tie.After-place-of) → c .before .byte-of .result * per (c .before .before .before .args .k) + c .place-of .result ≡ c .before .before .before .args .p
+at : (c : tie.After-place-in-byte) → c .before .byte-of .result * per (c .before .before .before .args .k) + c .place-in-byte .result ≡ c .before .before .before .args .p
 at c =
     let s = c .before .before .before in
-    rw (c .place-of .ensures, c .before .byte-of .ensures) (div-add-mod' (s .args .p) (per (s .args .k)))
+    rw (c .place-in-byte .ensures, c .before .byte-of .ensures) (div-add-mod' (s .args .p) (per (s .args .k)))
 
 -- with symbols before it in its byte, the byte is there
 there : (c : tie.Else1) → c .before .before .byte-of .result < length (c .before .before .before .before .args .buf .now)
@@ -46,9 +46,9 @@ returns c =
     let p = c .before in
     let s = p .before .before .before in
     let k = s .args .k in
-    let e : p .place-of .result ≡ 0 = c .if1 .taken in
+    let e : p .place-in-byte .result ≡ 0 = c .if1 .taken in
     let f : p .before .byte-of .result * per k ≡ s .args .p = omega (arith, at p) in (
-      (omega (arith, within p), pow-pos (k * p .place-of .result)),
+      (omega (arith, within p), pow-pos (k * p .place-in-byte .result)),
       (
         at p,
         rw (e, append-nil)
@@ -72,7 +72,7 @@ shared-slice-read-t8 c = there (c .before)
 shr-t9 : tie.Need-shr-t9
 shr-t9 c =
     let p = c .before .before in
-    let h : 0 < p .place-of .result = omega (arith, c .before .if1 .left) in
+    let h : 0 < p .place-in-byte .result = omega (arith, c .before .if1 .left) in
     omega (arith, mul-pos (wide (p .before .before .before .pre .0)) h, bits p)
 
 cast-t11 : tie.Need-cast-t11
@@ -80,7 +80,7 @@ cast-t11 c =
     let p = c .before .before in
     let s = p .before .before .before in
     let b = getD (s .args .buf .now) (p .before .byte-of .result) 0 in
-    omega (arith, c .shared-slice-known2 .given (p .before .byte-of .result), shr-le b (8 - s .args .k * p .place-of .result))
+    omega (arith, c .shared-slice-known2 .given (p .before .byte-of .result), shr-le b (8 - s .args .k * p .place-in-byte .result))
 
 returns-2 : tie.Need-returns-2
 unfolding gathered
@@ -88,7 +88,7 @@ returns-2 c =
     let p = c .before .before in
     let s = p .before .before .before in
     let k = s .args .k in
-    let n = p .place-of .result in
+    let n = p .place-in-byte .result in
     let j = p .before .byte-of .result in
     let e : k * n + (8 - k * n) ≡ 8 = omega (arith, bits p) in
     let byte : getD (s .args .buf .now) j 0 < 2 ^ (k * n + (8 - k * n)) = rw e (omega (arith, c .shared-slice-known2 .given j)) in (

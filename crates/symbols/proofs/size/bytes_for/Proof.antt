@@ -19,18 +19,18 @@ add-result c =
     omega (
       arith,
       c .before .before .byte-of .ensures,
-      c .before .place-of .ensures,
+      c .before .place-in-byte .ensures,
       div-add-mod' h (per k),
       le-mul-of-pos-right (h / per k) (per-pos w),
     )
 
 returns : tie.Need-returns
-returns c = c .before .before .byte-of .ensures ∙ sym (bytesFor-even (c .before .before .before .pre) _ (sym (c .before .place-of .ensures) ∙ c .if1 .taken))
+returns c = c .before .before .byte-of .ensures ∙ sym (bytesFor-even (c .before .before .before .pre) _ (sym (c .before .place-in-byte .ensures) ∙ c .if1 .taken))
 
 returns-2 : tie.Need-returns-2
 returns-2 c =
     ap (λ (n : ℕ). n + 1) (c .before .before .byte-of .ensures)
-    ∙ sym (bytesFor-odd (c .before .before .before .pre) _ (λ e. c .if1 .left (c .before .place-of .ensures ∙ e)))
+    ∙ sym (bytesFor-odd (c .before .before .before .pre) _ (λ e. c .if1 .left (c .before .place-in-byte .ensures ∙ e)))
 
 pub bytes-for-spec : {M : Type 1} → statement M
 bytes-for-spec =

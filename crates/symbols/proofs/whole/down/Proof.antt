@@ -22,20 +22,20 @@ abbrev μ-loop : tie.MeasureT-loop
 μ-loop k buf₀ first last by ahead place j₀ buf j = last - j
 
 -- what `by` is in whole bytes and symbols
-known : (c : tie.After-place-of Inv-loop μ-loop)
-    → (c .before .before .before .args .by ≡ c .before .byte-of .result * per (c .before .before .before .args .k) + c .place-of .result)
-    × (c .place-of .result < per (c .before .before .before .args .k))
+known : (c : tie.After-place-in-byte Inv-loop μ-loop)
+    → (c .before .before .before .args .by ≡ c .before .byte-of .result * per (c .before .before .before .args .k) + c .place-in-byte .result)
+    × (c .place-in-byte .result < per (c .before .before .before .args .k))
 known c =
     let s = c .before .before .before in
     let k = s .args .k in
     let by = s .args .by in
-    rw (c .place-of .ensures, c .before .byte-of .ensures)
+    rw (c .place-in-byte .ensures, c .before .byte-of .ensures)
     (sym (div-add-mod' by (per k)), mod-lt by (per-pos (s .pre .0)))
 
 -- the symbols that the next byte takes
 fits : (c : tie.In-loop Inv-loop μ-loop)
     → (c .before .loop .j + c .before .before .before .byte-of .result) * per (c .before .before .before .before .before .args .k)
-    + c .before .before .place-of .result
+    + c .before .before .place-in-byte .result
     + per (c .before .before .before .before .before .args .k)
     ≤ length (symbolsOf (c .before .before .before .before .before .args .k) (c .before .loop .buf))
 fits c =
@@ -54,13 +54,13 @@ reach c =
 byte-of-requires : tie.Need-byte-of-requires Inv-loop μ-loop
 byte-of-requires c κs = c .before .pre .0
 
-place-of-requires : tie.Need-place-of-requires Inv-loop μ-loop
-place-of-requires c κs = c .before .before .pre .0
+place-in-byte-requires : tie.Need-place-in-byte-requires Inv-loop μ-loop
+place-in-byte-requires c κs = c .before .before .pre .0
 
 cast-place : tie.Need-cast-place Inv-loop μ-loop
 cast-place c =
     let s = c .before .before .before in
-    omega (arith, c .place-of .ensures, mod-lt (s .args .by) (per-pos (s .pre .0)), per-few (s .pre .0))
+    omega (arith, c .place-in-byte .ensures, mod-lt (s .args .by) (per-pos (s .pre .0)), per-few (s .pre .0))
 
 loop-holds : tie.Need-loop-holds Inv-loop μ-loop
 loop-holds c =
@@ -87,7 +87,7 @@ loop-again c =
     let by = s .args .by in
     let first = s .args .first in
     let ahead = l .before .before .byte-of .result in
-    let place = l .before .place-of .result in
+    let place = l .before .place-in-byte .result in
     let bs = l .loop .buf in
     let old = symbolsOf k (s .args .buf .now) in
     let j = l .loop .j in
@@ -116,7 +116,7 @@ down-spec =
     Inv-loop
     μ-loop
     byte-of-requires
-    place-of-requires
+    place-in-byte-requires
     cast-place
     loop-holds
     add-window

@@ -1,4 +1,4 @@
--- `stopper::word::symbols_of` meets its contract: the stopper stored at its place, and the continuers spelt before it.
+-- `stopper::word::spell_word` meets its contract: the stopper stored at its place, and the continuers spelt before it.
 -- Assumes nothing.
 use mathlib.Core.Path.{sym, ap, _∙_}
 use Prim.Native.Nat.{_+_, _<_}
@@ -9,8 +9,8 @@ use lib.ListN.{length, length-set}
 use Rattle.stopper.specs.Laws.Table.{code-base, code-good, length-place}
 use Rattle.stopper.specs.declared.code.Place.{Place}
 use Rattle.stopper.proofs.Spelling.{written}
-use Rattle.stopper.proofs.word.symbols_of.Statement.{statement}
-use Rattle.stopper.proofs.word.symbols_of.Tie as tie
+use Rattle.stopper.proofs.word.spell_word.Statement.{statement}
+use Rattle.stopper.proofs.word.spell_word.Tie as tie
 
 -- there are stoppers, fewer than 16
 some : (c : tie.After-stoppers-at) → (0 < c .stoppers-at .result) × (c .stoppers-at .result < 16)
@@ -54,8 +54,8 @@ returns c =
           ∙ written (a .args .code) (a .pre .0) (a .args .rank) _ (p .result) (a .args .out .now) (p .ensures) (s .stoppers-at .ensures) (inside s),
     )
 
-pub symbols-of-spec : {M : Type 1} → statement M
-symbols-of-spec =
+pub spell-word-spec : {M : Type 1} → statement M
+spell-word-spec =
     tie.close
     (tie.spec
     (λ c κs. search needs)
