@@ -86,16 +86,22 @@ pub fn first_foreign(lengths: &[u8], text: &[u8], from: usize) -> usize
     i
 }
 
-// The codewords of at most 8 symbols as numbers, by character.
+// A codeword of fewer symbols may wait as one number.
+const JOINED: usize = 9;
+
+// The numbers of all characters are made for a text of at least as many.
+const MANY: usize = 256;
+
+// The codewords of fewer than JOINED symbols as numbers, by character.
 fn numbers_of(k: u8, lengths: &[u8], words: &[u8]) -> [u32; 256]
     requires { ⌜ WordsLaid k (now lengths) (now words) ⌝ }
-    ensures { λ r. ⌜ Numbers k (now (lengths .entry)) (now (words .entry)) r ⌝ }
+    ensures { λ r. ⌜ Numbers k (now (lengths .entry)) (now (words .entry)) r 9 ⌝ }
 {
     let mut numbers = [0u32; 256];
     let mut b: usize = 0;
     while b < 256 {
         let long = wide(lengths[b]);
-        if long <= 8 {
+        if long < JOINED {
             let at = b * LONGEST;
             let end = at + long;
             numbers[b] = join_all(k, &words[at..end]);
@@ -105,21 +111,22 @@ fn numbers_of(k: u8, lengths: &[u8], words: &[u8]) -> [u32; 256]
     numbers
 }
 
-// The codeword of character b behind those before it.
+// The codeword of character b behind those before it; by its number if it has fewer symbols than `under`.
 fn add_word(
     k: u8,
     lengths: &[u8],
     words: &[u8],
     numbers: &[u32],
+    under: usize,
     b: usize,
     g: Gather,
     buf: &mut [u8],
 ) -> Gather
-    requires { ⌜ WordsLaid k (now lengths) (now words) × Numbers k (now lengths) (now words) (now numbers) × (b < 256) × Waiting k g (now buf) (length (wordAt (now lengths) (now words) b)) ⌝ }
+    requires { ⌜ WordsLaid k (now lengths) (now words) × Numbers k (now lengths) (now words) (now numbers) under × (under ≤ 9) × (b < 256) × Waiting k g (now buf) (length (wordAt (now lengths) (now words) b)) ⌝ }
     ensures { λ r. ⌜ Added k g (now (buf .entry)) (wordAt (now (lengths .entry)) (now (words .entry)) b) r (now (buf .exit)) ⌝ }
 {
     let long = wide(lengths[b]);
-    if long <= 8 {
+    if long < under {
         return add(k, g, buf, numbers[b], long);
     }
     let at = b * LONGEST;
@@ -127,17 +134,38 @@ fn add_word(
     add_each(k, g, buf, &words[at..end])
 }
 
-// The codewords of a text stored from symbol first on.
+fn write_words(
+    k: u8,
+    lengths: &[u8],
+    words: &[u8],
+    numbers: &[u32],
+    under: usize,
+    text: &[u8],
+    buf: &mut [u8],
+    first: usize,
+)
+    requires { ⌜ Laid k (now lengths) (now words) (now text) (now buf) first × Numbers k (now lengths) (now words) (now numbers) under × (under ≤ 9) ⌝ }
+    ensures { λ _. ⌜ symbolsOf k (now (buf .exit)) ≡ laidFrom (symbolsOf k (now (buf .entry))) first (rowOf (now (lengths .entry)) (now (words .entry)) (now (text .entry))) ⌝ }
+{
+    let mut g = begin(k, buf, first);
+    let mut i = 0;
+    while i < text.len() {
+        g = add_word(k, lengths, words, numbers, under, wide(text[i]), g, buf);
+        i += 1;
+    }
+    finish(k, g, buf);
+}
+
+// The codewords of a text stored from symbol first on; no numbers are made for a short one.
 pub fn write_text(k: u8, lengths: &[u8], words: &[u8], text: &[u8], buf: &mut [u8], first: usize)
     requires { ⌜ Laid k (now lengths) (now words) (now text) (now buf) first ⌝ }
     ensures { λ _. ⌜ symbolsOf k (now (buf .exit)) ≡ laidFrom (symbolsOf k (now (buf .entry))) first (rowOf (now (lengths .entry)) (now (words .entry)) (now (text .entry))) ⌝ }
 {
-    let numbers = numbers_of(k, lengths, words);
-    let mut g = begin(k, buf, first);
-    let mut i = 0;
-    while i < text.len() {
-        g = add_word(k, lengths, words, &numbers, wide(text[i]), g, buf);
-        i += 1;
+    if text.len() < MANY {
+        let none = [0u32; 256];
+        write_words(k, lengths, words, &none, 0, text, buf, first);
+        return;
     }
-    finish(k, g, buf);
+    let numbers = numbers_of(k, lengths, words);
+    write_words(k, lengths, words, &numbers, JOINED, text, buf, first);
 }

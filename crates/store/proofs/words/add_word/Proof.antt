@@ -17,7 +17,7 @@ begun c = c .before .before .before .before .before .before
 
 -- the length read is the codeword's
 long : (c : tie.After-wide) → length (wordAt (begun c .args .lengths .now) (begun c .args .words .now) (begun c .args .b)) ≡ c .wide .result
-long c = let s = begun c in word-length (s .pre .0) (s .args .b) (s .pre .2) ∙ sym (c .wide .ensures .0)
+long c = let s = begun c in word-length (s .pre .0) (s .args .b) (s .pre .3) ∙ sym (c .wide .ensures .0)
 
 -- a number's digits are the codeword
 spelt : (c : tie.Then1)
@@ -27,14 +27,14 @@ spelt : (c : tie.Then1)
 spelt c =
     let w = c .before in
     let s = begun w in
-    let j = s .pre .1 .joins (s .args .b) (s .pre .2) (omega (arith, w .wide .ensures .0)) in
+    let j = s .pre .1 .joins (s .args .b) (s .pre .3) (omega (arith, w .wide .ensures .0)) in
     (rw (long w) at (j .small), rw (long w) at (j .symbols))
 
 add-requires : tie.Need-add-requires
 add-requires c κs =
     let t = c .before .before in
     let s = begun (t .before) in
-    (s .pre .0 .width, rw (long (t .before)) at (s .pre .3), t .if1 .taken, spelt t .0)
+    (s .pre .0 .width, rw (long (t .before)) at (s .pre .4), omega (arith, t .if1 .taken, s .pre .2), spelt t .0)
 
 returns : tie.Need-returns
 returns c =
@@ -51,7 +51,7 @@ add-each-requires : tie.Need-add-each-requires
 add-each-requires c κs =
     let w = c .before .before .before in
     let s = begun w in
-    rw (lent (s .args .lengths .now) (s .args .words .now) (s .args .b) (w .wide .ensures .0)) (s .pre .0 .width, s .pre .3, s .pre .0 .symbols (s .args .b) (s .pre .2))
+    rw (lent (s .args .lengths .now) (s .args .words .now) (s .args .b) (w .wide .ensures .0)) (s .pre .0 .width, s .pre .4, s .pre .0 .symbols (s .args .b) (s .pre .3))
 
 returns-2 : tie.Need-returns-2
 returns-2 c =

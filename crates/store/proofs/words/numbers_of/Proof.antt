@@ -19,7 +19,7 @@ use Rattle.store.proofs.words.numbers_of.Tie as tie
 pub record Joined (k : ℕ) (lengths words numbers : List ℕ) (b : ℕ) : Type 0 where
   pub inside : b ≤ 256
   pub many : length numbers ≡ 256
-  pub joins : (x : ℕ) → x < b → getD lengths x 0 ≤ 8 → Joins k (wordAt lengths words x) (getD numbers x 0)
+  pub joins : (x : ℕ) → x < b → getD lengths x 0 < 9 → Joins k (wordAt lengths words x) (getD numbers x 0)
 
 module _ {k : ℕ} {lengths words numbers : List ℕ} {b : ℕ} (a : Joined k lengths words numbers b) (h : b < 256) where
   more : {v : ℕ} → Joins k (wordAt lengths words b) v → Joined k lengths words (set numbers b v) (b + 1)
@@ -29,21 +29,21 @@ module _ {k : ℕ} {lengths words numbers : List ℕ} {b : ℕ} (a : Joined k le
     joins = λ x l few. at x l few (decLt x b);
   }
     where
-      at : (x : ℕ) → x < b + 1 → getD lengths x 0 ≤ 8 → Dec (x < b) → Joins k (wordAt lengths words x) (getD (set numbers b v) x 0)
+      at : (x : ℕ) → x < b + 1 → getD lengths x 0 < 9 → Dec (x < b) → Joins k (wordAt lengths words x) (getD (set numbers b v) x 0)
       at x l few (yes d) = rw (getD-set-other numbers b x v 0 (λ e. omega arith)) (a .joins x d few)
       at x l few (no d) =
           let e : x ≡ b = omega arith in
           rw (e, getD-set-same numbers b v 0 (omega (arith, a .many))) j
 
   -- a longer one has no number
-  skip : 8 < getD lengths b 0 → Joined k lengths words numbers (b + 1)
+  skip : 9 ≤ getD lengths b 0 → Joined k lengths words numbers (b + 1)
   skip long = record {
     inside = omega arith;
     many = a .many;
     joins = λ x l few. at x l few (decLt x b);
   }
     where
-      at : (x : ℕ) → x < b + 1 → getD lengths x 0 ≤ 8 → Dec (x < b) → Joins k (wordAt lengths words x) (getD numbers x 0)
+      at : (x : ℕ) → x < b + 1 → getD lengths x 0 < 9 → Dec (x < b) → Joins k (wordAt lengths words x) (getD numbers x 0)
       at x l few (yes d) = a .joins x d few
       at x l few (no d) =
           let e : x ≡ b = omega arith in
