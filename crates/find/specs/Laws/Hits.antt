@@ -143,9 +143,7 @@ module _ {r : Roll} {buf : List ℕ} (s : Sound r buf) where
 
 module _ {r : Roll} {buf : List ℕ} (held : Held r buf) {p : List ℕ} (k : InTable (characters (r .table)) p) where
   pub hit-rank : (i : ℕ) → standsAt (r .table .code) (ranksRead (reading r buf)) (symbolsFor (r .table) p) i ≡ stands p (drop i (textOf r buf))
-  hit-rank i =
-      rw (sound-ranked held)
-      (hit-word (r .table .code) (table-code (r .table) (held .sound .table)) (characters (r .table)) k (sound-known held) i)
+  hit-rank i = rw (sound-ranked held) (hit-word (r .table .code) (table-code (r .table) (held .sound .table)) (characters (r .table)) k (sound-known held) i)
 
   -- the packed pattern stands at symbol q, which is the first or stands after a stopper, exactly if q is where a hit starts
   pub hit-symbols : (q : ℕ) → q < r .h → let row : List ℕ = rowUpto (r .table .code) (r .h) buf in

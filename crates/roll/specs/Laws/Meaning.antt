@@ -75,21 +75,13 @@ module _ {r : Roll} {buf : List ℕ} (held : Held r buf) (bytes : Below 256 buf)
         is = sound-record held;
         symbols = sound-symbols held;
         bytes = sound-bytes held bytes;
-        again = λ buf2 h.
-            packs-accepted (r .table) (textOf r buf) buf2
-            (record {
-              good = held .sound .table;
-              known = sound-known held;
-              fits = rw (sound-h held) h;
-            });
+        again = λ buf2 h. packs-accepted (r .table) (textOf r buf) buf2 (record { good = held .sound .table; known = sound-known held; fits = rw (sound-h held) h });
       }
 
   -- into the buffer itself: it stays as it is
   pub pack-again : packedInto (widthOf r) (symbolsFor (r .table) (textOf r buf)) buf ≡ buf
   pack-again =
-      ap₂ (λ (a : List ℕ) (h : ℕ). a ++ drop (bytesFor (widthOf r) h) buf)
-      (sound-bytes held bytes)
-      (sound-h held)
+      ap₂ (λ (a : List ℕ) (h : ℕ). a ++ drop (bytesFor (widthOf r) h) buf) (sound-bytes held bytes) (sound-h held)
       ∙ take-append-drop (bytesFor (widthOf r) (r .h)) buf
 
 -- ---- sound: it holds some text, which is the only one (`holds-one`)

@@ -69,8 +69,7 @@ module _ {r : Roll} {buf : List ℕ} (s : Sound r buf) (dir : List ℕ) (right :
   starts j = startAt (lengthsOf r buf) j
 
   pub right-held : place / 32 < length dir
-  right-held =
-      omega (arith, entries-inside place inside, right-long s dir right)
+  right-held = omega (arith, entries-inside place inside, right-long s dir right)
 
   pub right-entry : getD dir (place / 32) 0 ≡ starts (place / 32 * 32)
   right-entry =

@@ -88,8 +88,7 @@ module _ {r : Roll} {buf dir : List ℕ} {x : Run} (p : Located r buf dir x) whe
     behind = firstOver c l left (drop (x .end) old)
 
     pub count-few : x .start + length text + (r .n - x .end) ≤ 50331648
-    count-few =
-        omega (arith, s .count, row-count c (table-code (r .table) (p .held .sound .table)) l text, whole-few, n-few, p .ordered, p .inside)
+    count-few = omega (arith, s .count, row-count c (table-code (r .table) (p .held .sound .table)) l text, whole-few, n-few, p .ordered, p .inside)
 
     over-is : x .start + length text + behind ≡ firstOver c l whole (new text)
     over-is =
@@ -103,13 +102,7 @@ module _ {r : Roll} {buf dir : List ℕ} {x : Run} (p : Located r buf dir x) whe
       behind-within =
           elim (decLt behind (length (drop (x .end) old))) [
             | yes q ↦ q
-            | no q ↦
-                absurd
-                (omega (
-                  arith,
-                  tail p,
-                  over-all c l left (drop (x .end) old) .0 (omega (arith, over-within c l left (drop (x .end) old))),
-                ))
+            | no q ↦ absurd (omega (arith, tail p, over-all c l left (drop (x .end) old) .0 (omega (arith, over-within c l left (drop (x .end) old)))))
           ]
 
       pub over-tail : x .start + length text + (over - x .end) ≡ firstOver c l whole (new text)

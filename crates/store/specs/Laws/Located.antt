@@ -56,5 +56,4 @@ module _ {r : Roll} {buf dir : List ℕ} {x : Run} (p : Located r buf dir x) whe
 
   -- the characters that there are with a text in its place
   pub count-after : (text : List ℕ) → length (edited old (x .start) (x .end) text) ≡ x .start + length text + (r .n - x .end)
-  count-after text =
-      edited-length old (x .start) (x .end) text (p .ordered) within ∙ ap (λ (n : ℕ). x .start + length text + (n - x .end)) size
+  count-after text = edited-length old (x .start) (x .end) text (p .ordered) within ∙ ap (λ (n : ℕ). x .start + length text + (n - x .end)) size

@@ -52,8 +52,7 @@ changed-is x long taken count = go (eqb long (x .end - x .start)) (eqb taken (x 
     go true false f g = inl refl
     go false b f g = inl refl
 
-module _ {r : Roll} {lengths words buf dir : List ℕ} {x : Run} {text : List ℕ} {taken : ℕ}
-    (p : Replaceable r lengths words buf dir x text taken) where
+module _ {r : Roll} {lengths words buf dir : List ℕ} {x : Run} {text : List ℕ} {taken : ℕ} (p : Replaceable r lengths words buf dir x text taken) where
   abbrev c : Code
   c = r .table .code
 
@@ -73,15 +72,8 @@ module _ {r : Roll} {lengths words buf dir : List ℕ} {x : Run} {text : List �
 
   pub symbols-after : length (symbolsFor (r .table) E) ≡ x .first + taken + (r .h - x .last)
   symbols-after =
-      omega (
-        arith,
-        length-parts c l (take (x .start) old) (text ++ drop (x .end) old),
-        length-parts c l text (drop (x .end) old),
-        tail at,
-        first-is at,
-        last-is at,
-        p .spelled .count,
-      )
+      let parts = length-parts c l (take (x .start) old) (text ++ drop (x .end) old) in
+      omega (arith, parts, length-parts c l text (drop (x .end) old), tail at, first-is at, last-is at, p .spelled .count)
 
   -- no number is great
   pub symbols-few : x .first + taken + (r .h - x .last) ≤ 16777216
@@ -129,9 +121,7 @@ module _ {r : Roll} {lengths words buf dir : List ℕ} {x : Run} {text : List �
         clean = at .held .sound .unused;
       }
 
-  pub bytes-after : {after : List ℕ}
-      → after ≡ replacedBytes (c .k) lengths words text buf (r .h) x
-      → after ≡ bytesAfter r E buf
+  pub bytes-after : {after : List ℕ} → after ≡ replacedBytes (c .k) lengths words text buf (r .h) x → after ≡ bytesAfter r E buf
   unfolding replacedRow
   bytes-after e =
       e
@@ -214,15 +204,8 @@ module _ {r : Roll} {lengths words buf dir : List ℕ} {x : Run} {text : List �
         let now : sum (take (x .end) L′) ≡ length (symbolsFor (r .table) (take (x .end) E))
         = ap (λ (ls : List ℕ). startAt ls (x .end)) (sym lengths-after) ∙ start-after (x .end) in
         let e : take (x .end) E ≡ take (x .start) old ++ text = ap (take (x .end)) E-split ∙ take-at (take (x .start) old ++ text) (drop (x .end) old) (x .end) E-front in
-        omega (
-          arith,
-          before,
-          now ∙ ap (λ (t : List ℕ). length (symbolsFor (r .table) t)) e ∙ length-parts c l (take (x .start) old) text,
-          first-is at,
-          p .spelled .count,
-          symbols-same,
-          run-ordered at,
-        )
+        let sum = now ∙ ap (λ (t : List ℕ). length (symbolsFor (r .table) t)) e ∙ length-parts c l (take (x .start) old) text in
+        omega (arith, before, sum, first-is at, p .spelled .count, symbols-same, run-ordered at)
 
     L-behind : drop (x .end) L ≡ drop (x .end) L′
     unfolding lengthsFor

@@ -32,7 +32,14 @@ located : (r : tie.After-room-of) → let a = begun r .args in
     Located (a .roll) (a .buf .now) (a .dir .now) (record { start = a .start; end = a .end; first = first r; last = r .before .start-of2 .result })
 located r =
     let p = begun r .pre in
-    record { held = record { sound = p .0; places = search needs }; right = p .1; ordered = p .2; inside = p .3; from = r .before .before .before .before .start-of .ensures; upto = r .before .start-of2 .ensures }
+    record {
+      held = record { sound = p .0; places = search needs };
+      right = p .1;
+      ordered = p .2;
+      inside = p .3;
+      from = r .before .before .before .before .start-of .ensures;
+      upto = r .before .start-of2 .ensures;
+    }
 
 room-of-requires : tie.Need-room-of-requires
 room-of-requires c κs =
@@ -85,7 +92,7 @@ returns-2 c =
     let s = begun r in
     let a = s .args in
     let e = extent-is m (Over _) (x .extent2 .given .1) in
-    edit-4 (s .pre .0) _ _ _ _ (s .pre .1) (s .pre .2) (s .pre .3) (e .0)
+    edit-4 _ _ _ _ (s .pre .0) (s .pre .1) (s .pre .2) (s .pre .3) (e .0)
     (over-text (located r) (a .text .now) (e .1) (e .2))
     (over-text-within (located r) (a .text .now) (e .1) (e .2))
     (c .refused2 .ensures)

@@ -29,10 +29,10 @@ rest : (r : tie.After-room-of) → let a = begun r .args in r .room-of .result -
 rest r = let a = begun r .args in ap (λ (n : ℕ). n - (a .run .first + a .taken)) (r .room-of .ensures)
 
 few : (r : tie.After-room-of) → let a = begun r .args in a .run .start + length (a .text .now) + (a .roll .n - a .run .end) ≤ 50331648
-few r = let s = begun r in count-few (s .pre .0) (s .pre .1) (s .pre .2) (rest r)
+few r = let p = begun r .pre in count-few (p .0) (p .1) (p .2) (rest r)
 
 sub-if1 : tie.Need-sub-if1
-sub-if1 c = let s = begun (c .before .before .before) in omega (arith, run-inside (s .pre .0))
+sub-if1 c = omega (arith, run-inside (begun (c .before .before .before) .pre .0))
 
 -- ---- what stands behind does not fit
 
@@ -58,9 +58,8 @@ returns : tie.Need-returns
 returns c =
     let o = c .before .before .before in
     let s = begun (roomed o) in
-    let a = s .args in
     let p = s .pre .0 in
-    edit-4 (p .held .sound) _ _ _ _ (p .right) (p .ordered) (p .inside) (s .pre .1 .known)
+    edit-4 _ _ _ _ (p .held .sound) (p .right) (p .ordered) (p .inside) (s .pre .1 .known)
     (over-tail p (s .pre .1) (s .pre .2) (rest (roomed o)) (o .before .before .if1 .taken) (o .first-over .ensures))
     (within o)
     (c .refused .ensures)
@@ -88,7 +87,7 @@ decided : (n : tie.After-entries-for) → let a = start n .args in let least = e
 decided n =
     let s = start n in
     let p = s .pre .0 in
-    edit-last (p .held .sound) _ _ _ _ (p .right) (p .ordered) (p .inside) (s .pre .1 .known)
+    edit-last _ _ _ _ (p .held .sound) (p .right) (p .ordered) (p .inside) (s .pre .1 .known)
     (over-none p (s .pre .1) (s .pre .2) (rest (left n .before .before .before .before)) (left n .if1 .left))
 
 -- the entries that the edited text needs

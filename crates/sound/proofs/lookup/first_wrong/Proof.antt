@@ -66,9 +66,7 @@ passed : (c : tie.After-pass-ends Inv-loop μ-loop) → let l = c .before .befor
 passed c =
     let n = c .before .before .before in
     let l = n .before in
-    let s = entered l in
-    c .pass-ends .ensures
-    ∙ entry-ends (s .pre) (l .loop .j) (l .loop .e) (l .loop .inv .1) (omega (arith, inside n)) (l .loop .inv .2)
+    c .pass-ends .ensures ∙ entry-ends (entered l .pre) (l .loop .j) (l .loop .e) (l .loop .inv .1) (omega (arith, inside n)) (l .loop .inv .2)
 
 entry-is : (c : tie.After-pass-ends Inv-loop μ-loop) → let l = c .before .before .before .before in getD (wanted l) (l .loop .e) 0 ≡ c .pass-ends .result
 entry-is c =
@@ -95,9 +93,8 @@ mul-pass-ends c = let n = c .before .before in omega (arith, inside n, entered (
 pass-ends-requires : tie.Need-pass-ends-requires Inv-loop μ-loop
 pass-ends-requires c κs =
     let n = c .before .before in
-    let l = n .before in
-    let s = entered l in (
-      entry-ending (s .pre) (l .loop .j) (l .loop .e) (l .loop .inv .1) (omega (arith, inside n)) (l .loop .inv .2),
+    let l = n .before in (
+      entry-ending (entered l .pre) (l .loop .j) (l .loop .e) (l .loop .inv .1) (omega (arith, inside n)) (l .loop .inv .2),
       l .before .before .stops-by-byte .ensures,
     )
 

@@ -46,16 +46,14 @@ loop-holds c =
     let s = begun e in
     let a = s .args in (
       omega arith,
-      right-entry (s .pre .0) (a .dir .now) (s .pre .1) (a .j) (e .if1 .left)
-          ∙ sym (sound-end (s .pre .0) (a .j / 32 * 32) (omega (arith, s .pre .2))),
+      right-entry (s .pre .0) (a .dir .now) (s .pre .1) (a .j) (e .if1 .left) ∙ sym (sound-end (s .pre .0) (a .j / 32 * 32) (omega (arith, s .pre .2))),
     )
 
 end-at-requires : tie.Need-end-at-requires Inv-loop μ-loop
 end-at-requires c κs =
     let l = c .before in
     let e = entered l in
-    let s = begun e in
-    rw (l .loop .inv .1) (sound-one (s .pre .0) (l .loop .i) (omega (arith, c .loop-test .taken, e .if1 .left)))
+    rw (l .loop .inv .1) (sound-one (begun e .pre .0) (l .loop .i) (omega (arith, c .loop-test .taken, e .if1 .left)))
 
 loop-again : tie.Need-loop-again Inv-loop μ-loop
 loop-again c =

@@ -133,8 +133,7 @@ unfolding readingFrom lengthsOf
 codeword-at-requires c κs =
     let l = c .before in
     let s = entered l in
-    sound-reads (s .pre .0) (l .loop .p)
-    (rw (l .loop .inv .1) (sound-start (s .pre .0) (s .args .start + l .loop .i)))
+    sound-reads (s .pre .0) (l .loop .p) (rw (l .loop .inv .1) (sound-start (s .pre .0) (s .args .start + l .loop .i)))
 
 same-length : tie.Need-same-length Inv-loop μ-loop
 same-length c = same (c .before .before .before .before)

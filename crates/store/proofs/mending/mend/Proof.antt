@@ -69,8 +69,7 @@ passed : (c : tie.After-pass-ends Inv-loop μ-loop) → let l = c .before .befor
 passed c =
     let n = c .before .before in
     let l = n .before in
-    let s = entered l in
-    c .pass-ends .ensures ∙ entry-ends (s .pre .0) (l .loop .j) (l .loop .e) (l .loop .inv .2) (inside n) (l .loop .inv .3)
+    c .pass-ends .ensures ∙ entry-ends (entered l .pre .0) (l .loop .j) (l .loop .e) (l .loop .inv .2) (inside n) (l .loop .inv .3)
 
 stops-by-byte-requires : tie.Need-stops-by-byte-requires Inv-loop μ-loop
 stops-by-byte-requires c κs = let s = c .before .before .before .before in table-code (s .args .roll .table) (s .pre .0 .table)
@@ -93,9 +92,8 @@ mul-pass-ends c = let n = c .before in omega (arith, before-upto n, entered (n .
 pass-ends-requires : tie.Need-pass-ends-requires Inv-loop μ-loop
 pass-ends-requires c κs =
     let n = c .before in
-    let l = n .before in
-    let s = entered l in (
-      entry-ending (s .pre .0) (l .loop .j) (l .loop .e) (l .loop .inv .2) (inside n) (l .loop .inv .3),
+    let l = n .before in (
+      entry-ending (entered l .pre .0) (l .loop .j) (l .loop .e) (l .loop .inv .2) (inside n) (l .loop .inv .3),
       l .before .before .before .stops-by-byte .ensures,
     )
 
