@@ -18,7 +18,8 @@ use Rattle.texts.specs.Laws.Characters.{foreign-within, foreign-known}
 use Rattle.texts.specs.Laws.Hits.{foreign-hits}
 use Rattle.texts.specs.Laws.Patterns.{pattern-least}
 use Rattle.texts.specs.Laws.Finding.{passing-same, passing-all}
-use Rattle.sound.specs.Paper.Roll.{textRow, symbolsFor, textOf, Sound}
+use Rattle.sound.specs.Paper.Roll.{textRow, symbolsFor, textOf}
+use Rattle.sound.specs.Helpers.Held.{Held}
 use Rattle.sound.specs.Laws.Texts.{length-cons}
 use Rattle.sound.specs.Laws.Holding.{sound-known, sound-ranked}
 use Rattle.sound.specs.declared.records.Roll.{Roll}
@@ -55,15 +56,15 @@ some-known c l p n =
     let h : firstForeign l p < length p → ⊥ = λ h. n (ap length (pattern-foreign c l p h)) in
     omega (arith, foreign-within l p, h)
 
-module _ (r : Roll) (buf : List ℕ) (long : length (r .table .places) ≡ 256) (s : Sound r buf) (p : List ℕ) where
+module _ {r : Roll} {buf : List ℕ} (held : Held r buf) (p : List ℕ) where
   pub word-hits : firstForeign (characters (r .table)) p ≡ length p → wordHits r buf (symbolsFor (r .table) p) ≡ hits p (textOf r buf)
   unfolding wordHits
   word-hits e =
       let l : List ℕ = characters (r .table) in
       let t : List ℕ = textOf r buf in
-      passing-same _ (λ i _. hit-rank r buf long s (foreign-known l p e) i)
-      ∙ ap (passing (λ j. stands p (drop j t))) (ap length (sound-ranked r buf long s) ∙ length-map t (rankIn l))
+      passing-same _ (λ i _. hit-rank held (foreign-known l p e) i)
+      ∙ ap (passing (λ j. stands p (drop j t))) (ap length (sound-ranked held) ∙ length-map t (rankIn l))
       ∙ passing-all p t
 
   pub no-hits : firstForeign (characters (r .table)) p < length p → hits p (textOf r buf) ≡ []
-  no-hits h = foreign-hits (characters (r .table)) p h (sound-known r buf long s)
+  no-hits h = foreign-hits (characters (r .table)) p h (sound-known held)

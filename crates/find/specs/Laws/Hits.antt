@@ -27,6 +27,7 @@ use Rattle.texts.specs.Laws.Characters.{InTable, ranks-below, known-drop}
 use Rattle.texts.specs.Laws.Hits.{stands-ranks, Front, hit-is, stands-front, front-stands}
 use Rattle.sound.specs.Paper.Roll.{textRow, symbolsFor, rowUpto, reading, ranksRead, textOf, Sound}
 use Rattle.sound.specs.Paper.Lengths.{lengthsOf}
+use Rattle.sound.specs.Helpers.Held.{Held}
 use Rattle.sound.specs.Laws.Codewords.{start-at, drop-start}
 use Rattle.sound.specs.Laws.Sound.{sound-row, sound-length}
 use Rattle.sound.specs.Laws.Holding.{sound-known, sound-ranked}
@@ -132,19 +133,17 @@ module _ (m : ℕ) (s : ℕ → ℕ) (g : Good m s) (stop : ℕ) (even : (i : �
 
 -- ---- a sound roll
 
-module _ (r : Roll) (buf : List ℕ) (s : Sound r buf) where
+module _ {r : Roll} {buf : List ℕ} (s : Sound r buf) where
   -- what stands from the start of codeword i on
   pub stands-start : (symbols : List ℕ) (i : ℕ)
       → standsAt (r .table .code) (ranksRead (reading r buf)) symbols i
       ≡ stands symbols (drop (startAt (lengthsOf r buf) i) (rowUpto (r .table .code) (r .h) buf))
   unfolding lengthsOf
-  stands-start symbols i = rw (sound-row r buf s, drop-start (r .table .code) (ranksRead (reading r buf)) i)
+  stands-start symbols i = rw (sound-row s, drop-start (r .table .code) (ranksRead (reading r buf)) i)
 
-module _ (r : Roll) (buf : List ℕ) (long : length (r .table .places) ≡ 256) (s : Sound r buf) {p : List ℕ} (k : InTable (characters (r .table)) p) where
+module _ {r : Roll} {buf : List ℕ} (held : Held r buf) {p : List ℕ} (k : InTable (characters (r .table)) p) where
   pub hit-rank : (i : ℕ) → standsAt (r .table .code) (ranksRead (reading r buf)) (symbolsFor (r .table) p) i ≡ stands p (drop i (textOf r buf))
-  hit-rank i =
-      rw (sound-ranked r buf long s)
-      (hit-word (r .table .code) (table-code (r .table) (s .table)) (characters (r .table)) k (sound-known r buf long s) i)
+  hit-rank i = rw (sound-ranked held) (hit-word (r .table .code) (table-code (r .table) (held .sound .table)) (characters (r .table)) k (sound-known held) i)
 
   -- the packed pattern stands at symbol q, which is the first or stands after a stopper, exactly if q is where a hit starts
   pub hit-symbols : (q : ℕ) → q < r .h → let row : List ℕ = rowUpto (r .table .code) (r .h) buf in
@@ -156,13 +155,13 @@ module _ (r : Roll) (buf : List ℕ) (long : length (r .table .places) ≡ 256) 
       let rs : List ℕ = ranksRead (reading r buf) in
       let row : List ℕ = rowUpto c (r .h) buf in
       let sy : List ℕ = symbolsFor (r .table) p in
-      let good : Good (base c) (stoppers c) = code-good c (table-code (r .table) (s .table)) in
-      let e : row ≡ write (base c) (stoppers c) rs = sound-row r buf s in
-      let many : length rs ≡ length (textOf r buf) = ap length (sound-ranked r buf long s) ∙ length-map (textOf r buf) (rankIn (characters (r .table))) in
+      let good : Good (base c) (stoppers c) = code-good c (table-code (r .table) (held .sound .table)) in
+      let e : row ≡ write (base c) (stoppers c) rs = sound-row (held .sound) in
+      let many : length rs ≡ length (textOf r buf) = ap length (sound-ranked held) ∙ length-map (textOf r buf) (rankIn (characters (r .table))) in
       let there : (i : ℕ) → q ≡ startAt (lengthsOf r buf) i → stands sy (drop q row) ≡ stands p (drop i (textOf r buf))
-      = λ i f. ap (λ (n : ℕ). stands sy (drop n row)) f ∙ sym (stands-start r buf s sy i) ∙ hit-rank i in (
+      = λ i f. ap (λ (n : ℕ). stands sy (drop n row)) f ∙ sym (stands-start (held .sound) sy i) ∙ hit-rank i in (
         (λ x.
-            let (i, k, f) = after-starts (base c) (stoppers c) good (c .s) (one-number c) rs q (omega (arith, ap length e, sound-length r buf s)) (subst (λ (l : List ℕ). AfterStopper (c .s) l q) e (x .1)) in
+            let (i, k, f) = after-starts (base c) (stoppers c) good (c .s) (one-number c) rs q (omega (arith, ap length e, sound-length (held .sound))) (subst (λ (l : List ℕ). AfterStopper (c .s) l q) e (x .1)) in
             (i, hit-is p (textOf r buf) i .1 (omega arith, subst T (there i (f ∙ start-at c rs i)) (x .0)), f ∙ start-at c rs i)),
         (λ x.
             let (i, m, f) = x in

@@ -185,7 +185,7 @@ module _ (r : Roll) (buf dir : List ℕ) where
   -- the rows up to 9: a sound roll with a right directory
   pub right-accepted : Sound r buf → Right r buf dir → Accepted (directorySays r buf dir)
   unfolding directorySays
-  right-accepted s h = rw (sound-accepted s, le-ltb _ _ (le-of-eq (sym (right-none r buf dir s h))))
+  right-accepted s h = rw (sound-accepted s, le-ltb _ _ (le-of-eq (sym (right-none s dir h))))
 
   pub accepted-right : Accepted (directorySays r buf dir) → Sound r buf × Right r buf dir
   unfolding directorySays
@@ -194,7 +194,7 @@ module _ (r : Roll) (buf dir : List ℕ) where
       let (c, z) = accepted-none (directoryRows r buf dir) tt b in
       let s = accepted-sound r buf a in
       let h : entries (r .n) ≤ wrong = ltb-false _ _ c in
-      (s, none-right r buf dir s (omega (arith, wrong-within (directoryOf (lengthsOf r buf)) dir, sound-entries r buf s)))
+      (s, none-right s dir (omega (arith, wrong-within (directoryOf (lengthsOf r buf)) dir, sound-entries s)))
 
   module _ (start end : ℕ) (text : List ℕ) where
     abbrev new : List ℕ

@@ -21,7 +21,7 @@ use Rattle.sound.specs.Paper.Lengths.{lengthsOf, lengthsFor, Right}
 use Rattle.sound.specs.Laws.Lengths.{sound-lengths}
 use Rattle.sound.specs.declared.records.Roll.{Roll}
 use Rattle.store.specs.Paper.Stored.{packedInto, bytesAfter, directoryAfter}
-use Rattle.store.specs.Laws.Edited.{Edits, textAfter, rollAfter, edit-known, edit-holds, edit-sound, edit-text, edit-right}
+use Rattle.store.specs.Laws.Edited.{Edits, textAfter, rollAfter, edit-known, edit-holds, edit-sound, edit-held, edit-text, edit-right}
 use Rattle.roll.specs.Paper.Operations.{packSays, Packing, Making, Unpacking, Searching, Editing}
 use Rattle.roll.specs.Laws.Accepting.{Packs, packs-accepted, edits-accepted, accepted-edits}
 use Rattle.roll.specs.Laws.Meaning.{packed-holds, packing-sound, unpacks-text}
@@ -46,7 +46,7 @@ editing-yes {r} {buf} {dir} {start} {end} {text} p y =
     let e = says-as (p .says) y in
     (accepted-edits r buf dir start end text e, p .roll ∙ accepted-leaves e _ _, p .leaves ∙ accepted-leaves e _ _, p .mends ∙ accepted-leaves e _ _)
 
-module _ (r : Roll) (buf dir : List ℕ) (start end : ℕ) (text : List ℕ) (long : length (r .table .places) ≡ 256) (u : Edits r buf dir start end text) where
+module _ {r : Roll} {buf dir : List ℕ} {start end : ℕ} {text : List ℕ} (long : length (r .table .places) ≡ 256) (u : Edits r buf dir start end text) where
   abbrev E : List ℕ
   E = textAfter r buf start end text
 
@@ -63,8 +63,8 @@ module _ (r : Roll) (buf dir : List ℕ) (start end : ℕ) (text : List ℕ) (lo
   pub edit-afresh : (other : List ℕ) → length (symbolsFor (r .table) E) ≤ room k (length other)
       → Accepted (packSays (r .table) E other) × (take (bytesFor k (q .h)) after ≡ take (bytesFor k (q .h)) (packedInto k (symbolsFor (r .table) E) other))
   edit-afresh other h =
-      let p : Packs (r .table) E other = record { good = u .sound .table; known = edit-known r buf dir start end text long u; fits = h } in
-      (packs-accepted (r .table) E other p, sym (edit-holds r buf dir start end text long u .bytes) ∙ packed-holds (r .table) E other p .bytes)
+      let p : Packs (r .table) E other = record { good = u .sound .table; known = edit-known long u; fits = h } in
+      (packs-accepted (r .table) E other p, sym (edit-holds long u .bytes) ∙ packed-holds (r .table) E other p .bytes)
 
   -- by the operations: pack it afresh into any buffer with room and make its directory; record, bytes and entries are the edit's
   module _ (other space : List ℕ) (room-there : length (symbolsFor (r .table) E) ≤ room k (length other)) (entries-there : entries (q .n) ≤ length space) where
@@ -84,27 +84,27 @@ module _ (r : Roll) (buf dir : List ℕ) (start end : ℕ) (text : List ℕ) (lo
         let m : made ≡ Yes = done-one made Yes (b .says ∙ sym (making .says)) in
         let right : Right (p .roll) bytes list = made-right (subst (λ (x : Done). Making (p .roll) bytes space x list) m b) in
         let there : lengthsOf (p .roll) bytes ≡ lengthsFor (r .table) E
-        = sound-lengths (p .roll) bytes (rw same long) sound ∙ ap₂ (λ (x : Roll) (t : List ℕ). lengthsFor (x .table) t) same text-is in
+        = sound-lengths (record { sound = sound; places = rw same long }) ∙ ap₂ (λ (x : Roll) (t : List ℕ). lengthsFor (x .table) t) same text-is in
         let here : lengthsOf q after ≡ lengthsFor (r .table) E
-        = sound-lengths q after long (edit-sound r buf dir start end text long u) ∙ ap (lengthsFor (r .table)) (edit-text r buf dir start end text long u) in (
+        = sound-lengths (edit-held long u) ∙ ap (lengthsFor (r .table)) (edit-text long u) in (
           y,
           same,
           ap (take (bytesFor k (q .h))) bytes-are ∙ sym first,
           m,
-          ap (λ (x : Roll). take (entries (x .n)) list) (sym same) ∙ right ∙ ap directoryOf (there ∙ sym here) ∙ sym (edit-right r buf dir start end text long u),
+          ap (λ (x : Roll). take (entries (x .n)) list) (sym same) ∙ right ∙ ap directoryOf (there ∙ sym here) ∙ sym (edit-right long u),
         )
 
   -- unpacking gives the edited text, and searching its hits
   pub edit-unpacks : (out : List ℕ) → q .n ≤ length out → {answer : Done} {now : List ℕ} → Unpacking q after 0 (q .n) out answer now
       → (answer ≡ Yes) × (now ≡ E ++ drop (q .n) out)
   edit-unpacks out h p =
-      let x = unpacks-text q after out (edit-sound r buf dir start end text long u) h p in
-      (x .0, x .1 ∙ ap (λ (l : List ℕ). l ++ drop (q .n) out) (edit-text r buf dir start end text long u))
+      let x = unpacks-text out (edit-sound long u) h p in
+      (x .0, x .1 ∙ ap (λ (l : List ℕ). l ++ drop (q .n) out) (edit-text long u))
 
   pub edit-searches : (pattern slice : List ℕ) → T (goodPattern pattern) → {answer : Total} {now : List ℕ} → Searching q after pattern slice answer now
       → (totalSays answer ≡ accepted (length (hits pattern E))) × (now ≡ listed (hits pattern E) slice)
   edit-searches pattern slice g p =
-      let same : hits pattern E ≡ hits pattern (textOf q after) = ap (hits pattern) (sym (edit-text r buf dir start end text long u)) in
+      let same : hits pattern E ≡ hits pattern (textOf q after) = ap (hits pattern) (sym (edit-text long u)) in
       let yes : Searching q after pattern slice (Of (length (hits pattern E))) (listed (hits pattern E) slice)
-      = search-yes (edit-sound r buf dir start end text long u) g (ap length same) (ap (λ (l : List ℕ). listed l slice) same) in
+      = search-yes (edit-sound long u) g (ap length same) (ap (λ (l : List ℕ). listed l slice) same) in
       (p .says ∙ sym (yes .says), p .leaves ∙ sym (yes .leaves))

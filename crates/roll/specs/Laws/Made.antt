@@ -32,19 +32,19 @@ made-sound {r} {buf} {dir} m = makes-is r buf dir .1 (sym (m .says)) .0
 pub made-right : {r : Roll} {buf dir after : List ℕ} → Making r buf dir Yes after → Right r buf after
 made-right {r} {buf} {dir} m =
     ap (take (entries (r .n))) (m .leaves ∙ accepted-leaves (sym (m .says)) _ _)
-    ∙ take-at (directoryOf (lengthsOf r buf)) (drop (entries (r .n)) dir) (entries (r .n)) (sound-entries r buf (made-sound m))
+    ∙ take-at (directoryOf (lengthsOf r buf)) (drop (entries (r .n)) dir) (entries (r .n)) (sound-entries (made-sound m))
 
 -- ---- a character read by a right directory
 
-module _ (r : Roll) (buf : List ℕ) (s : Sound r buf) (dir : List ℕ) (right : Right r buf dir) (place : ℕ) (inside : place < r .n) where
+module _ {r : Roll} {buf : List ℕ} (s : Sound r buf) (dir : List ℕ) (right : Right r buf dir) (place : ℕ) (inside : place < r .n) where
   -- read_one's answer is the character of the text
   pub right-reads : readSays r buf dir place ≡ accepted (getD (textOf r buf) place 0)
   unfolding textOf readingFrom
   right-reads =
-      let before = right-before r buf s dir right place inside in
+      let before = right-before s dir right place inside in
       let (held, rank) = passed-word (r .table .code) (table-code (r .table) (s .table)) (r .table .sigma) (rowUpto (r .table .code) (r .h) buf) (getD dir (place / 32) 0) (place % 32)
-      (omega (arith, sound-length r buf s)) (right-passed r buf s dir right place inside) (sym (sound-found r buf s place inside)) in
-      reads-is r buf dir place .0 (record { good = s .table; fits = s .fits; inside = inside; held = right-held r buf s dir right place inside; below = before; reached = held })
+      (omega (arith, sound-length s)) (right-passed s dir right place inside) (sym (sound-found s place inside)) in
+      reads-is r buf dir place .0 (record { good = s .table; fits = s .fits; inside = inside; held = right-held s dir right place inside; below = before; reached = held })
       ∙ ap (λ (x : ℕ). accepted (getD (r .table .places) x 0)) rank
       ∙ ap (λ (x : ℕ). accepted x) (sym (map-at (λ rank. getD (r .table .places) rank 0) (ranksRead (reading r buf)) place (omega (arith, s .count))))
 
@@ -54,4 +54,4 @@ module _ (r : Roll) (buf : List ℕ) (s : Sound r buf) (dir : List ℕ) (right :
 -- by a directory that make_directory left, read_one answers what unpack would write
 pub reads-made : {r : Roll} {buf dir after : List ℕ} {place : ℕ} {answer : Answer} → Making r buf dir Yes after → place < r .n
     → ReadingOne r buf after place answer → answer ≡ Read (getD (textOf r buf) place 0)
-reads-made {r} {buf} {dir} {after} {place} m h p = reads-right r buf (made-sound m) after (made-right m) place h p
+reads-made {after = after} {place = place} m h p = reads-right (made-sound m) after (made-right m) place h p

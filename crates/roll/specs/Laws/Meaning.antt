@@ -22,6 +22,7 @@ use Rattle.symbols.specs.Laws.Sizes.{room-bytes}
 use Rattle.symbols.specs.Laws.Packing.{bytes-length}
 use Rattle.texts.specs.Laws.Characters.{InTable}
 use Rattle.sound.specs.Paper.Roll.{symbolsFor, recordOf, textOf, Sound}
+use Rattle.sound.specs.Helpers.Held.{Held}
 use Rattle.sound.specs.Laws.Sound.{text-length}
 use Rattle.sound.specs.Laws.Holding.{widthOf, Holds, holds-sound, holds-text, sound-known, sound-record, sound-h, sound-symbols, sound-bytes, sound-holds}
 use Rattle.sound.specs.declared.records.Roll.{Roll}
@@ -52,10 +53,10 @@ packed-holds t text buf p =
 
 module _ (t : Table) (text buf : List ℕ) (p : Packs t text buf) where
   pub packed-sound : Sound (recordOf t text) (packedInto (t .code .k) (symbolsFor t text) buf)
-  packed-sound = holds-sound (recordOf t text) (packedInto (t .code .k) (symbolsFor t text) buf) text (packed-holds t text buf p)
+  packed-sound = holds-sound (packed-holds t text buf p)
 
   pub unpack-pack : textOf (recordOf t text) (packedInto (t .code .k) (symbolsFor t text) buf) ≡ text
-  unpack-pack = holds-text (recordOf t text) (packedInto (t .code .k) (symbolsFor t text) buf) text (packed-holds t text buf p)
+  unpack-pack = holds-text (packed-holds t text buf p)
 
 -- ---- an unpacked roll
 
@@ -66,36 +67,27 @@ pub record Repacks (r : Roll) (buf text : List ℕ) : Type 0 where
   pub bytes : bytesOf (widthOf r) (symbolsFor (r .table) text) ≡ take (bytesFor (widthOf r) (r .h)) buf
   pub again : (buf2 : List ℕ) → r .h ≤ room (widthOf r) (length buf2) → Accepted (packSays (r .table) text buf2)
 
-module _ (r : Roll) (buf : List ℕ) (long : length (r .table .places) ≡ 256) (bytes : Below 256 buf) where
-  pub pack-unpack : Sound r buf → Repacks r buf (textOf r buf)
-  pack-unpack s =
-      let is = sound-record r buf long s in
+module _ {r : Roll} {buf : List ℕ} (held : Held r buf) (bytes : Below 256 buf) where
+  pub pack-unpack : Repacks r buf (textOf r buf)
+  pack-unpack =
       record {
-        known = sound-known r buf long s;
-        is = is;
-        symbols = sound-symbols r buf long s;
-        bytes = sound-bytes r buf long s bytes;
-        again = λ buf2 h.
-            packs-accepted (r .table) (textOf r buf) buf2
-            (record {
-              good = s .table;
-              known = sound-known r buf long s;
-              fits = rw (sound-h r buf long s) h;
-            });
+        known = sound-known held;
+        is = sound-record held;
+        symbols = sound-symbols held;
+        bytes = sound-bytes held bytes;
+        again = λ buf2 h. packs-accepted (r .table) (textOf r buf) buf2 (record { good = held .sound .table; known = sound-known held; fits = rw (sound-h held) h });
       }
 
   -- into the buffer itself: it stays as it is
-  pub pack-again : Sound r buf → packedInto (widthOf r) (symbolsFor (r .table) (textOf r buf)) buf ≡ buf
-  pack-again s =
-      ap₂ (λ (a : List ℕ) (h : ℕ). a ++ drop (bytesFor (widthOf r) h) buf)
-      (sound-bytes r buf long s bytes)
-      (sound-h r buf long s)
+  pub pack-again : packedInto (widthOf r) (symbolsFor (r .table) (textOf r buf)) buf ≡ buf
+  pack-again =
+      ap₂ (λ (a : List ℕ) (h : ℕ). a ++ drop (bytesFor (widthOf r) h) buf) (sound-bytes held bytes) (sound-h held)
       ∙ take-append-drop (bytesFor (widthOf r) (r .h)) buf
 
-  -- ---- sound: it holds some text, which is the only one (`holds-one`)
+-- ---- sound: it holds some text, which is the only one (`holds-one`)
 
-  pub sound-packed : Sound r buf ↔ ((text : List ℕ) × Holds r buf text)
-  sound-packed = (λ s. (textOf r buf, sound-holds r buf long s bytes), λ p. holds-sound r buf (p .0) (p .1))
+pub sound-packed : (r : Roll) (buf : List ℕ) → length (r .table .places) ≡ 256 → Below 256 buf → Sound r buf ↔ ((text : List ℕ) × Holds r buf text)
+sound-packed r buf long bytes = (λ s. (textOf r buf, sound-holds (record { sound = s; places = long }) bytes), λ p. holds-sound (p .1))
 
 -- ---- the operations: unpacking gives the text, and unpacking what was packed gives back what was packed
 
@@ -108,9 +100,9 @@ module _ (r : Roll) (buf : List ℕ) (start end : ℕ) (out : List ℕ) where
       (done-one answer Yes (p .says ∙ e), p .leaves ∙ accepted-leaves e _ _)
 
 -- the whole text
-pub unpacks-text : (r : Roll) (buf out : List ℕ) → Sound r buf → r .n ≤ length out → {answer : Done} {after : List ℕ}
+pub unpacks-text : {r : Roll} {buf : List ℕ} (out : List ℕ) → Sound r buf → r .n ≤ length out → {answer : Done} {after : List ℕ}
     → Unpacking r buf 0 (r .n) out answer after → (answer ≡ Yes) × (after ≡ textOf r buf ++ drop (r .n) out)
-unpacks-text r buf out s h p =
+unpacks-text {r} {buf} out s h p =
     let q = unpacks-range r buf 0 (r .n) out p (record { sound = s; ordered = omega arith; inside = le-refl (r .n); fits = omega arith }) in
     let e : r .n - 0 ≡ r .n = sub-zero (r .n) in
     let f : take (r .n) (textOf r buf) ≡ textOf r buf = take-all (r .n) (textOf r buf) (le-of-eq (text-length s)) in
@@ -133,5 +125,5 @@ pub packing-unpacking : {t : Table} {text buf : List ℕ} {r : Packed} {after : 
 packing-unpacking {t} {text} {buf} {r} {after} p y out h {answer} {now} u =
     let (a, s, e) = packing-sound p y in
     let n : r .roll .n ≡ length text = ap (λ (x : Roll). x .n) a in
-    let q = unpacks-text (r .roll) after out s (rw n h) (subst (λ (m : ℕ). Unpacking (r .roll) after 0 m out answer now) (sym n) u) in
+    let q = unpacks-text out s (rw n h) (subst (λ (m : ℕ). Unpacking (r .roll) after 0 m out answer now) (sym n) u) in
     (q .0, q .1 ∙ ap₂ (λ (x : List ℕ) (m : ℕ). x ++ drop m out) e n)

@@ -120,7 +120,7 @@ pub edit-refused : {r : Roll} {buf dir : List ℕ} {start end : ℕ} {text : Lis
 unfolding refusedEdit
 edit-refused n v e p = rw p (record { says = sym e; roll = rw e; leaves = rw e; mends = rw e })
 
-module _ (r : Roll) (buf dir : List ℕ) (start end : ℕ) (text : List ℕ) (s : Sound r buf) (right : Right r buf dir) (a : start ≤ end) (b : end ≤ r .n)
+module _ {r : Roll} {buf : List ℕ} (dir : List ℕ) (start end : ℕ) (text : List ℕ) (s : Sound r buf) (right : Right r buf dir) (a : start ≤ end) (b : end ≤ r .n)
     (f : firstForeign (characters (r .table)) text ≡ length text) where
   -- the edited text, and where it does not fit
   abbrev new : List ℕ

@@ -34,7 +34,7 @@ use Rattle.sound.specs.declared.reading.Passed.the-variants.{At}
 abbrev ranks : Roll → List ℕ → List ℕ
 ranks r buf = ranksRead (reading r buf)
 
-module _ (r : Roll) (buf : List ℕ) (s : Sound r buf) where
+module _ {r : Roll} {buf : List ℕ} (s : Sound r buf) where
   sound-many : length (lengthsOf r buf) ≡ r .n
   unfolding lengthsOf
   sound-many = rw length-map (s .count)
@@ -53,12 +53,12 @@ module _ (r : Roll) (buf : List ℕ) (s : Sound r buf) where
       let c = r .table .code in
       sym (start-at c (ranks r buf) (r .n))
       ∙ ap (λ (rs : List ℕ). length (write (base c) (stoppers c) rs)) (take-all (r .n) (ranks r buf) (omega (arith, s .count)))
-      ∙ ap length (sym (sound-row r buf s))
-      ∙ sound-length r buf s
+      ∙ ap length (sym (sound-row s))
+      ∙ sound-length s
 
 -- ---- a right directory: by its entry a character's codeword is reached
 
-module _ (r : Roll) (buf : List ℕ) (s : Sound r buf) (dir : List ℕ) (right : Right r buf dir) (place : ℕ) (inside : place < r .n) where
+module _ {r : Roll} {buf : List ℕ} (s : Sound r buf) (dir : List ℕ) (right : Right r buf dir) (place : ℕ) (inside : place < r .n) where
   abbrev c : Code
   c = r .table .code
 
@@ -69,30 +69,29 @@ module _ (r : Roll) (buf : List ℕ) (s : Sound r buf) (dir : List ℕ) (right :
   starts j = startAt (lengthsOf r buf) j
 
   pub right-held : place / 32 < length dir
-  right-held =
-      omega (arith, entries-inside place inside, right-long r buf s dir right)
+  right-held = omega (arith, entries-inside place inside, right-long s dir right)
 
   pub right-entry : getD dir (place / 32) 0 ≡ starts (place / 32 * 32)
   right-entry =
       sym (getD-take (entries (r .n)) dir (place / 32) 0 (entries-inside place inside))
       ∙ ap (λ (l : List ℕ). getD l (place / 32) 0) right
-      ∙ directory-at (lengthsOf r buf) (place / 32) (rw (sound-many r buf s) (entries-inside place inside))
+      ∙ directory-at (lengthsOf r buf) (place / 32) (rw (sound-many s) (entries-inside place inside))
 
   -- the codewords from the entry on, up to the place
   pub right-passed : At (starts place) ≡ passedFrom c (r .table .sigma) row (getD dir (place / 32) 0) (place % 32)
   unfolding lengthsOf
   right-passed =
       let e : place / 32 * 32 + place % 32 ≡ place = omega arith in
-      sym (rw (right-entry, sound-row r buf s)
-      (passed-ranks c (table-code (r .table) (s .table)) (r .table .sigma) (sound-below r buf s) (place % 32) (place / 32 * 32) (omega (arith, s .count))
+      sym (rw (right-entry, sound-row s)
+      (passed-ranks c (table-code (r .table) (s .table)) (r .table .sigma) (sound-below s) (place % 32) (place / 32 * 32) (omega (arith, s .count))
       ∙ ap {B = Passed} (λ (j : ℕ). At (starts j)) e))
 
   -- a codeword starts before symbol h
   pub right-before : getD dir (place / 32) 0 < r .h
   right-before =
       let j = place / 32 * 32 in
-      let w = found-word c (table-code (r .table) (s .table)) (r .table .sigma) row (sym (sound-found r buf s j (omega arith))) (omega (arith, row-length r buf (s .fits), sound-start r buf s j)) in
-      omega (arith, right-entry, w .some, sound-start r buf s (suc j))
+      let w = found-word c (table-code (r .table) (s .table)) (r .table .sigma) row (sym (sound-found s j (omega arith))) (omega (arith, row-length r buf (s .fits), sound-start s j)) in
+      omega (arith, right-entry, w .some, sound-start s (suc j))
 
 -- ---- the entries of a sound roll, by the stoppers alone
 
@@ -103,17 +102,17 @@ byStops c buf n = tab (λ i. endFrom c buf 0 (i * 32)) 0 n
 pub stops-entry : (c : Code) (buf : List ℕ) (n i : ℕ) → i < n → getD (byStops c buf n) i 0 ≡ endFrom c buf 0 (i * 32)
 stops-entry c buf n i h = tab-at _ n i h
 
-module _ (r : Roll) (buf : List ℕ) (s : Sound r buf) where
+module _ {r : Roll} {buf : List ℕ} (s : Sound r buf) where
   abbrev wanted : List ℕ
   wanted = directoryOf (lengthsOf r buf)
 
   pub stops-entries : (n : ℕ) → n ≤ r .n → take (entries n) wanted ≡ byStops (r .table .code) buf (entries n)
   stops-entries n h =
       let l = entries-upto n h in
-      tab-ext _ (entries n) (take (entries n) wanted) (length-take-le (entries n) wanted (omega (arith, l, sound-entries r buf s)))
+      tab-ext _ (entries n) (take (entries n) wanted) (length-take-le (entries n) wanted (omega (arith, l, sound-entries s)))
       (λ i k. getD-take (entries n) wanted i 0 k
-      ∙ directory-at (lengthsOf r buf) i (rw (sound-many r buf s) (omega arith))
-      ∙ sym (sound-end r buf s (i * 32) (omega (arith, entries-before n k))))
+      ∙ directory-at (lengthsOf r buf) i (rw (sound-many s) (omega arith))
+      ∙ sym (sound-end s (i * 32) (omega (arith, entries-before n k))))
 
   -- written up to character n, all of them
   pub stops-laid : (row : List ℕ) (from n : ℕ) → n ≤ r .n → laid row (byStops (r .table .code) buf (entries n)) from (entries n) ≡ laid row wanted from (entries n)
@@ -124,28 +123,28 @@ module _ (r : Roll) (buf : List ℕ) (s : Sound r buf) where
       ap (λ (xs : List ℕ). over row from xs m) (ap (λ (xs : List ℕ). run xs from m) (sym (stops-entries n h)) ∙ e)
 
   pub stops-directory : byStops (r .table .code) buf (entries (r .n)) ≡ wanted
-  stops-directory = sym (stops-entries (r .n) (le-refl (r .n))) ∙ take-all (entries (r .n)) wanted (omega (arith, sound-entries r buf s))
+  stops-directory = sym (stops-entries (r .n) (le-refl (r .n))) ∙ take-all (entries (r .n)) wanted (omega (arith, sound-entries s))
 
   -- from character j, whose codeword starts at symbol p, on to that of entry e
   module _ (j e : ℕ) {p : ℕ} (h : j ≤ e * 32) (k : e * 32 ≤ r .n) (at : p ≡ endFrom (r .table .code) buf 0 j) where
     pub entry-ending : Ending (r .table .code) buf p (e * 32 - j)
-    entry-ending = rw (at, sound-end r buf s j (omega arith)) (sound-ending r buf s j (e * 32 - j) (omega arith))
+    entry-ending = rw (at, sound-end s j (omega arith)) (sound-ending s j (e * 32 - j) (omega arith))
 
     pub entry-ends : endFrom (r .table .code) buf p (e * 32 - j) ≡ endFrom (r .table .code) buf 0 (e * 32)
     entry-ends =
         let up : j + (e * 32 - j) ≡ e * 32 = omega arith in
-        rw (at, sound-end r buf s j (omega arith))
-        (sound-ends r buf s j (e * 32 - j) (omega arith)
+        rw (at, sound-end s j (omega arith))
+        (sound-ends s j (e * 32 - j) (omega arith)
         ∙ ap (startAt (lengthsOf r buf)) up
-        ∙ sym (sound-end r buf s (e * 32) k))
+        ∙ sym (sound-end s (e * 32) k))
 
 -- so the directory of a sound roll is right if none of its entries is wrong, and only then
-module _ (r : Roll) (buf dir : List ℕ) (s : Sound r buf) where
+module _ {r : Roll} {buf : List ℕ} (s : Sound r buf) (dir : List ℕ) where
   pub right-none : Right r buf dir → firstWrong (directoryOf (lengthsOf r buf)) dir ≡ entries (r .n)
   right-none a =
       let d = directoryOf (lengthsOf r buf) in
-      let e = sound-entries r buf s in
+      let e = sound-entries s in
       wrong-none d dir (entries (r .n)) (a ∙ sym (take-all (entries (r .n)) d (omega arith))) (sym e)
 
   pub none-right : firstWrong (directoryOf (lengthsOf r buf)) dir ≡ entries (r .n) → Right r buf dir
-  none-right e = let l = sound-entries r buf s in ap (λ (n : ℕ). take n dir) (sym l) ∙ none-wrong (directoryOf (lengthsOf r buf)) dir (e ∙ sym l)
+  none-right e = let l = sound-entries s in ap (λ (n : ℕ). take n dir) (sym l) ∙ none-wrong (directoryOf (lengthsOf r buf)) dir (e ∙ sym l)

@@ -105,7 +105,7 @@ module _ (m : ℕ) (s : ℕ → ℕ) (g : Good m s) (rest : List ℕ) where
 abbrev ranks : Roll → List ℕ → List ℕ
 ranks r buf = ranksRead (reading r buf)
 
-module _ (r : Roll) (buf : List ℕ) (s : Sound r buf) where
+module _ {r : Roll} {buf : List ℕ} (s : Sound r buf) where
   -- the symbols of the buffer from codeword j on: the codewords from there on, and what lies behind symbol h
   sound-from : (j : ℕ) → symbolsFrom (r .table .code) buf (startAt (lengthsOf r buf) j)
       ≡ write (base (r .table .code)) (stoppers (r .table .code)) (drop j (ranks r buf)) ++ drop (r .h) (symbolsOf (r .table .code .k) buf)
@@ -115,7 +115,7 @@ module _ (r : Roll) (buf : List ℕ) (s : Sound r buf) where
       let p = startAt (lengthsOf r buf) j in
       let all = symbolsOf (c .k) buf in
       let words = write (base c) (stoppers c) (ranks r buf) in
-      let e : all ≡ words ++ drop (r .h) all = sym (take-append-drop (r .h) all) ∙ ap (λ (l : List ℕ). l ++ drop (r .h) all) (sound-row r buf s) in
+      let e : all ≡ words ++ drop (r .h) all = sym (take-append-drop (r .h) all) ∙ ap (λ (l : List ℕ). l ++ drop (r .h) all) (sound-row s) in
       ap (drop p) e
       ∙ drop-append-le p words (drop (r .h) all) (start-upto c (ranks r buf) j)
       ∙ ap (λ (l : List ℕ). l ++ drop (r .h) all) (drop-start c (ranks r buf) j)
@@ -146,7 +146,7 @@ module _ (r : Roll) (buf : List ℕ) (s : Sound r buf) where
       record {
         good = table-code (r .table) (s .table);
         enough = sound-stops j n h;
-        counts = omega (arith, sound-ends j n h, sound-start r buf s (j + n), sound-reads r buf s 0 zero-le .small);
+        counts = omega (arith, sound-ends j n h, sound-start s (j + n), sound-reads s 0 zero-le .small);
       }
 
   -- from the first codeword on

@@ -21,9 +21,10 @@ use Rattle.symbols.specs.Laws.Rows.{room-row, symbols-below, ends-inside, symbo
 use Rattle.symbols.specs.Laws.Packing.{bytes-below, symbols-bytes, symbols-one}
 use Rattle.texts.specs.Laws.Characters.{InTable, ranks-below, characters-back, ranks-back, ranks-known, characters-few, characters-length, places-characters}
 use Rattle.sound.specs.Paper.Roll.{textRow, symbolsFor, recordOf, rowUpto, readRow, readingFrom, reading, ranksRead, textOf, unusedOf, Sound}
+use Rattle.sound.specs.Helpers.Held.{Held}
 use Rattle.sound.specs.Laws.Texts.{text-below}
 use Rattle.sound.specs.Laws.Reading.{done-whole, done-ranks}
-use Rattle.sound.specs.Laws.Sound.{sound-below, sound-row, sound-length}
+use Rattle.sound.specs.Laws.Sound.{text-length, sound-below, sound-row, sound-length}
 use Rattle.sound.specs.declared.records.Roll.{Roll}
 
 -- ---- a buffer that holds a text: its packed bytes are the buffer's first, and the record says how many characters and symbols
@@ -42,7 +43,7 @@ pub record Holds (r : Roll) (buf text : List ℕ) : Type 0 where
 abbrev unusedCount : Roll → ℕ
 unusedCount r = bytesFor (widthOf r) (r .h) * per (widthOf r) - r .h
 
-module _ (r : Roll) (buf text : List ℕ) (p : Holds r buf text) where
+module _ {r : Roll} {buf text : List ℕ} (p : Holds r buf text) where
   good-code : T (goodCode (r .table .code))
   good-code = table-code (r .table) (p .good)
 
@@ -106,20 +107,19 @@ module _ (r : Roll) (buf text : List ℕ) (p : Holds r buf text) where
 
 -- at most one text is held
 pub holds-one : {r : Roll} {buf a b : List ℕ} → Holds r buf a → Holds r buf b → a ≡ b
-holds-one {r} {buf} {a} {b} p q = sym (holds-text r buf a p) ∙ holds-text r buf b q
+holds-one p q = sym (holds-text p) ∙ holds-text q
 
 -- ---- a sound roll holds its text
 
-module _ (r : Roll) (buf : List ℕ) (long : length (r .table .places) ≡ 256) (s : Sound r buf) where
+module _ {r : Roll} {buf : List ℕ} (held : Held r buf) where
   sound-code : T (goodCode (r .table .code))
-  sound-code = table-code (r .table) (s .table)
+  sound-code = table-code (r .table) (held .sound .table)
 
   sound-width : Width (widthOf r)
   sound-width = code-width (r .table .code) sound-code
 
   sound-ranks : Below (length (characters (r .table))) (ranksRead (reading r buf))
-  sound-ranks =
-      rw (characters-length (r .table) (s .table) long) (sound-below r buf s)
+  sound-ranks = rw (characters-length (r .table) (held .sound .table) (held .places)) (sound-below (held .sound))
 
   sound-text : textOf r buf ≡ map (λ rank. getD (characters (r .table)) rank 0) (ranksRead (reading r buf))
   unfolding textOf
@@ -132,29 +132,25 @@ module _ (r : Roll) (buf : List ℕ) (long : length (r .table .places) ≡ 256) 
   pub sound-ranked : ranksRead (reading r buf) ≡ map (rankIn (characters (r .table))) (textOf r buf)
   sound-ranked =
       let l : List ℕ = characters (r .table) in
-      sym (ap (map (rankIn l)) sound-text ∙ ranks-back l (table-apart (r .table) (s .table)) sound-ranks)
+      sym (ap (map (rankIn l)) sound-text ∙ ranks-back l (table-apart (r .table) (held .sound .table)) sound-ranks)
 
   row-below : Below (2 ^ widthOf r) (rowUpto (r .table .code) (r .h) buf)
   row-below = below-take (symbols-below (widthOf r) buf) (r .h)
 
   row-length : length (rowUpto (r .table .code) (r .h) buf) ≡ r .h
-  row-length = sound-length r buf s
+  row-length = sound-length (held .sound)
 
   -- its symbols are the buffer's
   pub sound-symbols : symbolsFor (r .table) (textOf r buf) ≡ rowUpto (r .table .code) (r .h) buf
   unfolding textRow
-  sound-symbols = ap (write (base (r .table .code)) (stoppers (r .table .code))) (sym sound-ranked) ∙ sym (sound-row r buf s)
+  sound-symbols = ap (write (base (r .table .code)) (stoppers (r .table .code))) (sym sound-ranked) ∙ sym (sound-row (held .sound))
 
   pub sound-h : length (symbolsFor (r .table) (textOf r buf)) ≡ r .h
   sound-h = ap length sound-symbols ∙ row-length
 
   -- its record is the roll's
   pub sound-record : recordOf (r .table) (textOf r buf) ≡ r
-  unfolding textOf
-  sound-record =
-      ap₂ {C = Roll} (λ (n h : ℕ). record { table = r .table; n = n; h = h })
-      (length-map (ranksRead (reading r buf)) (λ rank. getD (r .table .places) rank 0) ∙ s .count)
-      sound-h
+  sound-record = ap₂ {C = Roll} (λ (n h : ℕ). record { table = r .table; n = n; h = h }) (text-length (held .sound)) sound-h
 
   module _ (bytes : Below 256 buf) where
     -- its bytes are the buffer's
@@ -165,7 +161,7 @@ module _ (r : Roll) (buf : List ℕ) (long : length (r .table .places) ≡ 256) 
         let n : ℕ = bytesFor k h in
         let w : Width k = sound-width in
         let row : List ℕ = rowUpto (r .table .code) h buf in
-        let inside : n * per k ≤ length (symbolsOf k buf) = ends-inside w buf h (room-row k buf h (s .fits)) in
+        let inside : n * per k ≤ length (symbolsOf k buf) = ends-inside w buf h (room-row k buf h (held .sound .fits)) in
         let enough : h ≤ n * per k = bytesFor-enough w h in
         let sum : h + (n * per k - h) ≡ n * per k = omega arith in
         let size : length (unusedOf r buf) ≡ n * per k - h = omega (arith, run-length (symbolsOf k buf) h (n * per k) enough inside) in
@@ -173,10 +169,10 @@ module _ (r : Roll) (buf : List ℕ) (long : length (r .table .places) ≡ 256) 
         (symbols-one w (bytes-below w row-below) (below-take bytes n)
         (symbols-bytes w row-below
         ∙ ap (λ (i : ℕ). row ++ zeros (bytesFor k i * per k - i)) row-length
-        ∙ ap (λ (l : List ℕ). row ++ l) (sym (zero-zeros (unusedOf r buf) (s .unused) ∙ ap zeros size))
+        ∙ ap (λ (l : List ℕ). row ++ l) (sym (zero-zeros (unusedOf r buf) (held .sound .unused) ∙ ap zeros size))
         ∙ sym (take-add h (n * per k - h) (symbolsOf k buf))
         ∙ ap (λ (i : ℕ). take i (symbolsOf k buf)) sum
         ∙ symbols-take w n buf))
 
     pub sound-holds : Holds r buf (textOf r buf)
-    sound-holds = record { good = s .table; known = sound-known; is = sound-record; fits = s .fits; bytes = sound-bytes }
+    sound-holds = record { good = held .sound .table; known = sound-known; is = sound-record; fits = held .sound .fits; bytes = sound-bytes }

@@ -10,8 +10,9 @@ use Rattle.stopper.specs.Paper.Reading.{write}
 use Rattle.stopper.specs.declared.code.Code.{Code}
 use Rattle.stopper.specs.declared.table.Table.{Table}
 use Rattle.texts.specs.Paper.Directory.{startAt}
-use Rattle.sound.specs.Paper.Roll.{textRow, symbolsFor, reading, ranksRead, textOf, Sound}
+use Rattle.sound.specs.Paper.Roll.{textRow, symbolsFor, reading, ranksRead, textOf}
 use Rattle.sound.specs.Paper.Lengths.{lengthsOf, lengthsFor}
+use Rattle.sound.specs.Helpers.Held.{Held}
 use Rattle.sound.specs.Laws.Codewords.{start-at}
 use Rattle.sound.specs.Laws.Holding.{sound-ranked}
 use Rattle.sound.specs.declared.records.Roll.{Roll}
@@ -20,7 +21,7 @@ pub lengths-length : (t : Table) (text : List ℕ) → length (lengthsFor t text
 unfolding lengthsFor
 lengths-length t text = length-map text (λ b. lengthOf (t .code) (rankIn (characters t) b))
 
-module _ (r : Roll) (buf : List ℕ) (long : length (r .table .places) ≡ 256) (s : Sound r buf) where
+module _ {r : Roll} {buf : List ℕ} (held : Held r buf) where
   abbrev c : Code
   c = r .table .code
 
@@ -32,11 +33,11 @@ module _ (r : Roll) (buf : List ℕ) (long : length (r .table .places) ≡ 256) 
 
   pub sound-lengths : lengthsOf r buf ≡ lengthsFor (r .table) (textOf r buf)
   unfolding lengthsOf lengthsFor
-  sound-lengths = ap (map (lengthOf c)) (sound-ranked r buf long s) ∙ map-map (lengthOf c) (rankIn l) (textOf r buf)
+  sound-lengths = ap (map (lengthOf c)) (sound-ranked held) ∙ map-map (lengthOf c) (rankIn l) (textOf r buf)
 
   -- where codeword j starts: behind the symbols of the characters before it
   pub start-text : (j : ℕ) → startAt (lengthsOf r buf) j ≡ length (symbolsFor (r .table) (take j (textOf r buf)))
   unfolding lengthsOf textRow
   start-text j =
       sym (start-at c ranks j)
-      ∙ ap (λ (x : List ℕ). length (write (base c) (stoppers c) x)) (ap (take j) (sound-ranked r buf long s) ∙ map-take (rankIn l) j (textOf r buf))
+      ∙ ap (λ (x : List ℕ). length (write (base c) (stoppers c) x)) (ap (take j) (sound-ranked held) ∙ map-take (rankIn l) j (textOf r buf))

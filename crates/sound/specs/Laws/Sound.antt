@@ -54,7 +54,7 @@ pub text-length : {r : Roll} {buf : List ℕ} → Sound r buf → length (textOf
 unfolding textOf
 text-length {r} {buf} s = length-map (ranks r buf) (λ rank. getD (r .table .places) rank 0) ∙ s .count
 
-module _ (r : Roll) (buf : List ℕ) (s : Sound r buf) where
+module _ {r : Roll} {buf : List ℕ} (s : Sound r buf) where
   pub sound-reads : (p : ℕ) → p ≤ r .h → Reads (r .table .code) (r .table .sigma) buf (r .h) p
   sound-reads = table-reads r buf (s .table) (s .fits)
 

@@ -10,8 +10,8 @@ use Rattle.ground.specs.Paper.Runs.{over, run, inPlace}
 use Rattle.ground.specs.Paper.Rows.{allZero}
 use Rattle.symbols.specs.Paper.Symbols.{per, bytesFor, room, symbolsOf, bytesOf}
 use Rattle.texts.specs.Paper.Directory.{entries, startAt}
-use Rattle.sound.specs.Paper.Roll.{Sound}
 use Rattle.sound.specs.Paper.Lengths.{lengthsOf, Right}
+use Rattle.sound.specs.Helpers.Held.{Held}
 use Rattle.sound.specs.declared.records.Roll.{Roll}
 use Rattle.store.specs.Helpers.Words.{rowOf, Laid}
 use Rattle.store.specs.Helpers.Measured.{Spelled}
@@ -45,7 +45,7 @@ changedUpto x long taken count = cond (eqb long (x .end - x .start) && eqb taken
 
 -- a run of a sound roll with a right directory
 pub record Located (r : Roll) (buf dir : List ℕ) (run : Run) : Type 0 where
-  pub sound : Sound r buf
+  pub held : Held r buf
   pub right : Right r buf dir
   pub ordered : run .start ≤ run .end
   pub inside : run .end ≤ r .n

@@ -27,7 +27,7 @@ use Rattle.store.specs.Laws.Editing.{edited-over-text, edited-over-tail}
 use Rattle.store.specs.Laws.Located.{first-is, size, run-ordered, tail, run-inside, count-after}
 use Rattle.store.specs.declared.replace.Run.{Run}
 
-module _ {r : Roll} {buf dir : List ℕ} {x : Run} (long : length (r .table .places) ≡ 256) (p : Located r buf dir x) where
+module _ {r : Roll} {buf dir : List ℕ} {x : Run} (p : Located r buf dir x) where
   abbrev c : Code
   c = r .table .code
 
@@ -41,17 +41,17 @@ module _ {r : Roll} {buf dir : List ℕ} {x : Run} (long : length (r .table .pla
   whole = room (c .k) (length buf)
 
   pub first-room : x .first ≤ whole
-  first-room = omega (arith, run-ordered long p, run-inside long p, p .sound .fits)
+  first-room = omega (arith, run-ordered p, run-inside p, p .held .sound .fits)
 
   before : x .start ≤ length old
-  before = omega (arith, size long p, p .ordered, p .inside)
+  before = omega (arith, size p, p .ordered, p .inside)
 
   -- no number is great
   whole-few : whole ≤ 16777216
   whole-few = omega (arith, room-limit (c .k) (length buf), limit-fits)
 
   n-few : r .n ≤ 16777216
-  n-few = omega (arith, size long p, row-count c (table-code (r .table) (p .sound .table)) l old, sound-h r buf long (p .sound), p .sound .fits, whole-few)
+  n-few = omega (arith, size p, row-count c (table-code (r .table) (p .held .sound .table)) l old, sound-h (p .held), p .held .sound .fits, whole-few)
 
   module _ (text : List ℕ) where
     abbrev new : List ℕ
@@ -61,11 +61,11 @@ module _ {r : Roll} {buf dir : List ℕ} {x : Run} (long : length (r .table .pla
     module _ {upto : ℕ} (u : upto ≡ firstOver c l (whole - x .first) text) (h : upto < length text) where
       pub over-text : x .start + upto ≡ firstOver c l whole new
       over-text =
-          let e : upto ≡ firstOver c l (whole - length (textRow c l (take (x .start) old))) text = u ∙ ap (λ (n : ℕ). firstOver c l (whole - n) text) (first-is long p) in
-          sym (edited-over-text old (x .start) (x .end) text c l whole before (omega (arith, first-is long p, first-room)) (omega arith) ∙ ap (λ (n : ℕ). x .start + n) (sym e))
+          let e : upto ≡ firstOver c l (whole - length (textRow c l (take (x .start) old))) text = u ∙ ap (λ (n : ℕ). firstOver c l (whole - n) text) (first-is p) in
+          sym (edited-over-text old (x .start) (x .end) text c l whole before (omega (arith, first-is p, first-room)) (omega arith) ∙ ap (λ (n : ℕ). x .start + n) (sym e))
 
       pub over-text-within : x .start + upto < length new
-      over-text-within = omega (arith, count-after long p text)
+      over-text-within = omega (arith, count-after p text)
 
       -- those before it fit, and each takes a symbol at least
       pub over-text-few : x .start + upto ≤ 33554432
@@ -74,7 +74,7 @@ module _ {r : Roll} {buf dir : List ℕ} {x : Run} (long : length (r .table .pla
           omega (
             arith,
             length-take-le n text (omega arith),
-            row-count c (table-code (r .table) (p .sound .table)) l (take n text),
+            row-count c (table-code (r .table) (p .held .sound .table)) l (take n text),
             over-fits c l (whole - x .first) text,
             whole-few,
             n-few,
@@ -88,14 +88,13 @@ module _ {r : Roll} {buf dir : List ℕ} {x : Run} (long : length (r .table .pla
     behind = firstOver c l left (drop (x .end) old)
 
     pub count-few : x .start + length text + (r .n - x .end) ≤ 50331648
-    count-few =
-        omega (arith, s .count, row-count c (table-code (r .table) (p .sound .table)) l text, whole-few, n-few, p .ordered, p .inside)
+    count-few = omega (arith, s .count, row-count c (table-code (r .table) (p .held .sound .table)) l text, whole-few, n-few, p .ordered, p .inside)
 
     over-is : x .start + length text + behind ≡ firstOver c l whole (new text)
     over-is =
-        let e : left ≡ whole - length (textRow c l (take (x .start) old)) - length (textRow c l text) = omega (arith, rest, first-is long p, s .count) in
+        let e : left ≡ whole - length (textRow c l (take (x .start) old)) - length (textRow c l text) = omega (arith, rest, first-is p, s .count) in
         ap (λ (n : ℕ). x .start + length text + firstOver c l n (drop (x .end) old)) e
-        ∙ sym (edited-over-tail old (x .start) (x .end) text c l whole before (omega (arith, first-is long p, first-room)) (omega (arith, first-is long p, s .count)))
+        ∙ sym (edited-over-tail old (x .start) (x .end) text c l whole before (omega (arith, first-is p, first-room)) (omega (arith, first-is p, s .count)))
 
     -- the tail does not fit
     module _ (short : left < r .h - x .last) {over : ℕ} (o : over ≡ x .end + behind) where
@@ -103,27 +102,21 @@ module _ {r : Roll} {buf dir : List ℕ} {x : Run} (long : length (r .table .pla
       behind-within =
           elim (decLt behind (length (drop (x .end) old))) [
             | yes q ↦ q
-            | no q ↦
-                absurd
-                (omega (
-                  arith,
-                  tail long p,
-                  over-all c l left (drop (x .end) old) .0 (omega (arith, over-within c l left (drop (x .end) old))),
-                ))
+            | no q ↦ absurd (omega (arith, tail p, over-all c l left (drop (x .end) old) .0 (omega (arith, over-within c l left (drop (x .end) old)))))
           ]
 
       pub over-tail : x .start + length text + (over - x .end) ≡ firstOver c l whole (new text)
       over-tail = let e : over - x .end ≡ behind = omega arith in ap (λ (n : ℕ). x .start + length text + n) e ∙ over-is
 
       pub over-tail-within : x .start + length text + (over - x .end) < length (new text)
-      over-tail-within = omega (arith, behind-within, length-drop (x .end) old, size long p, count-after long p text)
+      over-tail-within = omega (arith, behind-within, length-drop (x .end) old, size p, count-after p text)
 
     -- it does
     module _ (room-enough : r .h - x .last ≤ left) where
       pub over-none : firstOver c l whole (new text) ≡ length (new text)
       over-none =
-          let e : behind ≡ length (drop (x .end) old) = over-all c l left (drop (x .end) old) .1 (omega (arith, tail long p)) in
-          sym over-is ∙ omega (arith, e, length-drop (x .end) old, size long p, count-after long p text)
+          let e : behind ≡ length (drop (x .end) old) = over-all c l left (drop (x .end) old) .1 (omega (arith, tail p)) in
+          sym over-is ∙ omega (arith, e, length-drop (x .end) old, size p, count-after p text)
 
       pub replaceable : entries (x .start + length text + (r .n - x .end)) ≤ length dir → Replaceable r lengths words buf dir x text taken
       replaceable k = record { located = p; spelled = s; fits = omega (arith, first-room); listed = k }

@@ -24,6 +24,7 @@ use Rattle.texts.specs.Laws.Directory.{directory-length}
 use Rattle.texts.specs.Laws.Edited.{edited-known}
 use Rattle.sound.specs.Paper.Roll.{symbolsFor, recordOf, textOf, Sound}
 use Rattle.sound.specs.Paper.Lengths.{lengthsFor, Right}
+use Rattle.sound.specs.Helpers.Held.{Held}
 use Rattle.sound.specs.Laws.Texts.{text-below, length-parts, length-up}
 use Rattle.sound.specs.Laws.Holding.{Holds, holds-sound, holds-text, sound-known, sound-h, sound-symbols, sound-bytes}
 use Rattle.sound.specs.Laws.Lengths.{lengths-length, sound-lengths}
@@ -52,7 +53,7 @@ module _ (r : Roll) (buf : List ℕ) (start end : ℕ) (text : List ℕ) where
   abbrev pub rollAfter : Roll
   rollAfter = recordOf (r .table) textAfter
 
-module _ (r : Roll) (buf dir : List ℕ) (start end : ℕ) (text : List ℕ) (long : length (r .table .places) ≡ 256) (u : Edits r buf dir start end text) where
+module _ {r : Roll} {buf dir : List ℕ} {start end : ℕ} {text : List ℕ} (long : length (r .table .places) ≡ 256) (u : Edits r buf dir start end text) where
   abbrev E : List ℕ
   E = textAfter r buf start end text
 
@@ -70,6 +71,9 @@ module _ (r : Roll) (buf dir : List ℕ) (start end : ℕ) (text : List ℕ) (lo
 
   abbrev behind : List ℕ
   behind = directoryAfter r E dir
+
+  held : Held r buf
+  held = record { sound = u .sound; places = long }
 
   width : Width k
   width = code-width (r .table .code) (table-code (r .table) (u .sound .table))
@@ -90,7 +94,7 @@ module _ (r : Roll) (buf dir : List ℕ) (start end : ℕ) (text : List ℕ) (lo
 
   -- the buffer holds the edited text, which is in the table
   pub edit-known : InTable (characters (r .table)) E
-  edit-known = edited-known (textOf r buf) start end text (sound-known r buf long (u .sound)) (u .known)
+  edit-known = edited-known (textOf r buf) start end text (sound-known held) (u .known)
 
   pub edit-holds : Holds q after E
   edit-holds =
@@ -104,15 +108,18 @@ module _ (r : Roll) (buf dir : List ℕ) (start end : ℕ) (text : List ℕ) (lo
 
   -- so the roll is sound, its text is the edited one, and its directory is right
   pub edit-sound : Sound q after
-  edit-sound = holds-sound q after E edit-holds
+  edit-sound = holds-sound edit-holds
+
+  pub edit-held : Held q after
+  edit-held = record { sound = edit-sound; places = long }
 
   pub edit-text : textOf q after ≡ E
-  edit-text = holds-text q after E edit-holds
+  edit-text = holds-text edit-holds
 
   pub edit-right : Right q after behind
   edit-right =
       place-front (entries (r .n)) (directoryOf (lengthsFor (r .table) E)) dir entries-size
-      ∙ ap directoryOf (sym (sound-lengths q after long edit-sound ∙ ap (lengthsFor (r .table)) edit-text))
+      ∙ ap directoryOf (sym (sound-lengths edit-held ∙ ap (lengthsFor (r .table)) edit-text))
 
   -- bytes and entries used before and no longer are 0
   pub edit-cleared : run after (bytesFor k (q .h)) (bytesFor k (r .h)) ≡ zeros (bytesFor k (r .h) - bytesFor k (q .h))
@@ -135,15 +142,15 @@ module _ (r : Roll) (buf dir : List ℕ) (start end : ℕ) (text : List ℕ) (lo
   startSymbol j = length (symbolsFor (r .table) (take j (textOf r buf)))
 
   module _ (bytes : Below 256 buf) where
-    held : r .h ≤ length (symbolsOf k buf)
-    held = room-row k buf (r .h) (u .sound .fits)
+    within : r .h ≤ length (symbolsOf k buf)
+    within = room-row k buf (r .h) (u .sound .fits)
 
     -- the symbols of the roll, with those of the text in place of the run's
     row-is : row ≡ replacedRow k buf (r .h) (startSymbol start) (startSymbol end) (symbolsFor (r .table) text)
     unfolding replacedRow
     row-is =
         edited-row (textOf r buf) start end text (r .table .code) (characters (r .table))
-        ∙ ap (λ (x : List ℕ). over x (startSymbol start) (symbolsFor (r .table) text) (startSymbol end)) (sound-symbols r buf long (u .sound))
+        ∙ ap (λ (x : List ℕ). over x (startSymbol start) (symbolsFor (r .table) text) (startSymbol end)) (sound-symbols held)
 
     below : Below (2 ^ k) (symbolsFor (r .table) text)
     below = text-below (r .table .code) (table-code (r .table) (u .sound .table)) (characters (r .table)) text
@@ -157,33 +164,32 @@ module _ (r : Roll) (buf dir : List ℕ) (start end : ℕ) (text : List ℕ) (lo
           arith,
           length-parts (r .table .code) (characters (r .table)) (take end (textOf r buf)) (drop end (textOf r buf)),
           ap (λ (x : List ℕ). length (symbolsFor (r .table) x)) (take-append-drop end (textOf r buf)),
-          sound-h r buf long (u .sound),
+          sound-h held,
         )
 
     -- each byte before the one where the run begins is as it was
     pub edit-before : take (startSymbol start / per k) after ≡ take (startSymbol start / per k) buf
     edit-before =
         ap (λ (x : List ℕ). take (startSymbol start / per k) (inPlace (bytesFor k (r .h)) (bytesOf k x) buf)) row-is
-        ∙ replaced-before width bytes below ordered inside held
+        ∙ replaced-before width bytes below ordered inside within
 
     -- with as many symbols as before, so is each byte behind the last that holds the run
     pub edit-even : startSymbol start + length (symbolsFor (r .table) text) ≡ startSymbol end → drop (bytesFor k (startSymbol end)) after ≡ drop (bytesFor k (startSymbol end)) buf
     edit-even e =
         ap (λ (x : List ℕ). drop (bytesFor k (startSymbol end)) (inPlace (bytesFor k (r .h)) (bytesOf k x) buf)) row-is
-        ∙ replaced-even width bytes below ordered inside held e (u .sound .unused) .0
+        ∙ replaced-even width bytes below ordered inside within e (u .sound .unused) .0
 
 -- an empty run by an empty text: no byte differs
-pub edit-nothing : (r : Roll) (buf : List ℕ) (start : ℕ) → length (r .table .places) ≡ 256 → Below 256 buf → Sound r buf
-    → bytesAfter r (textAfter r buf start start []) buf ≡ buf
+pub edit-nothing : {r : Roll} {buf : List ℕ} → Held r buf → Below 256 buf → (start : ℕ) → bytesAfter r (textAfter r buf start start []) buf ≡ buf
 unfolding zeros
-edit-nothing r buf start long bytes s =
+edit-nothing {r} {buf} held bytes start =
     let k : ℕ = r .table .code .k in
     let n : ℕ = bytesFor k (r .h) in
-    let w : Width k = code-width (r .table .code) (table-code (r .table) (s .table)) in
-    let size : length (take n buf) ≡ n = length-take-le n buf (room-bytes w (r .h) (length buf) (s .fits)) in
+    let w : Width k = code-width (r .table .code) (table-code (r .table) (held .sound .table)) in
+    let size : length (take n buf) ≡ n = length-take-le n buf (room-bytes w (r .h) (length buf) (held .sound .fits)) in
     let whole : n + (n - n) ≡ n = omega arith in
     ap (λ (x : List ℕ). bytesAfter r x buf) (over-none (textOf r buf) start)
-    ∙ ap (λ (x : List ℕ). inPlace n x buf) (sound-bytes r buf long s bytes)
+    ∙ ap (λ (x : List ℕ). inPlace n x buf) (sound-bytes held bytes)
     ∙ ap (λ (i : ℕ). take n buf ++ (zeros (n - i) ++ drop (i + (n - i)) buf)) size
     ∙ ap₂ (λ (i j : ℕ). take n buf ++ (zeros i ++ drop j buf)) (sub-self n) whole
     ∙ take-append-drop n buf

@@ -14,8 +14,9 @@ use Rattle.stopper.specs.declared.code.Code.{Code}
 use Rattle.stopper.specs.declared.table.Table.{Table}
 use Rattle.texts.specs.Paper.Directory.{startAt}
 use Rattle.texts.specs.Paper.Edited.{edited}
-use Rattle.sound.specs.Paper.Roll.{textRow, textOf, Sound}
+use Rattle.sound.specs.Paper.Roll.{textRow, textOf}
 use Rattle.sound.specs.Paper.Lengths.{lengthsOf, lengthsFor}
+use Rattle.sound.specs.Helpers.Held.{Held}
 use Rattle.sound.specs.Laws.Sound.{text-length}
 use Rattle.sound.specs.Laws.Texts.{text-append, text-take, text-drop, length-parts}
 use Rattle.sound.specs.Laws.Lengths.{start-text}
@@ -62,7 +63,7 @@ module _ (text : List ℕ) (start end : ℕ) (new : List ℕ) where
         ∙ ap (λ (n : ℕ). start + n) (over-behind c l left new (drop end text) (omega arith))
         ∙ sym (add-assoc start (length new) (firstOver c l (left - length (textRow c l new)) (drop end text)))
 
-module _ (r : Roll) (buf : List ℕ) (long : length (r .table .places) ≡ 256) (s : Sound r buf) where
+module _ {r : Roll} {buf : List ℕ} (held : Held r buf) where
   abbrev c : Code
   c = r .table .code
 
@@ -76,11 +77,11 @@ module _ (r : Roll) (buf : List ℕ) (long : length (r .table .places) ≡ 256) 
       let text : List ℕ = textOf r buf in
       let part : (i : ℕ) → startAt (lengthsOf r buf) (from + i) ≡ startAt (lengthsOf r buf) from + length (textRow c l (take i (drop from text)))
       = λ i.
-      start-text r buf long s (from + i)
+      start-text held (from + i)
       ∙ ap (λ (x : List ℕ). length (textRow c l x)) (take-add from i text)
       ∙ length-parts c l (take from text) (take i (drop from text))
-      ∙ ap (λ (n : ℕ). n + length (textRow c l (take i (drop from text)))) (sym (start-text r buf long s from)) in
-      let size : length (drop from text) ≡ r .n - from = length-drop from text ∙ ap (λ (n : ℕ). n - from) (text-length s) in
+      ∙ ap (λ (n : ℕ). n + length (textRow c l (take i (drop from text)))) (sym (start-text held from)) in
+      let size : length (drop from text) ≡ r .n - from = length-drop from text ∙ ap (λ (n : ℕ). n - from) (text-length (held .sound)) in
       let here : from + (j - from) ≡ j = omega arith in
       let next : from + suc (j - from) ≡ suc j = omega arith in
       let e : j - from ≡ firstOver c l room (drop from text)

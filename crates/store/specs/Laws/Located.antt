@@ -18,7 +18,7 @@ use Rattle.sound.specs.declared.records.Roll.{Roll}
 use Rattle.store.specs.Helpers.Replacing.{Located}
 use Rattle.store.specs.declared.replace.Run.{Run}
 
-module _ {r : Roll} {buf dir : List ℕ} {x : Run} (long : length (r .table .places) ≡ 256) (p : Located r buf dir x) where
+module _ {r : Roll} {buf dir : List ℕ} {x : Run} (p : Located r buf dir x) where
   abbrev c : Code
   c = r .table .code
 
@@ -29,13 +29,13 @@ module _ {r : Roll} {buf dir : List ℕ} {x : Run} (long : length (r .table .pla
   old = textOf r buf
 
   pub first-is : x .first ≡ length (textRow c l (take (x .start) old))
-  first-is = p .from ∙ start-text r buf long (p .sound) (x .start)
+  first-is = p .from ∙ start-text (p .held) (x .start)
 
   pub last-is : x .last ≡ length (textRow c l (take (x .end) old))
-  last-is = p .upto ∙ start-text r buf long (p .sound) (x .end)
+  last-is = p .upto ∙ start-text (p .held) (x .end)
 
   pub size : length old ≡ r .n
-  size = text-length (p .sound)
+  size = text-length (p .held .sound)
 
   pub within : x .end ≤ length old
   within = omega (arith, size, p .inside)
@@ -49,12 +49,11 @@ module _ {r : Roll} {buf dir : List ℕ} {x : Run} (long : length (r .table .pla
       ap (λ (n : ℕ). n + length (textRow c l (drop (x .end) old))) last-is
       ∙ sym (length-parts c l (take (x .end) old) (drop (x .end) old))
       ∙ ap (λ (t : List ℕ). length (textRow c l t)) (take-append-drop (x .end) old)
-      ∙ sound-h r buf long (p .sound)
+      ∙ sound-h (p .held)
 
   pub run-inside : x .last ≤ r .h
   run-inside = omega (arith, tail)
 
   -- the characters that there are with a text in its place
   pub count-after : (text : List ℕ) → length (edited old (x .start) (x .end) text) ≡ x .start + length text + (r .n - x .end)
-  count-after text =
-      edited-length old (x .start) (x .end) text (p .ordered) within ∙ ap (λ (n : ℕ). x .start + length text + (n - x .end)) size
+  count-after text = edited-length old (x .start) (x .end) text (p .ordered) within ∙ ap (λ (n : ℕ). x .start + length text + (n - x .end)) size

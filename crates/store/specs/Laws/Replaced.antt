@@ -26,6 +26,7 @@ use Rattle.texts.specs.Laws.Directory.{entries-upto}
 use Rattle.texts.specs.Laws.Mended.{mended, mended-even, mended-cleared}
 use Rattle.sound.specs.Paper.Roll.{symbolsFor, textRow, textOf, Sound}
 use Rattle.sound.specs.Paper.Lengths.{lengthsOf, lengthsFor}
+use Rattle.sound.specs.Helpers.Held.{Held}
 use Rattle.sound.specs.Laws.Texts.{length-parts}
 use Rattle.sound.specs.Laws.Holding.{sound-symbols}
 use Rattle.sound.specs.Laws.Lengths.{lengths-length, sound-lengths, start-text}
@@ -36,7 +37,7 @@ use Rattle.store.specs.Helpers.Replacing.{replacedRow, replacedBytes, Re
 use Rattle.store.specs.Laws.Words.{row-count}
 use Rattle.store.specs.Laws.Located.{first-is, last-is, size, within, run-ordered, tail, run-inside, count-after}
 use Rattle.store.specs.Laws.Editing.{edited-row, edited-lengths}
-use Rattle.store.specs.Laws.Edited.{Edits, textAfter, rollAfter, edit-sound, edit-text}
+use Rattle.store.specs.Laws.Edited.{Edits, textAfter, rollAfter, edit-held, edit-text}
 use Rattle.store.specs.declared.replace.Run.{Run}
 
 -- up to which character entries change: to the end, or to the run's end
@@ -51,8 +52,7 @@ changed-is x long taken count = go (eqb long (x .end - x .start)) (eqb taken (x 
     go true false f g = inl refl
     go false b f g = inl refl
 
-module _ {r : Roll} {lengths words buf dir : List ℕ} {x : Run} {text : List ℕ} {taken : ℕ} (long : length (r .table .places) ≡ 256)
-    (p : Replaceable r lengths words buf dir x text taken) where
+module _ {r : Roll} {lengths words buf dir : List ℕ} {x : Run} {text : List ℕ} {taken : ℕ} (p : Replaceable r lengths words buf dir x text taken) where
   abbrev c : Code
   c = r .table .code
 
@@ -72,37 +72,30 @@ module _ {r : Roll} {lengths words buf dir : List ℕ} {x : Run} {text : List �
 
   pub symbols-after : length (symbolsFor (r .table) E) ≡ x .first + taken + (r .h - x .last)
   symbols-after =
-      omega (
-        arith,
-        length-parts c l (take (x .start) old) (text ++ drop (x .end) old),
-        length-parts c l text (drop (x .end) old),
-        tail long at,
-        first-is long at,
-        last-is long at,
-        p .spelled .count,
-      )
+      let parts = length-parts c l (take (x .start) old) (text ++ drop (x .end) old) in
+      omega (arith, parts, length-parts c l text (drop (x .end) old), tail at, first-is at, last-is at, p .spelled .count)
 
   -- no number is great
   pub symbols-few : x .first + taken + (r .h - x .last) ≤ 16777216
   symbols-few = omega (arith, p .fits, room-limit (c .k) (length buf), limit-fits)
 
   pub count-few : x .start + length text + (r .n - x .end) ≤ 16777216
-  count-few = omega (arith, count-after long at text, symbols-after, symbols-few, row-count c (table-code (r .table) (at .sound .table)) l E)
+  count-few = omega (arith, count-after at text, symbols-after, symbols-few, row-count c (table-code (r .table) (at .held .sound .table)) l E)
 
   pub roll-after : {n h : ℕ} → n ≡ x .start + length text + (r .n - x .end) → h ≡ x .first + taken + (r .h - x .last)
       → record { table = r .table; n = n; h = h } ≡ rollAfter r buf (x .start) (x .end) text
-  roll-after e f = ap₂ {C = Roll} (λ (n h : ℕ). record { table = r .table; n = n; h = h }) (e ∙ sym (count-after long at text)) (f ∙ sym symbols-after)
+  roll-after e f = ap₂ {C = Roll} (λ (n h : ℕ). record { table = r .table; n = n; h = h }) (e ∙ sym (count-after at text)) (f ∙ sym symbols-after)
 
   pub edits : Edits r buf dir (x .start) (x .end) text
   edits =
       record {
-        sound = at .sound;
+        sound = at .held .sound;
         right = at .right;
         ordered = at .ordered;
         inside = at .inside;
         known = foreign-known l text (p .spelled .known);
         fits = omega (arith, symbols-after, p .fits);
-        listed = rw (count-after long at text) (p .listed);
+        listed = rw (count-after at text) (p .listed);
       }
 
   -- ---- the symbols
@@ -119,24 +112,22 @@ module _ {r : Roll} {lengths words buf dir : List ℕ} {x : Run} {text : List �
           counts = omega (arith, count, symbols-few);
         };
         count = count;
-        ordered = run-ordered long at;
-        inside = run-inside long at;
-        held = room-row (c .k) buf (r .h) (at .sound .fits);
+        ordered = run-ordered at;
+        inside = run-inside at;
+        held = room-row (c .k) buf (r .h) (at .held .sound .fits);
         fits = room-row (c .k) buf (x .first + taken + (r .h - x .last)) (p .fits);
-        small = omega (arith, at .sound .fits, room-limit (c .k) (length buf), limit-fits);
+        small = omega (arith, at .held .sound .fits, room-limit (c .k) (length buf), limit-fits);
         few = symbols-few;
-        clean = at .sound .unused;
+        clean = at .held .sound .unused;
       }
 
-  pub bytes-after : {after : List ℕ}
-      → after ≡ replacedBytes (c .k) lengths words text buf (r .h) x
-      → after ≡ bytesAfter r E buf
+  pub bytes-after : {after : List ℕ} → after ≡ replacedBytes (c .k) lengths words text buf (r .h) x → after ≡ bytesAfter r E buf
   unfolding replacedRow
   bytes-after e =
       e
       ∙ ap (λ (row : List ℕ). inPlace (bytesFor (c .k) (r .h)) (bytesOf (c .k) row) buf)
-      (ap₂ (λ (row new : List ℕ). over row (x .first) new (x .last)) (sym (sound-symbols r buf long (at .sound))) (p .spelled .row)
-      ∙ ap₂ (λ (a b : ℕ). over (textRow c l old) a (textRow c l text) b) (first-is long at) (last-is long at)
+      (ap₂ (λ (row new : List ℕ). over row (x .first) new (x .last)) (sym (sound-symbols (at .held))) (p .spelled .row)
+      ∙ ap₂ (λ (a b : ℕ). over (textRow c l old) a (textRow c l text) b) (first-is at) (last-is at)
       ∙ sym (edited-row old (x .start) (x .end) text c l))
 
   -- ---- the directory
@@ -153,24 +144,24 @@ module _ {r : Roll} {lengths words buf dir : List ℕ} {x : Run} {text : List �
   abbrev after : List ℕ
   after = bytesAfter r E buf
 
-  sound-after : Sound q after
-  sound-after = edit-sound r buf dir (x .start) (x .end) text long edits
+  held-after : Held q after
+  held-after = edit-held (at .held .places) edits
 
   text-after : textOf q after ≡ E
-  text-after = edit-text r buf dir (x .start) (x .end) text long edits
+  text-after = edit-text (at .held .places) edits
 
   lengths-after : lengthsOf q after ≡ L′
-  lengths-after = sound-lengths q after long sound-after ∙ ap (lengthsFor (r .table)) text-after
+  lengths-after = sound-lengths held-after ∙ ap (lengthsFor (r .table)) text-after
 
   L-length : length L ≡ r .n
-  L-length = lengths-length (r .table) old ∙ size long at
+  L-length = lengths-length (r .table) old ∙ size at
 
   L′-length : length L′ ≡ x .start + length text + (r .n - x .end)
-  L′-length = lengths-length (r .table) E ∙ count-after long at text
+  L′-length = lengths-length (r .table) E ∙ count-after at text
 
   -- the characters before the run are the same, and those behind it
   front-same : take (x .start) E ≡ take (x .start) old
-  front-same = take-at (take (x .start) old) (text ++ drop (x .end) old) (x .start) (length-take-le (x .start) old (omega (arith, within long at, at .ordered)))
+  front-same = take-at (take (x .start) old) (text ++ drop (x .end) old) (x .start) (length-take-le (x .start) old (omega (arith, within at, at .ordered)))
 
   L-front : take (x .start) L ≡ take (x .start) L′
   L-front =
@@ -178,13 +169,13 @@ module _ {r : Roll} {lengths words buf dir : List ℕ} {x : Run} {text : List �
       ∙ take-at (take (x .start) L) _ (x .start) (length-take-le (x .start) L (omega (arith, L-length, at .ordered, at .inside))))
 
   start-after : (j : ℕ) → startAt (lengthsOf q after) j ≡ length (symbolsFor (r .table) (take j E))
-  start-after j = start-text q after long sound-after j ∙ ap (λ (t : List ℕ). length (symbolsFor (r .table) (take j t))) text-after
+  start-after j = start-text held-after j ∙ ap (λ (t : List ℕ). length (symbolsFor (r .table) (take j t))) text-after
 
   first-after : x .first ≡ startAt (lengthsOf q after) (x .start)
-  first-after = first-is long at ∙ sym (start-after (x .start) ∙ ap (λ (t : List ℕ). length (symbolsFor (r .table) t)) front-same)
+  first-after = first-is at ∙ sym (start-after (x .start) ∙ ap (λ (t : List ℕ). length (symbolsFor (r .table) t)) front-same)
 
   right-before : take (entries (length L)) dir ≡ directoryOf L
-  right-before = ap (λ (n : ℕ). take (entries n) dir) L-length ∙ at .right ∙ ap directoryOf (sound-lengths r buf long (at .sound))
+  right-before = ap (λ (n : ℕ). take (entries n) dir) L-length ∙ at .right ∙ ap directoryOf (sound-lengths (at .held))
 
   -- the entries are written anew from the run on, to the end
   mended-all : {upto : ℕ} {mid : List ℕ} → upto ≡ x .start + length text + (r .n - x .end)
@@ -204,24 +195,17 @@ module _ {r : Roll} {lengths words buf dir : List ℕ} {x : Run} {text : List �
     E-split = sym (append-assoc (take (x .start) old) text (drop (x .end) old))
 
     E-front : length (take (x .start) old ++ text) ≡ x .end
-    E-front = omega (arith, length-append (take (x .start) old) text, length-take-le (x .start) old (omega (arith, within long at, at .ordered)), front-length)
+    E-front = omega (arith, length-append (take (x .start) old) text, length-take-le (x .start) old (omega (arith, within at, at .ordered)), front-length)
 
     sum-same : sum (take (x .end) L) ≡ sum (take (x .end) L′)
     unfolding startAt
     sum-same =
-        let before : sum (take (x .end) L) ≡ x .last = sym (at .upto ∙ ap (λ (ls : List ℕ). startAt ls (x .end)) (sound-lengths r buf long (at .sound))) in
+        let before : sum (take (x .end) L) ≡ x .last = sym (at .upto ∙ ap (λ (ls : List ℕ). startAt ls (x .end)) (sound-lengths (at .held))) in
         let now : sum (take (x .end) L′) ≡ length (symbolsFor (r .table) (take (x .end) E))
         = ap (λ (ls : List ℕ). startAt ls (x .end)) (sym lengths-after) ∙ start-after (x .end) in
         let e : take (x .end) E ≡ take (x .start) old ++ text = ap (take (x .end)) E-split ∙ take-at (take (x .start) old ++ text) (drop (x .end) old) (x .end) E-front in
-        omega (
-          arith,
-          before,
-          now ∙ ap (λ (t : List ℕ). length (symbolsFor (r .table) t)) e ∙ length-parts c l (take (x .start) old) text,
-          first-is long at,
-          p .spelled .count,
-          symbols-same,
-          run-ordered long at,
-        )
+        let sum = now ∙ ap (λ (t : List ℕ). length (symbolsFor (r .table) t)) e ∙ length-parts c l (take (x .start) old) text in
+        omega (arith, before, sum, first-is at, p .spelled .count, symbols-same, run-ordered at)
 
     L-behind : drop (x .end) L ≡ drop (x .end) L′
     unfolding lengthsFor
@@ -250,10 +234,10 @@ module _ {r : Roll} {lengths words buf dir : List ℕ} {x : Run} {text : List �
     -- what mending asks
     pub mends : Sound rec bytes × (x .start ≤ upto) × (upto ≤ rec .n) × (entries upto ≤ length dir) × (x .first ≡ startAt (lengthsOf rec bytes) (x .start))
     mends =
-        let n : rec .n ≡ x .start + length text + (r .n - x .end) = ap (λ (y : Roll). y .n) a ∙ count-after long at text in
+        let n : rec .n ≡ x .start + length text + (r .n - x .end) = ap (λ (y : Roll). y .n) a ∙ count-after at text in
         let most : upto ≤ x .start + length text + (r .n - x .end)
         = ⊎-elim (λ s. omega (arith, u ∙ s)) (λ s. omega (arith, u ∙ s .0, s .1, at .ordered)) which in (
-          rw (a, b) sound-after,
+          rw (a, b) (held-after .sound),
           ⊎-elim (λ s. omega (arith, u ∙ s)) (λ s. omega (arith, u ∙ s .0, at .ordered)) which,
           omega (arith, n, most),
           omega (arith, entries-upto upto most, p .listed),

@@ -67,28 +67,24 @@ row s = rowUpto (s .args .roll .table .code) (s .args .roll .h) (s .args .buf .n
 -- ---- the row of symbols
 
 within : (s : tie.Start Inv-loop2 μ-loop2 Inv-loop μ-loop) → (s .args .roll .h ≤ length (symbolsOf (s .args .roll .table .code .k) (s .args .buf .now))) × (s .args .roll .h ≤ 16777216)
-within s = let d = sound-reads (s .args .roll) (s .args .buf .now) (s .pre) 0 (omega arith) in (d .held, d .small)
+within s = let d = sound-reads (s .pre) 0 (omega arith) in (d .held, d .small)
 
 row-long : (s : tie.Start Inv-loop2 μ-loop2 Inv-loop μ-loop) → length (row s) ≡ s .args .roll .h
-row-long s = sound-length (s .args .roll) (s .args .buf .now) (s .pre)
+row-long s = sound-length (s .pre)
 
 -- codeword i starts before the row ends
 starts : (l : tie.In-loop Inv-loop2 μ-loop2 Inv-loop μ-loop) → l .before .loop .p ≤ entered (l .before) .args .roll .h
 starts n =
     let l = n .before in
-    let s = entered l in
-    let i = l .loop .i in
-    omega (arith, l .loop .inv .1, sound-end (s .args .roll) (s .args .buf .now) (s .pre) i (omega (arith, n .loop-test .taken)), sound-start (s .args .roll) (s .args .buf .now) (s .pre) i)
+    let s = entered l .pre in
+    omega (arith, l .loop .inv .1, sound-end s (l .loop .i) (omega (arith, n .loop-test .taken)), sound-start s (l .loop .i))
 
 loop-holds : tie.Need-loop-holds Inv-loop2 μ-loop2 Inv-loop μ-loop
 unfolding passing endFrom endOf
 loop-holds c = (omega arith, refl, refl, sym (listed-none (begun c .args .slice .now)), omega arith, refl)
 
 end-at-requires : tie.Need-end-at-requires Inv-loop2 μ-loop2 Inv-loop μ-loop
-end-at-requires c κs =
-    let l = c .before in
-    let s = entered l in
-    rw (l .loop .inv .1) (sound-one (s .args .roll) (s .args .buf .now) (s .pre) (l .loop .i) (c .loop-test .taken))
+end-at-requires c κs = let l = c .before in rw (l .loop .inv .1) (sound-one (entered l .pre) (l .loop .i) (c .loop-test .taken))
 
 -- the symbol after codeword i
 next-is : (c : tie.After-end-at Inv-loop2 μ-loop2 Inv-loop μ-loop) → let l = c .before .before in let s = entered l in
@@ -98,7 +94,7 @@ next-is c =
     let s = entered l in
     c .end-at .ensures
     ∙ ap (λ (p : ℕ). endFrom (s .args .roll .table .code) (s .args .buf .now) p 1) (l .loop .inv .1)
-    ∙ sound-next (s .args .roll) (s .args .buf .now) (s .pre) (l .loop .i) (c .before .loop-test .taken)
+    ∙ sound-next (s .pre) (l .loop .i) (c .before .loop-test .taken)
 
 -- ---- the comparison
 
@@ -219,9 +215,7 @@ all-found s =
     let roll = s .args .roll in
     let buf = s .args .buf .now in
     let sy = s .args .symbols .now in
-    passing-same (roll .n)
-    (λ i h.
-    ap (λ (p : ℕ). stands sy (drop p (row s))) (sound-end roll buf (s .pre) i (omega arith)) ∙ sym (stands-start roll buf (s .pre) sy i))
+    passing-same (roll .n) (λ i h. ap (λ (p : ℕ). stands sy (drop p (row s))) (sound-end (s .pre) i (omega arith)) ∙ sym (stands-start (s .pre) sy i))
     ∙ ap (passing (standsAt (roll .table .code) (ranksRead (reading roll buf)) sy)) (sym (s .pre .count))
 
 returns : tie.Need-returns Inv-loop2 μ-loop2 Inv-loop μ-loop

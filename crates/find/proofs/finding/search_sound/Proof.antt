@@ -15,13 +15,14 @@ use Rattle.texts.specs.Paper.Hits.{hits, listed, mostPattern}
 use Rattle.texts.specs.Laws.Patterns.{pattern-most}
 use Rattle.texts.specs.Laws.Finding.{listed-none}
 use Rattle.sound.specs.Paper.Roll.{textOf}
+use Rattle.sound.specs.Helpers.Held.{Held}
 use Rattle.find.specs.Helpers.Finding.{wordHits}
 use Rattle.find.specs.Laws.Finding.{pattern-known, none-foreign, some-known, word-hits, no-hits}
 use Rattle.find.proofs.finding.search_sound.Statement.{statement}
 use Rattle.find.proofs.finding.search_sound.Tie as tie
 
-places-long : (s : tie.Start) → length (s .args .roll .table .places) ≡ 256
-places-long s = search needs
+held : (s : tie.Start) → Held (s .args .roll) (s .args .buf .now)
+held s = record { sound = s .pre .0; places = search needs }
 
 code : (s : tie.Start) → T (goodCode (s .args .roll .table .code))
 code s = table-code (s .args .roll .table) (s .pre .0 .table)
@@ -49,7 +50,7 @@ returns c =
     let p = c .before .before in
     let s = begun p in
     let a = s .args in
-    let e = no-hits (a .roll) (a .buf .now) (places-long s) (s .pre .0) (a .pattern .now)
+    let e = no-hits (held s) (a .pattern .now)
     (none-foreign (a .roll .table .code) (code s) (characters (a .roll .table)) (a .pattern .now) (s .pre .1) (sym (p .spell-pattern .ensures .0) ∙ c .if1 .taken)) in
     (sym (ap length e), sym (ap (λ (found : List ℕ). listed found (a .slice .now)) e ∙ listed-none (a .slice .now)))
 
@@ -71,7 +72,7 @@ hits-are e =
     let k : firstForeign l (a .pattern .now) ≡ length (a .pattern .now)
     = some-known (a .roll .table .code) l (a .pattern .now) (λ z. e .if1 .left (p .spell-pattern .ensures .0 ∙ z)) in
     ap (wordHits (a .roll) (a .buf .now)) (p .spell-pattern .ensures .1 ∙ pattern-known (a .roll .table .code) l (a .pattern .now) k)
-    ∙ word-hits (a .roll) (a .buf .now) (places-long s) (s .pre .0) (a .pattern .now) k
+    ∙ word-hits (held s) (a .pattern .now) k
 
 returns-2 : tie.Need-returns-2
 returns-2 c =

@@ -21,9 +21,6 @@ use Rattle.roll.specs.Laws.Operations.{edit-refused, edit-4}
 use Rattle.roll.proofs.edit.change.Statement.{statement}
 use Rattle.roll.proofs.edit.change.Tie as tie
 
-long : (s : tie.Start) → length (s .args .roll .table .places) ≡ 256
-long s = search needs
-
 -- ---- the run
 
 abbrev begun : tie.After-room-of → tie.Start
@@ -36,7 +33,14 @@ located : (r : tie.After-room-of) → let a = begun r .args in
     Located (a .roll) (a .buf .now) (a .dir .now) (record { start = a .start; end = a .end; first = first r; last = r .before .start-of2 .result })
 located r =
     let p = begun r .pre in
-    record { sound = p .0; right = p .1; ordered = p .2; inside = p .3; from = r .before .before .before .before .start-of .ensures; upto = r .before .start-of2 .ensures }
+    record {
+      held = record { sound = p .0; places = search needs };
+      right = p .1;
+      ordered = p .2;
+      inside = p .3;
+      from = r .before .before .before .before .start-of .ensures;
+      upto = r .before .start-of2 .ensures;
+    }
 
 room-of-requires : tie.Need-room-of-requires
 room-of-requires c κs =
@@ -44,7 +48,7 @@ room-of-requires c κs =
     code-width (s .args .roll .table .code) (table-code (s .args .roll .table) (s .pre .0 .table))
 
 sub-space : tie.Need-sub-space
-sub-space c = omega (arith, c .room-of .ensures, first-room (long (begun c)) (located c))
+sub-space c = omega (arith, c .room-of .ensures, first-room (located c))
 
 measure-requires : tie.Need-measure-requires
 unfolding zeros
@@ -78,7 +82,7 @@ add-refused c =
     let m = x .before .before .before .before in
     let r = roomed m in
     let e = extent-is m (Over _) (x .extent2 .given .1) in
-    omega (arith, over-text-few (long (begun r)) (located r) (begun r .args .text .now) (e .1) (e .2))
+    omega (arith, over-text-few (located r) (begun r .args .text .now) (e .1) (e .2))
 
 returns-2 : tie.Need-returns-2
 unfolding Measured
@@ -89,9 +93,9 @@ returns-2 c =
     let s = begun r in
     let a = s .args in
     let e = extent-is m (Over _) (x .extent2 .given .1) in
-    edit-4 _ _ _ _ _ _ (s .pre .0) (s .pre .1) (s .pre .2) (s .pre .3) (e .0)
-    (over-text (long s) (located r) (a .text .now) (e .1) (e .2))
-    (over-text-within (long s) (located r) (a .text .now) (e .1) (e .2))
+    edit-4 _ _ _ _ (s .pre .0) (s .pre .1) (s .pre .2) (s .pre .3) (e .0)
+    (over-text (located r) (a .text .now) (e .1) (e .2))
+    (over-text-within (located r) (a .text .now) (e .1) (e .2))
     (c .refused2 .ensures)
 
 put-in-requires : tie.Need-put-in-requires
@@ -101,7 +105,7 @@ put-in-requires c κs =
     let m = x .before .before .before .before in
     let r = roomed m in
     let e = extent-is m (Fits _) (x .extent3 .given .1) in
-    (located r, e .0, omega (arith, e .1, first-room (long (begun r)) (located r)))
+    (located r, e .0, omega (arith, e .1, first-room (located r)))
 
 pub change-spec : {M : Type 1} → statement M
 change-spec =

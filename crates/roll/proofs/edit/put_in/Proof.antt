@@ -20,9 +20,6 @@ use Rattle.roll.specs.Laws.Operations.{edit-refused, edit-4, edit-last, 
 use Rattle.roll.proofs.edit.put_in.Statement.{statement}
 use Rattle.roll.proofs.edit.put_in.Tie as tie
 
-long : (s : tie.Start) → length (s .args .roll .table .places) ≡ 256
-long s = search needs
-
 -- ---- the room that is left
 
 abbrev begun : tie.After-room-of → tie.Start
@@ -32,10 +29,10 @@ rest : (r : tie.After-room-of) → let a = begun r .args in r .room-of .result -
 rest r = let a = begun r .args in ap (λ (n : ℕ). n - (a .run .first + a .taken)) (r .room-of .ensures)
 
 few : (r : tie.After-room-of) → let a = begun r .args in a .run .start + length (a .text .now) + (a .roll .n - a .run .end) ≤ 50331648
-few r = let s = begun r in count-few (long s) (s .pre .0) (s .pre .1) (s .pre .2) (rest r)
+few r = let p = begun r .pre in count-few (p .0) (p .1) (p .2) (rest r)
 
 sub-if1 : tie.Need-sub-if1
-sub-if1 c = let s = begun (c .before .before .before) in omega (arith, run-inside (long s) (s .pre .0))
+sub-if1 c = omega (arith, run-inside (begun (c .before .before .before) .pre .0))
 
 -- ---- what stands behind does not fit
 
@@ -46,7 +43,7 @@ within : (o : tie.After-first-over) → let a = begun (roomed o) .args in
     a .run .start + length (a .text .now) + (o .first-over .result - a .run .end) < length (edited (textOf (a .roll) (a .buf .now)) (a .run .start) (a .run .end) (a .text .now))
 within o =
     let s = begun (roomed o) in
-    over-tail-within (long s) (s .pre .0) (s .pre .1) (s .pre .2) (rest (roomed o)) (o .before .before .if1 .taken) (o .first-over .ensures)
+    over-tail-within (s .pre .0) (s .pre .1) (s .pre .2) (rest (roomed o)) (o .before .before .if1 .taken) (o .first-over .ensures)
 
 add-refused : tie.Need-add-refused
 add-refused c = omega (arith, few (roomed (c .before)))
@@ -55,20 +52,22 @@ add-refused-2 : tie.Need-add-refused-2
 add-refused-2 c =
     let o = c .before .before in
     let s = begun (roomed o) in
-    omega (arith, within o, count-after (long s) (s .pre .0) (s .args .text .now), few (roomed o))
+    omega (arith, within o, count-after (s .pre .0) (s .args .text .now), few (roomed o))
 
 returns : tie.Need-returns
 returns c =
     let o = c .before .before .before in
     let s = begun (roomed o) in
-    let a = s .args in
     let p = s .pre .0 in
-    edit-4 _ _ _ _ _ _ (p .sound) (p .right) (p .ordered) (p .inside) (s .pre .1 .known)
-    (over-tail (long s) p (s .pre .1) (s .pre .2) (rest (roomed o)) (o .before .before .if1 .taken) (o .first-over .ensures))
+    edit-4 _ _ _ _ (p .held .sound) (p .right) (p .ordered) (p .inside) (s .pre .1 .known)
+    (over-tail p (s .pre .1) (s .pre .2) (rest (roomed o)) (o .before .before .if1 .taken) (o .first-over .ensures))
     (within o)
     (c .refused .ensures)
 
 -- ---- it does
+
+add-count : tie.Need-add-count
+add-count c = omega (arith, few (c .before .before .before .before .before))
 
 add-count-2 : tie.Need-add-count-2
 add-count-2 c = omega (arith, few (c .before .before .before .before .before .before .before))
@@ -88,13 +87,13 @@ decided : (n : tie.After-entries-for) → let a = start n .args in let least = e
 decided n =
     let s = start n in
     let p = s .pre .0 in
-    edit-last _ _ _ _ _ _ (p .sound) (p .right) (p .ordered) (p .inside) (s .pre .1 .known)
-    (over-none (long s) p (s .pre .1) (s .pre .2) (rest (left n .before .before .before .before)) (left n .if1 .left))
+    edit-last _ _ _ _ (p .held .sound) (p .right) (p .ordered) (p .inside) (s .pre .1 .known)
+    (over-none p (s .pre .1) (s .pre .2) (rest (left n .before .before .before .before)) (left n .if1 .left))
 
 -- the entries that the edited text needs
 needed : (n : tie.After-entries-for) → let a = start n .args in
     n .entries-for .result ≡ entries (length (edited (textOf (a .roll) (a .buf .now)) (a .run .start) (a .run .end) (a .text .now)))
-needed n = let s = start n in n .entries-for .ensures ∙ ap entries (sym (count-after (long s) (s .pre .0) (s .args .text .now)))
+needed n = let s = start n in n .entries-for .ensures ∙ ap entries (sym (count-after (s .pre .0) (s .args .text .now)))
 
 returns-2 : tie.Need-returns-2
 returns-2 c =
@@ -125,7 +124,7 @@ put-in-spec =
     (λ c κs. search needs)
     (λ c. search needs)
     returns
-    (λ c. search needs)
+    add-count
     (λ c. search needs)
     (λ c. search needs)
     add-count-2

@@ -51,7 +51,7 @@ answer l i e =
     let a = s .args in
     sym e
     ∙ ap (λ (n : ℕ). firstWrong (byStops (a .roll .table .code) (a .buf .now) n) (a .dir .now)) (last-is l)
-    ∙ ap (λ (w : List ℕ). firstWrong w (a .dir .now)) (stops-directory (a .roll) (a .buf .now) (s .pre))
+    ∙ ap (λ (w : List ℕ). firstWrong w (a .dir .now)) (stops-directory (s .pre))
 
 -- entry e is that of a character of the roll
 inside : (c : tie.In-loop Inv-loop μ-loop) → c .before .loop .e * 32 < entered (c .before) .args .roll .n
@@ -66,9 +66,7 @@ passed : (c : tie.After-pass-ends Inv-loop μ-loop) → let l = c .before .befor
 passed c =
     let n = c .before .before .before in
     let l = n .before in
-    let s = entered l in
-    c .pass-ends .ensures
-    ∙ entry-ends (s .args .roll) (s .args .buf .now) (s .pre) (l .loop .j) (l .loop .e) (l .loop .inv .1) (omega (arith, inside n)) (l .loop .inv .2)
+    c .pass-ends .ensures ∙ entry-ends (entered l .pre) (l .loop .j) (l .loop .e) (l .loop .inv .1) (omega (arith, inside n)) (l .loop .inv .2)
 
 entry-is : (c : tie.After-pass-ends Inv-loop μ-loop) → let l = c .before .before .before .before in getD (wanted l) (l .loop .e) 0 ≡ c .pass-ends .result
 entry-is c =
@@ -95,9 +93,8 @@ mul-pass-ends c = let n = c .before .before in omega (arith, inside n, entered (
 pass-ends-requires : tie.Need-pass-ends-requires Inv-loop μ-loop
 pass-ends-requires c κs =
     let n = c .before .before in
-    let l = n .before in
-    let s = entered l in (
-      entry-ending (s .args .roll) (s .args .buf .now) (s .pre) (l .loop .j) (l .loop .e) (l .loop .inv .1) (omega (arith, inside n)) (l .loop .inv .2),
+    let l = n .before in (
+      entry-ending (entered l .pre) (l .loop .j) (l .loop .e) (l .loop .inv .1) (omega (arith, inside n)) (l .loop .inv .2),
       l .before .before .stops-by-byte .ensures,
     )
 

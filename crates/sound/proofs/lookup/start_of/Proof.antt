@@ -29,13 +29,13 @@ returns : tie.Need-returns Inv-loop μ-loop
 returns c =
     let s = c .before .before .before .before .before in
     let e : s .args .roll .n ≡ s .args .j = omega arith in
-    sym (sound-last (s .args .roll) (s .args .buf .now) (s .pre .0)) ∙ ap (startAt (lengthsOf (s .args .roll) (s .args .buf .now))) e
+    sym (sound-last (s .pre .0)) ∙ ap (startAt (lengthsOf (s .args .roll) (s .args .buf .now))) e
 
 shared-slice-read-at : tie.Need-shared-slice-read-at Inv-loop μ-loop
 shared-slice-read-at c =
     let e = c .before .before .before in
     let s = begun e in
-    right-held (s .args .roll) (s .args .buf .now) (s .pre .0) (s .args .dir .now) (s .pre .1) (s .args .j) (e .if1 .left)
+    right-held (s .pre .0) (s .args .dir .now) (s .pre .1) (s .args .j) (e .if1 .left)
 
 cast-at : tie.Need-cast-at Inv-loop μ-loop
 cast-at c = omega (arith, c .shared-slice-known3 .given (begun (c .before .before .before) .args .j / 32))
@@ -46,16 +46,14 @@ loop-holds c =
     let s = begun e in
     let a = s .args in (
       omega arith,
-      right-entry (a .roll) (a .buf .now) (s .pre .0) (a .dir .now) (s .pre .1) (a .j) (e .if1 .left)
-          ∙ sym (sound-end (a .roll) (a .buf .now) (s .pre .0) (a .j / 32 * 32) (omega (arith, s .pre .2))),
+      right-entry (s .pre .0) (a .dir .now) (s .pre .1) (a .j) (e .if1 .left) ∙ sym (sound-end (s .pre .0) (a .j / 32 * 32) (omega (arith, s .pre .2))),
     )
 
 end-at-requires : tie.Need-end-at-requires Inv-loop μ-loop
 end-at-requires c κs =
     let l = c .before in
     let e = entered l in
-    let s = begun e in
-    rw (l .loop .inv .1) (sound-one (s .args .roll) (s .args .buf .now) (s .pre .0) (l .loop .i) (omega (arith, c .loop-test .taken, e .if1 .left)))
+    rw (l .loop .inv .1) (sound-one (begun e .pre .0) (l .loop .i) (omega (arith, c .loop-test .taken, e .if1 .left)))
 
 loop-again : tie.Need-loop-again Inv-loop μ-loop
 loop-again c =
@@ -66,7 +64,7 @@ loop-again c =
       omega arith,
       c .end-at .ensures
           ∙ ap (λ (p : ℕ). endFrom (a .roll .table .code) (a .buf .now) p 1) (l .loop .inv .1)
-          ∙ sound-next (a .roll) (a .buf .now) (s .pre .0) (l .loop .i) (omega (arith, c .before .loop-test .taken, e .if1 .left)),
+          ∙ sound-next (s .pre .0) (l .loop .i) (omega (arith, c .before .loop-test .taken, e .if1 .left)),
     )
 
 returns-2 : tie.Need-returns-2 Inv-loop μ-loop
@@ -77,7 +75,7 @@ returns-2 c =
     let e : l .loop .i ≡ a .j = omega arith in
     l .loop .inv .1
     ∙ ap (endFrom (a .roll .table .code) (a .buf .now) 0) e
-    ∙ sound-end (a .roll) (a .buf .now) (s .pre .0) (a .j) (s .pre .2)
+    ∙ sound-end (s .pre .0) (a .j) (s .pre .2)
 
 pub start-of-spec : {M : Type 1} → statement M
 start-of-spec =

@@ -67,7 +67,7 @@ first-is : (c : tie.After-pass-ends Inv-loop μ-loop) → let s = begun (c .befo
 unfolding readingFrom lengthsOf
 first-is c =
     let s = begun (c .before .before .before) in
-    c .pass-ends .ensures ∙ sound-end (s .args .roll) (s .args .buf .now) (s .pre .0) (s .args .start) (omega (arith, s .pre .1, s .pre .2))
+    c .pass-ends .ensures ∙ sound-end (s .pre .0) (s .args .start) (omega (arith, s .pre .1, s .pre .2))
 
 -- the codeword of character start + i
 inside : (c : tie.In-loop Inv-loop μ-loop) → let s = entered (c .before) in s .args .start + c .before .loop .i < s .args .roll .n
@@ -82,7 +82,7 @@ found-is c =
     let s = entered l in
     c .codeword-at .ensures
     ∙ ap (foundAt (s .args .roll .table .code) (s .args .roll .table .sigma) (rowUpto (s .args .roll .table .code) (s .args .roll .h) (s .args .buf .now))) (l .loop .inv .1)
-    ∙ sound-found (s .args .roll) (s .args .buf .now) (s .pre .0) (s .args .start + l .loop .i) (inside (c .before))
+    ∙ sound-found (s .pre .0) (s .args .start + l .loop .i) (inside (c .before))
 
 -- its rank, and the symbol after it
 rank-is : (c : tie.After-found Inv-loop μ-loop) → let l = c .before .before .before .before in let s = entered l in
@@ -120,7 +120,7 @@ stops-by-byte-requires c κs = let s = begun c in table-code (s .args .roll .tab
 pass-ends-requires : tie.Need-pass-ends-requires Inv-loop μ-loop
 pass-ends-requires c κs =
     let s = begun (c .before .before) in
-    (sound-first (s .args .roll) (s .args .buf .now) (s .pre .0) (s .args .start) (omega (arith, s .pre .1, s .pre .2)), c .before .stops-by-byte .ensures)
+    (sound-first (s .pre .0) (s .args .start) (omega (arith, s .pre .1, s .pre .2)), c .before .stops-by-byte .ensures)
 
 loop-holds : tie.Need-loop-holds Inv-loop μ-loop
 loop-holds c = (omega arith, rw add-zero (first-is c), refl)
@@ -133,8 +133,7 @@ unfolding readingFrom lengthsOf
 codeword-at-requires c κs =
     let l = c .before in
     let s = entered l in
-    sound-reads (s .args .roll) (s .args .buf .now) (s .pre .0) (l .loop .p)
-    (rw (l .loop .inv .1) (sound-start (s .args .roll) (s .args .buf .now) (s .pre .0) (s .args .start + l .loop .i)))
+    sound-reads (s .pre .0) (l .loop .p) (rw (l .loop .inv .1) (sound-start (s .pre .0) (s .args .start + l .loop .i)))
 
 same-length : tie.Need-same-length Inv-loop μ-loop
 same-length c = same (c .before .before .before .before)
@@ -150,7 +149,7 @@ array-read-out c =
     let n = c .before .before .before .before in
     let l = n .before in
     let s = entered l in
-    let b = below-at (sound-below (s .args .roll) (s .args .buf .now) (s .pre .0)) (s .args .start + l .loop .i) (omega (arith, many s, inside n)) in
+    let b = below-at (sound-below (s .pre .0)) (s .args .start + l .loop .i) (omega (arith, many s, inside n)) in
     omega (arith, b, rank-is (c .before), table-few (s .args .roll .table) (s .pre .0 .table))
 
 slice-write-out : tie.Need-slice-write-out Inv-loop μ-loop

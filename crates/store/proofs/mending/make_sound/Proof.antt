@@ -20,7 +20,7 @@ returns c =
     let m = c .before .before in
     let s = m .before .before .before .before .before in
     m .mend .ensures
-    ∙ laid-whole (s .args .dir .now) (directoryOf (lengthsOf (s .args .roll) (s .args .buf .now))) (entries (s .args .roll .n)) (sound-entries (s .args .roll) (s .args .buf .now) (s .pre .0))
+    ∙ laid-whole (s .args .dir .now) (directoryOf (lengthsOf (s .args .roll) (s .args .buf .now))) (entries (s .args .roll .n)) (sound-entries (s .pre .0))
 
 pub make-sound-spec : {M : Type 1} → statement M
 make-sound-spec = tie.close (tie.spec (λ c. search needs) mend-requires (λ c. search needs) returns)

@@ -69,8 +69,7 @@ passed : (c : tie.After-pass-ends Inv-loop μ-loop) → let l = c .before .befor
 passed c =
     let n = c .before .before in
     let l = n .before in
-    let s = entered l in
-    c .pass-ends .ensures ∙ entry-ends (s .args .roll) (s .args .buf .now) (s .pre .0) (l .loop .j) (l .loop .e) (l .loop .inv .2) (inside n) (l .loop .inv .3)
+    c .pass-ends .ensures ∙ entry-ends (entered l .pre .0) (l .loop .j) (l .loop .e) (l .loop .inv .2) (inside n) (l .loop .inv .3)
 
 stops-by-byte-requires : tie.Need-stops-by-byte-requires Inv-loop μ-loop
 stops-by-byte-requires c κs = let s = c .before .before .before .before in table-code (s .args .roll .table) (s .pre .0 .table)
@@ -83,7 +82,7 @@ loop-holds c =
       omega (arith, e),
       omega (arith, e, c .before .entries-for .ensures, entries-upto from (s .pre .1)),
       omega (arith, e, entries-behind from 0),
-      s .pre .4 ∙ sym (sound-end (s .args .roll) (s .args .buf .now) (s .pre .0) from (omega (arith, s .pre .1, s .pre .2))),
+      s .pre .4 ∙ sym (sound-end (s .pre .0) from (omega (arith, s .pre .1, s .pre .2))),
       sym (ap (laid (s .args .dir .now) _ (entries from)) e ∙ laid-none (s .args .dir .now) _ (entries from)),
     )
 
@@ -93,9 +92,8 @@ mul-pass-ends c = let n = c .before in omega (arith, before-upto n, entered (n .
 pass-ends-requires : tie.Need-pass-ends-requires Inv-loop μ-loop
 pass-ends-requires c κs =
     let n = c .before in
-    let l = n .before in
-    let s = entered l in (
-      entry-ending (s .args .roll) (s .args .buf .now) (s .pre .0) (l .loop .j) (l .loop .e) (l .loop .inv .2) (inside n) (l .loop .inv .3),
+    let l = n .before in (
+      entry-ending (entered l .pre .0) (l .loop .j) (l .loop .e) (l .loop .inv .2) (inside n) (l .loop .inv .3),
       l .before .before .before .stops-by-byte .ensures,
     )
 
@@ -107,7 +105,7 @@ cast-dir c =
     let n = c .before .before in
     let s = entered (n .before) in
     let at = n .before .loop .e * 32 in
-    omega (arith, passed c, sound-end (s .args .roll) (s .args .buf .now) (s .pre .0) at (inside n), sound-start (s .args .roll) (s .args .buf .now) (s .pre .0) at, sound-reads (s .args .roll) (s .args .buf .now) (s .pre .0) 0 (omega arith) .small)
+    omega (arith, passed c, sound-end (s .pre .0) at (inside n), sound-start (s .pre .0) at, sound-reads (s .pre .0) 0 (omega arith) .small)
 
 mul-dir : tie.Need-mul-dir Inv-loop μ-loop
 mul-dir c = let n = c .before .before in omega (arith, n .loop-test .taken, held (n .before), entered (n .before) .good .1 .1 .0)
@@ -140,7 +138,7 @@ returns c =
     let e : l .loop .e ≡ entries (s .args .upto) = omega (arith, l .loop .inv .1, c .loop-test .left, last-is l) in
     l .loop .inv .4
     ∙ ap₂ (λ (n m : ℕ). laid (s .args .dir .now) (byStops (s .args .roll .table .code) (s .args .buf .now) n) (entries (s .args .from)) m) (last-is l) e
-    ∙ stops-laid (s .args .roll) (s .args .buf .now) (s .pre .0) (s .args .dir .now) (entries (s .args .from)) (s .args .upto) (s .pre .2)
+    ∙ stops-laid (s .pre .0) (s .args .dir .now) (entries (s .args .from)) (s .args .upto) (s .pre .2)
 
 pub mend-spec : {M : Type 1} → statement M
 mend-spec =

@@ -40,12 +40,9 @@ entered c = begun (c .before)
 abbrev starts : tie.Start Inv-loop μ-loop → ℕ → ℕ
 starts s j = startAt (lengthsOf (s .args .roll) (s .args .buf .now)) j
 
-long : (s : tie.Start Inv-loop μ-loop) → length (s .args .roll .table .places) ≡ 256
-long s = search needs
-
 -- codeword j starts at the symbol in hand, and the next one where `end_at` says
 here : (l : tie.At-loop Inv-loop μ-loop) → l .loop .p ≡ starts (entered l) (l .loop .j)
-here l = let s = entered l in l .loop .inv .2 ∙ sound-end (s .args .roll) (s .args .buf .now) (s .pre .0) (l .loop .j) (l .loop .inv .1)
+here l = l .loop .inv .2 ∙ sound-end (entered l .pre .0) (l .loop .j) (l .loop .inv .1)
 
 next-is : (c : tie.After-end-at Inv-loop μ-loop) → let l = c .before .before in
     c .end-at .result ≡ endFrom (entered l .args .roll .table .code) (entered l .args .buf .now) 0 (l .loop .j + 1)
@@ -54,43 +51,33 @@ next-is c =
     let s = entered l in
     c .end-at .ensures
     ∙ ap (λ (p : ℕ). endFrom (s .args .roll .table .code) (s .args .buf .now) p 1) (l .loop .inv .2)
-    ∙ sound-next (s .args .roll) (s .args .buf .now) (s .pre .0) (l .loop .j) (c .before .loop-test .taken)
+    ∙ sound-next (s .pre .0) (l .loop .j) (c .before .loop-test .taken)
 
 next-starts : (c : tie.After-end-at Inv-loop μ-loop) → let l = c .before .before in
     c .end-at .result ≡ starts (entered l) (suc (l .loop .j))
 next-starts c =
     let l = c .before .before in
-    let s = entered l in
-    rw (← add-one) (next-is c ∙ sound-end (s .args .roll) (s .args .buf .now) (s .pre .0) (l .loop .j + 1) (omega (arith, c .before .loop-test .taken)))
+    rw (← add-one) (next-is c ∙ sound-end (entered l .pre .0) (l .loop .j + 1) (omega (arith, c .before .loop-test .taken)))
 
 -- no codeword starts before the one before it
 later : (s : tie.Start Inv-loop μ-loop) (j : ℕ) → j < s .args .roll .n → starts s j ≤ starts s (suc j)
 unfolding lengthsOf
-later s j h =
-    omega (
-      arith,
-      start-next (s .args .roll .table .code) (ranksRead (reading (s .args .roll) (s .args .buf .now))) j (omega (arith, s .pre .0 .count)),
-    )
+later s j h = omega (arith, start-next (s .args .roll .table .code) (ranksRead (reading (s .args .roll) (s .args .buf .now))) j (omega (arith, s .pre .0 .count)))
 
 -- the character at which the loop ends is the one asked for
 ends : (s : tie.Start Inv-loop μ-loop) (j : ℕ) → s .args .from ≤ j → j ≤ s .args .roll .n → starts s j ≤ s .args .room + s .args .first
     → (j < s .args .roll .n → s .args .room + s .args .first < starts s (suc j))
     → j ≡ s .args .from + firstOver (s .args .roll .table .code) (characters (s .args .roll .table)) (s .args .room) (drop (s .args .from) (textOf (s .args .roll) (s .args .buf .now)))
 ends s j a b fits past =
-    over-from (s .args .roll) (s .args .buf .now) (long s) (s .pre .0) (s .args .room) (s .args .from) j a b
-    (omega (arith, fits, s .pre .2))
-    (λ h. omega (arith, past h, s .pre .2))
+    over-from (record { sound = s .pre .0; places = search needs }) (s .args .room) (s .args .from) j a b (omega (arith, fits, s .pre .2)) (λ h. omega (arith, past h, s .pre .2))
 
 loop-holds : tie.Need-loop-holds Inv-loop μ-loop
 loop-holds c =
     let s = begun c in
-    (omega arith, s .pre .1, s .pre .2 ∙ sym (sound-end (s .args .roll) (s .args .buf .now) (s .pre .0) (s .args .from) (s .pre .1)), refl)
+    (omega arith, s .pre .1, s .pre .2 ∙ sym (sound-end (s .pre .0) (s .args .from) (s .pre .1)), refl)
 
 end-at-requires : tie.Need-end-at-requires Inv-loop μ-loop
-end-at-requires c κs =
-    let l = c .before in
-    let s = entered l in
-    rw (l .loop .inv .2) (sound-one (s .args .roll) (s .args .buf .now) (s .pre .0) (l .loop .j) (c .loop-test .taken))
+end-at-requires c κs = let l = c .before in rw (l .loop .inv .2) (sound-one (entered l .pre .0) (l .loop .j) (c .loop-test .taken))
 
 -- the codeword's length is a difference
 grows : (c : tie.After-end-at Inv-loop μ-loop) → c .before .before .loop .p ≤ c .end-at .result

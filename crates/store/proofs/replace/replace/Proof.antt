@@ -15,16 +15,11 @@ use Rattle.store.proofs.replace.replace.Tie as tie
 
 -- ---- at the start
 
-long : (s : tie.Start) → length (s .args .roll .table .places) ≡ 256
-long s = search needs
-
 abbrev begun : tie.After-struct-known2 → tie.Start
 begun c = c .before .before .before .before .before .before .before .before .before
 
 replace-symbols-requires : tie.Need-replace-symbols-requires
-replace-symbols-requires c κs =
-    let s = begun (c .before) in
-    replaced.replaces (long s) (s .pre)
+replace-symbols-requires c κs = replaced.replaces (begun (c .before) .pre)
 
 -- ---- after the symbols
 
@@ -42,14 +37,10 @@ abbrev symbols : tie.Start → ℕ
 symbols s = s .args .run .first + s .args .taken + (s .args .roll .h - s .args .run .last)
 
 count-few : (c : tie.After-slice-known3) → count (started c) ≤ 16777216
-count-few c =
-    let s = started c in
-    replaced.count-few (long s) (s .pre)
+count-few c = replaced.count-few (started c .pre)
 
 symbols-few : (c : tie.After-slice-known3) → symbols (started c) ≤ 16777216
-symbols-few c =
-    let s = started c in
-    replaced.symbols-few (long s) (s .pre)
+symbols-few c = replaced.symbols-few (started c .pre)
 
 add-count : tie.Need-add-count
 add-count c = omega (arith, count-few (c .before))
@@ -64,7 +55,7 @@ add-t20 : tie.Need-add-t20
 add-t20 c = omega (arith, symbols-few (c .before .before .before))
 
 sub-t22 : tie.Need-sub-t22
-sub-t22 c = let s = started (c .before .before .before .before) in omega (arith, run-inside (long s) (s .pre .located))
+sub-t22 c = omega (arith, run-inside (started (c .before .before .before .before) .pre .located))
 
 add-t21 : tie.Need-add-t21
 add-t21 c = omega (arith, symbols-few (c .before .before .before .before))
@@ -73,29 +64,22 @@ cast-t24 : tie.Need-cast-t24
 cast-t24 c = omega (arith, symbols-few (c .before .before .before .before))
 
 changed-upto-requires : tie.Need-changed-upto-requires
-changed-upto-requires c κs = let s = started (c .before .before .before .before) in (s .pre .located .ordered, run-ordered (long s) (s .pre .located))
+changed-upto-requires c κs = let p = started (c .before .before .before .before) .pre .located in (p .ordered, run-ordered p)
 
 -- the record and the bytes
 record-is : (c : tie.After-slice-known3) → let s = started c in
     record { table = s .args .roll .table; n = count s; h = symbols s } ≡ edited.rollAfter (s .args .roll) (s .args .buf .now) (s .args .run .start) (s .args .run .end) (s .args .text .now)
-record-is c =
-    let s = started c in
-    replaced.roll-after (long s) (s .pre) refl refl
+record-is c = replaced.roll-after (started c .pre) refl refl
 
 bytes-are : (c : tie.After-slice-known3) → let s = started c in
     c .before .before .replace-symbols .last .1 .1 .1 .1 .1 .0 ≡ bytesAfter (s .args .roll) (edited.textAfter (s .args .roll) (s .args .buf .now) (s .args .run .start) (s .args .run .end) (s .args .text .now)) (s .args .buf .now)
-bytes-are c =
-    let s = started c in
-    replaced.bytes-after (long s) (s .pre)
-    (c .before .before .replace-symbols .ensures)
+bytes-are c = replaced.bytes-after (started c .pre) (c .before .before .replace-symbols .ensures)
 
 mend-requires : tie.Need-mend-requires
 mend-requires c κs =
     let u = c .before .before in
     let d = u .before .before .before .before .before in
-    let s = started d in
-    replaced.mends (long s) (s .pre)
-    (record-is d) (bytes-are d) (u .changed-upto .ensures)
+    replaced.mends (started d .pre) (record-is d) (bytes-are d) (u .changed-upto .ensures)
 
 -- ---- after the directory is mended
 
@@ -105,28 +89,20 @@ stored m = m .before .before .before .before .before .before .before .before
 clear-entries-requires : tie.Need-clear-entries-requires
 clear-entries-requires c κs =
     let m = c .before .before .before .before .before in
-    let s = started (stored m) in
-    omega (arith, c .entries-for2 .ensures, m .mend .kept .1 .1 .0, right-long (s .args .roll) (s .args .buf .now) (s .pre .located .sound) (s .args .dir .now) (s .pre .located .right))
+    let p = started (stored m) .pre .located in
+    omega (arith, c .entries-for2 .ensures, m .mend .kept .1 .1 .0, right-long (p .held .sound) _ (p .right))
 
 returns : tie.Need-returns
 returns c =
     let e = c .before .before in
     let m = e .before .before .before .before .before .before in
     let d = stored m in
-    let s = started d in
-    let a = s .args in (
+    let p = started d .pre in (
       record-is d,
       (
         bytes-are d,
-        replaced.directory-after (long s) (s .pre)
-            (replaced.mended-upto (long s) (s .pre)
-            (record-is d)
-            (bytes-are d)
-            (m .before .before .before .changed-upto .ensures)
-            (m .mend .ensures))
-            (e .before .before .entries-for .ensures)
-            (e .before .entries-for2 .ensures)
-            (e .clear-entries .ensures),
+        replaced.directory-after p (replaced.mended-upto p (record-is d) (bytes-are d) (m .before .before .before .changed-upto .ensures) (m .mend .ensures))
+            (e .before .before .entries-for .ensures) (e .before .entries-for2 .ensures) (e .clear-entries .ensures),
       ),
     )
 
