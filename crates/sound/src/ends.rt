@@ -87,3 +87,15 @@ pub fn pass_ends(code: Code, stops: &[u8], buf: &[u8], p: usize, count: usize) -
     }
     q
 }
+
+// The symbol after so many codewords from the first on; if none is passed, no stops are counted.
+pub fn pass_first(code: Code, buf: &[u8], count: usize) -> usize
+    requires { ⌜ Ending code (now buf) 0 count ⌝ }
+    ensures { λ r. ⌜ r ≡ endFrom code (now (buf .entry)) 0 count ⌝ }
+{
+    if count == 0 {
+        return 0;
+    }
+    let stops = stops_by_byte(code);
+    pass_ends(code, &stops, buf, 0, count)
+}

@@ -1,6 +1,5 @@
 // A range of a sound roll's text.
-use crate::ends::pass_ends;
-use crate::ends::stops_by_byte;
+use crate::ends::pass_first;
 use crate::reading::Found;
 use crate::reading::codeword_at;
 use crate::records::Roll;
@@ -21,8 +20,7 @@ pub fn unpack_sound(roll: Roll, buf: &[u8], start: usize, end: usize, out: &mut 
     let sigma = table.sigma as u32;
     let places = table.places;
     let h = roll.h as usize;
-    let stops = stops_by_byte(code);
-    let first = pass_ends(code, &stops, buf, 0, start);
+    let first = pass_first(code, buf, start);
     let mut p = first;
     let mut i: usize = 0;
     while i < end - start {

@@ -12,8 +12,7 @@ ghost use Rattle.texts.specs.Paper.Directory.{entries, startAt, directoryOf};
 ghost use Rattle.sound.specs.Paper.Lengths.{lengthsOf};
 ghost use Rattle.sound.specs.Paper.Roll.{Sound};
 
-// Writes the entries of the characters from `from`, which starts at symbol first, up to `upto`.
-pub fn mend(roll: Roll, buf: &[u8], dir: &mut [u32], from: usize, upto: usize, first: usize)
+fn mend_entries(roll: Roll, buf: &[u8], dir: &mut [u32], from: usize, upto: usize, first: usize)
     requires { ⌜ Sound roll (now buf) × (from ≤ upto) × (upto ≤ roll .n) × (entries upto ≤ length (now dir)) × (first ≡ startAt (lengthsOf roll (now buf)) from) ⌝ }
     ensures { λ _. ⌜ now (dir .exit) ≡ over (now (dir .entry)) (entries from) (run (directoryOf (lengthsOf roll (now (buf .entry)))) (entries from) (entries upto)) (entries upto) ⌝ }
 {
@@ -30,6 +29,17 @@ pub fn mend(roll: Roll, buf: &[u8], dir: &mut [u32], from: usize, upto: usize, f
         dir[e] = p as u32;
         e += 1;
     }
+}
+
+// Writes the entries of the characters from `from`, which starts at symbol first, up to `upto`; if there is none, no stops are counted.
+pub fn mend(roll: Roll, buf: &[u8], dir: &mut [u32], from: usize, upto: usize, first: usize)
+    requires { ⌜ Sound roll (now buf) × (from ≤ upto) × (upto ≤ roll .n) × (entries upto ≤ length (now dir)) × (first ≡ startAt (lengthsOf roll (now buf)) from) ⌝ }
+    ensures { λ _. ⌜ now (dir .exit) ≡ over (now (dir .entry)) (entries from) (run (directoryOf (lengthsOf roll (now (buf .entry)))) (entries from) (entries upto)) (entries upto) ⌝ }
+{
+    if entries_for(from as u32) == entries_for(upto as u32) {
+        return;
+    }
+    mend_entries(roll, buf, dir, from, upto, first);
 }
 
 // All entries, written from the start of dir.

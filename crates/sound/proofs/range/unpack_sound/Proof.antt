@@ -46,7 +46,7 @@ abbrev begun : tie.After-struct-known2 Inv-loop μ-loop → tie.Start Inv-loop �
 begun c = c .before .before .before .before .before .before .before
 
 abbrev entered : tie.At-loop Inv-loop μ-loop → tie.Start Inv-loop μ-loop
-entered c = begun (c .before .before .before .before)
+entered c = begun (c .before .before)
 
 abbrev rs : tie.Start Inv-loop μ-loop → List ℕ
 rs s = ranks (s .args .roll .table .code) (s .args .roll .table .sigma) (s .args .buf .now) (s .args .roll .h)
@@ -62,12 +62,12 @@ long : (s : tie.Start Inv-loop μ-loop) → length (text s) ≡ s .args .roll .n
 long s = length-drop (s .args .start) _ ∙ rw (length-map, many s)
 
 -- where character `start` starts
-first-is : (c : tie.After-pass-ends Inv-loop μ-loop) → let s = begun (c .before .before .before) in
-    c .pass-ends .result ≡ startAt (map (lengthOf (s .args .roll .table .code)) (rs s)) (s .args .start)
+first-is : (c : tie.After-pass-first Inv-loop μ-loop) → let s = begun (c .before) in
+    c .pass-first .result ≡ startAt (map (lengthOf (s .args .roll .table .code)) (rs s)) (s .args .start)
 unfolding readingFrom lengthsOf
 first-is c =
-    let s = begun (c .before .before .before) in
-    c .pass-ends .ensures ∙ sound-end (s .pre .0) (s .args .start) (omega (arith, s .pre .1, s .pre .2))
+    let s = begun (c .before) in
+    c .pass-first .ensures ∙ sound-end (s .pre .0) (s .args .start) (omega (arith, s .pre .1, s .pre .2))
 
 -- the codeword of character start + i
 inside : (c : tie.In-loop Inv-loop μ-loop) → let s = entered (c .before) in s .args .start + c .before .loop .i < s .args .roll .n
@@ -114,13 +114,8 @@ same l =
     let s = entered l in
     ap length (l .loop .inv .2) ∙ front-length (s .args .out .now) (text s) (l .loop .i) (omega (arith, long s, s .pre .1, s .pre .2, l .loop .inv .0)) (omega (arith, s .pre .3, l .loop .inv .0))
 
-stops-by-byte-requires : tie.Need-stops-by-byte-requires Inv-loop μ-loop
-stops-by-byte-requires c κs = let s = begun c in table-code (s .args .roll .table) (s .pre .0 .table)
-
-pass-ends-requires : tie.Need-pass-ends-requires Inv-loop μ-loop
-pass-ends-requires c κs =
-    let s = begun (c .before .before) in
-    (sound-first (s .pre .0) (s .args .start) (omega (arith, s .pre .1, s .pre .2)), c .before .stops-by-byte .ensures)
+pass-first-requires : tie.Need-pass-first-requires Inv-loop μ-loop
+pass-first-requires c κs = let s = begun c in sound-first (s .pre .0) (s .args .start) (omega (arith, s .pre .1, s .pre .2))
 
 loop-holds : tie.Need-loop-holds Inv-loop μ-loop
 loop-holds c = (omega arith, rw add-zero (first-is c), refl)
@@ -186,9 +181,7 @@ unpack-sound-spec =
     μ-loop
     (λ c. search needs)
     (λ c. search needs)
-    stops-by-byte-requires
-    (λ c. search needs)
-    pass-ends-requires
+    pass-first-requires
     loop-holds
     sub-loop
     codeword-at-requires

@@ -6,7 +6,7 @@ use Prim.Native.Nat.{ℕ, suc, _+_, _-_, _≤_, _<_}
 use native.Mathlib.Numerals.{add-one}
 use native.Mathlib.Omega.{arith}
 use borrow.Author.Needs.{needs}
-use lib.ListN.{length, drop}
+use lib.ListN.{drop}
 use Rattle.stopper.specs.Paper.Table.{characters}
 use Rattle.texts.specs.Paper.Directory.{startAt}
 use Rattle.sound.specs.Paper.Roll.{reading, ranksRead, textOf}

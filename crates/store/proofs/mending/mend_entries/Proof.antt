@@ -1,4 +1,4 @@
--- `store::mending::mend` meets its contract: before entry e the symbol is where the codeword of character j starts, and the entries
+-- `store::mending::mend_entries` meets its contract: before entry e the symbol is where the codeword of character j starts, and the entries
 -- from that of `from` up to e are written.
 -- Assumes nothing.
 use mathlib.Core.Path.{_≡_, sym, ap, ap₂, _∙_}
@@ -17,8 +17,8 @@ use Rattle.sound.specs.Helpers.Ends.{endFrom}
 use Rattle.sound.specs.Laws.Sound.{sound-reads, sound-start}
 use Rattle.sound.specs.Laws.Ends.{sound-end}
 use Rattle.sound.specs.Laws.Directory.{byStops, stops-entry, stops-laid, entry-ending, entry-ends}
-use Rattle.store.proofs.mending.mend.Statement.{statement}
-use Rattle.store.proofs.mending.mend.Tie as tie
+use Rattle.store.proofs.mending.mend_entries.Statement.{statement}
+use Rattle.store.proofs.mending.mend_entries.Tie as tie
 
 abbrev Inv-loop : tie.InvT-loop
 Inv-loop buf dir₀ from upto first code stops last p₀ j₀ e₀ dir p j e =
@@ -140,8 +140,8 @@ returns c =
     ∙ ap₂ (λ (n m : ℕ). laid (s .args .dir .now) (byStops (s .args .roll .table .code) (s .args .buf .now) n) (entries (s .args .from)) m) (last-is l) e
     ∙ stops-laid (s .pre .0) (s .args .dir .now) (entries (s .args .from)) (s .args .upto) (s .pre .2)
 
-pub mend-spec : {M : Type 1} → statement M
-mend-spec =
+pub mend-entries-spec : {M : Type 1} → statement M
+mend-entries-spec =
     tie.close
     (tie.spec
     Inv-loop
