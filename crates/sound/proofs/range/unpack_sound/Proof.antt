@@ -13,13 +13,13 @@ use lib.Seq.{getD-drop}
 use Rattle.ground.specs.Laws.Rows.{map-at, below-at}
 use Rattle.ground.specs.Laws.Runs.{front-length, front-more}
 use Rattle.stopper.specs.Paper.Table.{lengthOf}
-use Rattle.stopper.specs.Laws.Table.{table-code, table-few}
+use Rattle.stopper.specs.Laws.Table.{table-few}
 use Rattle.stopper.specs.declared.code.Code.{Code}
 use Rattle.texts.specs.Paper.Directory.{startAt}
 use Rattle.sound.specs.Paper.Roll.{rowUpto, readRow, readingFrom, ranksRead, textOf}
 use Rattle.sound.specs.Paper.Lengths.{lengthsOf}
 use Rattle.sound.specs.Helpers.Codewords.{foundAt}
-use Rattle.sound.specs.Laws.Sound.{sound-reads, sound-below, sound-found, sound-start}
+use Rattle.sound.specs.Laws.Sound.{sound-code, sound-reads, sound-below, sound-found, sound-start}
 use Rattle.sound.specs.Laws.Ends.{sound-end, sound-first}
 use Rattle.sound.specs.declared.reading.Found.the-variants.{Word}
 use Rattle.sound.proofs.range.unpack_sound.Statement.{statement}
@@ -115,7 +115,7 @@ same l =
     ap length (l .loop .inv .2) ∙ front-length (s .args .out .now) (text s) (l .loop .i) (omega (arith, long s, s .pre .1, s .pre .2, l .loop .inv .0)) (omega (arith, s .pre .3, l .loop .inv .0))
 
 stops-by-byte-requires : tie.Need-stops-by-byte-requires Inv-loop μ-loop
-stops-by-byte-requires c κs = let s = begun c in table-code (s .args .roll .table) (s .pre .0 .table)
+stops-by-byte-requires c κs = sound-code (begun c .pre .0)
 
 pass-ends-requires : tie.Need-pass-ends-requires Inv-loop μ-loop
 pass-ends-requires c κs =
