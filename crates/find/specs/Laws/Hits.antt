@@ -19,7 +19,7 @@ use Rattle.stopper.specs.Paper.Table.{base, stoppers, goodCode, rankIn, lengthO
 use Rattle.stopper.specs.Laws.Characters.{_∈_}
 use Rattle.stopper.specs.Laws.Reading.{aheads, ahead-done, read-front, read-write, write-append}
 use Rattle.stopper.specs.Laws.Code.{codeword-word, length-codeword}
-use Rattle.stopper.specs.Laws.Table.{one-number, code-good, table-code}
+use Rattle.stopper.specs.Laws.Table.{one-number, code-good}
 use Rattle.stopper.specs.declared.code.Code.{Code}
 use Rattle.texts.specs.Paper.Hits.{stands, hits}
 use Rattle.texts.specs.Paper.Directory.{startAt}
@@ -29,7 +29,7 @@ use Rattle.sound.specs.Paper.Roll.{textRow, symbolsFor, rowUpto, reading, ranks
 use Rattle.sound.specs.Paper.Lengths.{lengthsOf}
 use Rattle.sound.specs.Helpers.Held.{Held}
 use Rattle.sound.specs.Laws.Codewords.{start-at, drop-start}
-use Rattle.sound.specs.Laws.Sound.{sound-row, sound-length}
+use Rattle.sound.specs.Laws.Sound.{sound-code, sound-row, sound-length}
 use Rattle.sound.specs.Laws.Holding.{sound-known, sound-ranked}
 use Rattle.sound.specs.declared.records.Roll.{Roll}
 use Rattle.find.specs.Helpers.Finding.{standsAt}
@@ -143,7 +143,7 @@ module _ {r : Roll} {buf : List ℕ} (s : Sound r buf) where
 
 module _ {r : Roll} {buf : List ℕ} (held : Held r buf) {p : List ℕ} (k : InTable (characters (r .table)) p) where
   pub hit-rank : (i : ℕ) → standsAt (r .table .code) (ranksRead (reading r buf)) (symbolsFor (r .table) p) i ≡ stands p (drop i (textOf r buf))
-  hit-rank i = rw (sound-ranked held) (hit-word (r .table .code) (table-code (r .table) (held .sound .table)) (characters (r .table)) k (sound-known held) i)
+  hit-rank i = rw (sound-ranked held) (hit-word (r .table .code) (sound-code (held .sound)) (characters (r .table)) k (sound-known held) i)
 
   -- the packed pattern stands at symbol q, which is the first or stands after a stopper, exactly if q is where a hit starts
   pub hit-symbols : (q : ℕ) → q < r .h → let row : List ℕ = rowUpto (r .table .code) (r .h) buf in
@@ -155,7 +155,7 @@ module _ {r : Roll} {buf : List ℕ} (held : Held r buf) {p : List ℕ} (k : InT
       let rs : List ℕ = ranksRead (reading r buf) in
       let row : List ℕ = rowUpto c (r .h) buf in
       let sy : List ℕ = symbolsFor (r .table) p in
-      let good : Good (base c) (stoppers c) = code-good c (table-code (r .table) (held .sound .table)) in
+      let good : Good (base c) (stoppers c) = code-good c (sound-code (held .sound)) in
       let e : row ≡ write (base c) (stoppers c) rs = sound-row (held .sound) in
       let many : length rs ≡ length (textOf r buf) = ap length (sound-ranked held) ∙ length-map (textOf r buf) (rankIn (characters (r .table))) in
       let there : (i : ℕ) → q ≡ startAt (lengthsOf r buf) i → stands sy (drop q row) ≡ stands p (drop i (textOf r buf))

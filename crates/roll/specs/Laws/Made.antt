@@ -13,12 +13,11 @@ use Rattle.ground.specs.Laws.Rows.{map-at}
 use Rattle.ground.specs.declared.answers.Done.the-variants.{Yes}
 use Rattle.ground.specs.declared.answers.Answer.{Answer}
 use Rattle.ground.specs.declared.answers.Answer.the-variants.{Read}
-use Rattle.stopper.specs.Laws.Table.{table-code}
 use Rattle.texts.specs.Paper.Directory.{entries, directoryOf}
 use Rattle.sound.specs.Paper.Roll.{rowUpto, readingFrom, reading, ranksRead, textOf, Sound}
 use Rattle.sound.specs.Paper.Lengths.{lengthsOf, Right}
 use Rattle.sound.specs.Laws.Codewords.{passed-word}
-use Rattle.sound.specs.Laws.Sound.{sound-found, sound-length}
+use Rattle.sound.specs.Laws.Sound.{sound-code, sound-found, sound-length}
 use Rattle.sound.specs.Laws.Directory.{sound-entries, right-held, right-passed, right-before}
 use Rattle.sound.specs.declared.records.Roll.{Roll}
 use Rattle.roll.specs.Paper.Operations.{Making, readSays, ReadingOne}
@@ -42,7 +41,7 @@ module _ {r : Roll} {buf : List ℕ} (s : Sound r buf) (dir : List ℕ) (right :
   unfolding textOf readingFrom
   right-reads =
       let before = right-before s dir right place inside in
-      let (held, rank) = passed-word (r .table .code) (table-code (r .table) (s .table)) (r .table .sigma) (rowUpto (r .table .code) (r .h) buf) (getD dir (place / 32) 0) (place % 32)
+      let (held, rank) = passed-word (r .table .code) (sound-code s) (r .table .sigma) (rowUpto (r .table .code) (r .h) buf) (getD dir (place / 32) 0) (place % 32)
       (omega (arith, sound-length s)) (right-passed s dir right place inside) (sym (sound-found s place inside)) in
       reads-is r buf dir place .0 (record { good = s .table; fits = s .fits; inside = inside; held = right-held s dir right place inside; below = before; reached = held })
       ∙ ap (λ (x : ℕ). accepted (getD (r .table .places) x 0)) rank

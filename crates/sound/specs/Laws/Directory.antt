@@ -14,7 +14,6 @@ use Rattle.ground.specs.Laws.Rows.{tab-at, tab-ext}
 use Rattle.ground.specs.Laws.Runs.{run-slice}
 use Rattle.stopper.specs.Paper.Table.{base, stoppers}
 use Rattle.stopper.specs.Paper.Reading.{write}
-use Rattle.stopper.specs.Laws.Table.{table-code}
 use Rattle.stopper.specs.declared.code.Code.{Code}
 use Rattle.texts.specs.Paper.Directory.{entries, startAt, directoryOf, firstWrong}
 use Rattle.texts.specs.Laws.Directory.{entries-upto, entries-before, directory-length, directory-at, entries-inside, none-wrong, wrong-none}
@@ -23,7 +22,7 @@ use Rattle.sound.specs.Paper.Lengths.{lengthsOf, Right}
 use Rattle.sound.specs.Helpers.Codewords.{passedFrom}
 use Rattle.sound.specs.Helpers.Ends.{Ending, endFrom}
 use Rattle.sound.specs.Laws.Codewords.{start-at, found-word, passed-ranks}
-use Rattle.sound.specs.Laws.Sound.{row-length, sound-length, sound-below, sound-row, sound-found, sound-start}
+use Rattle.sound.specs.Laws.Sound.{row-length, sound-code, sound-length, sound-below, sound-row, sound-found, sound-start}
 use Rattle.sound.specs.Laws.Ends.{sound-end, sound-ends, sound-ending}
 use Rattle.sound.specs.declared.records.Roll.{Roll}
 use Rattle.sound.specs.declared.reading.Passed.{Passed}
@@ -83,14 +82,14 @@ module _ {r : Roll} {buf : List ℕ} (s : Sound r buf) (dir : List ℕ) (right :
   right-passed =
       let e : place / 32 * 32 + place % 32 ≡ place = omega arith in
       sym (rw (right-entry, sound-row s)
-      (passed-ranks c (table-code (r .table) (s .table)) (r .table .sigma) (sound-below s) (place % 32) (place / 32 * 32) (omega (arith, s .count))
+      (passed-ranks c (sound-code s) (r .table .sigma) (sound-below s) (place % 32) (place / 32 * 32) (omega (arith, s .count))
       ∙ ap {B = Passed} (λ (j : ℕ). At (starts j)) e))
 
   -- a codeword starts before symbol h
   pub right-before : getD dir (place / 32) 0 < r .h
   right-before =
       let j = place / 32 * 32 in
-      let w = found-word c (table-code (r .table) (s .table)) (r .table .sigma) row (sym (sound-found s j (omega arith))) (omega (arith, row-length r buf (s .fits), sound-start s j)) in
+      let w = found-word c (sound-code s) (r .table .sigma) row (sym (sound-found s j (omega arith))) (omega (arith, row-length r buf (s .fits), sound-start s j)) in
       omega (arith, right-entry, w .some, sound-start s (suc j))
 
 -- ---- the entries of a sound roll, by the stoppers alone

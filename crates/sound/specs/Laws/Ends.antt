@@ -16,7 +16,7 @@ use Rattle.stopper.specs.Paper.Code.{Good, IsCodeword, stop, more, codeword}
 use Rattle.stopper.specs.Paper.Table.{base, stoppers}
 use Rattle.stopper.specs.Paper.Reading.{write}
 use Rattle.stopper.specs.Laws.Code.{codeword-word}
-use Rattle.stopper.specs.Laws.Table.{table-code, code-good}
+use Rattle.stopper.specs.Laws.Table.{code-good}
 use Rattle.stopper.specs.Laws.Reading.{write-append}
 use Rattle.symbols.specs.Paper.Symbols.{symbolsOf}
 use Rattle.texts.specs.Paper.Directory.{sum, startAt}
@@ -24,7 +24,7 @@ use Rattle.sound.specs.Paper.Roll.{reading, ranksRead, Sound}
 use Rattle.sound.specs.Paper.Lengths.{lengthsOf}
 use Rattle.sound.specs.Helpers.Ends.{stops, endOf, symbolsFrom, Ending, endFrom}
 use Rattle.sound.specs.Laws.Codewords.{start-at, start-upto, drop-start}
-use Rattle.sound.specs.Laws.Sound.{sound-reads, sound-row, sound-start}
+use Rattle.sound.specs.Laws.Sound.{sound-code, sound-reads, sound-row, sound-start}
 use Rattle.sound.specs.declared.records.Roll.{Roll}
 
 -- ---- a symbol: a stopper, or a continuer
@@ -128,7 +128,7 @@ module _ {r : Roll} {buf : List ℕ} (s : Sound r buf) where
   sound-stops j n h =
       let c = r .table .code in
       rw (sound-from j)
-      (write-stops (base c) (stoppers c) (code-good c (table-code (r .table) (s .table))) (drop (r .h) (symbolsOf (c .k) buf)) (drop j (ranks r buf)) n (left j n h))
+      (write-stops (base c) (stoppers c) (code-good c (sound-code s)) (drop (r .h) (symbolsOf (c .k) buf)) (drop j (ranks r buf)) n (left j n h))
 
   pub sound-ends : (j n : ℕ) → j + n ≤ r .n → endFrom (r .table .code) buf (startAt (lengthsOf r buf) j) n ≡ startAt (lengthsOf r buf) (j + n)
   unfolding endFrom lengthsOf
@@ -138,13 +138,13 @@ module _ {r : Roll} {buf : List ℕ} (s : Sound r buf) where
       let rs = ranks r buf in
       ap (λ (l : ℕ). startAt (lengthsOf r buf) j + l)
       (ap (endOf st n 0) (sound-from j)
-      ∙ write-end (base c) st (code-good c (table-code (r .table) (s .table))) (drop (r .h) (symbolsOf (c .k) buf)) (drop j rs) n (left j n h))
+      ∙ write-end (base c) st (code-good c (sound-code s)) (drop (r .h) (symbolsOf (c .k) buf)) (drop j rs) n (left j n h))
       ∙ sym (rw (← start-at c rs (j + n), ← start-at c rs j, take-add j n rs, write-append, length-append))
 
   pub sound-ending : (j n : ℕ) → j + n ≤ r .n → Ending (r .table .code) buf (startAt (lengthsOf r buf) j) n
   sound-ending j n h =
       record {
-        good = table-code (r .table) (s .table);
+        good = sound-code s;
         enough = sound-stops j n h;
         counts = omega (arith, sound-ends j n h, sound-start s (j + n), sound-reads s 0 zero-le .small);
       }

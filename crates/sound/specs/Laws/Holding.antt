@@ -24,7 +24,7 @@ use Rattle.sound.specs.Paper.Roll.{textRow, symbolsFor, recordOf, rowUpt
 use Rattle.sound.specs.Helpers.Held.{Held}
 use Rattle.sound.specs.Laws.Texts.{text-below}
 use Rattle.sound.specs.Laws.Reading.{done-whole, done-ranks}
-use Rattle.sound.specs.Laws.Sound.{text-length, sound-below, sound-row, sound-length}
+use Rattle.sound.specs.Laws.Sound.{text-length, sound-width, sound-below, sound-row, sound-length}
 use Rattle.sound.specs.declared.records.Roll.{Roll}
 
 -- ---- a buffer that holds a text: its packed bytes are the buffer's first, and the record says how many characters and symbols
@@ -112,12 +112,6 @@ holds-one p q = sym (holds-text p) ∙ holds-text q
 -- ---- a sound roll holds its text
 
 module _ {r : Roll} {buf : List ℕ} (held : Held r buf) where
-  sound-code : T (goodCode (r .table .code))
-  sound-code = table-code (r .table) (held .sound .table)
-
-  sound-width : Width (widthOf r)
-  sound-width = code-width (r .table .code) sound-code
-
   sound-ranks : Below (length (characters (r .table))) (ranksRead (reading r buf))
   sound-ranks = rw (characters-length (r .table) (held .sound .table) (held .places)) (sound-below (held .sound))
 
@@ -159,7 +153,7 @@ module _ {r : Roll} {buf : List ℕ} (held : Held r buf) where
         let k : ℕ = widthOf r in
         let h : ℕ = r .h in
         let n : ℕ = bytesFor k h in
-        let w : Width k = sound-width in
+        let w : Width k = sound-width (held .sound) in
         let row : List ℕ = rowUpto (r .table .code) h buf in
         let inside : n * per k ≤ length (symbolsOf k buf) = ends-inside w buf h (room-row k buf h (held .sound .fits)) in
         let enough : h ≤ n * per k = bytesFor-enough w h in

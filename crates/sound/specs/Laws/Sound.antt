@@ -10,11 +10,11 @@ use lib.Seq.{length-take-le}
 use Rattle.ground.specs.Helpers.Below.{Below}
 use Rattle.ground.specs.Laws.Limit.{limit-fits}
 use Rattle.ground.specs.Laws.Rows.{below-take}
-use Rattle.stopper.specs.Paper.Table.{base, stoppers, goodTable}
+use Rattle.stopper.specs.Paper.Table.{base, stoppers, goodCode, goodTable}
 use Rattle.stopper.specs.Paper.Reading.{write}
-use Rattle.stopper.specs.Laws.Table.{table-code, table-few, code-good}
+use Rattle.stopper.specs.Laws.Table.{table-code, table-few, code-good, code-width}
 use Rattle.stopper.specs.Laws.Reading.{write-read}
-use Rattle.symbols.specs.Paper.Symbols.{room, symbolsOf}
+use Rattle.symbols.specs.Paper.Symbols.{Width, room, symbolsOf}
 use Rattle.symbols.specs.Laws.Sizes.{room-limit}
 use Rattle.symbols.specs.Laws.Rows.{symbols-below, room-row}
 use Rattle.texts.specs.Paper.Directory.{startAt}
@@ -55,6 +55,12 @@ unfolding textOf
 text-length {r} {buf} s = length-map (ranks r buf) (λ rank. getD (r .table .places) rank 0) ∙ s .count
 
 module _ {r : Roll} {buf : List ℕ} (s : Sound r buf) where
+  pub sound-code : T (goodCode (r .table .code))
+  sound-code = table-code (r .table) (s .table)
+
+  pub sound-width : Width (r .table .code .k)
+  sound-width = code-width (r .table .code) sound-code
+
   pub sound-reads : (p : ℕ) → p ≤ r .h → Reads (r .table .code) (r .table .sigma) buf (r .h) p
   sound-reads = table-reads r buf (s .table) (s .fits)
 
@@ -65,7 +71,7 @@ module _ {r : Roll} {buf : List ℕ} (s : Sound r buf) where
   unfolding readingFrom
   sound-written =
       let c = r .table .code in
-      write-read (base c) (stoppers c) (code-good c (table-code (r .table) (s .table))) (r .table .sigma) (below-take (symbols-below (c .k) buf) (r .h)) 0 (ranks r buf)
+      write-read (base c) (stoppers c) (code-good c sound-code) (r .table .sigma) (below-take (symbols-below (c .k) buf) (r .h)) 0 (ranks r buf)
       (whole-is (reading r buf) (s .reads))
 
   pub sound-below : Below (r .table .sigma) (ranks r buf)
@@ -79,7 +85,7 @@ module _ {r : Roll} {buf : List ℕ} (s : Sound r buf) where
   pub sound-found : (j : ℕ) → j < r .n
       → foundAt (r .table .code) (r .table .sigma) (row r buf) (startAt (lengthsOf r buf) j) ≡ Word (getD (ranks r buf) j 0) (startAt (lengthsOf r buf) (suc j))
   unfolding lengthsOf
-  sound-found j h = rw sound-row (found-rank (r .table .code) (table-code (r .table) (s .table)) (r .table .sigma) sound-below j (omega (arith, s .count)))
+  sound-found j h = rw sound-row (found-rank (r .table .code) sound-code (r .table .sigma) sound-below j (omega (arith, s .count)))
 
   pub sound-start : (j : ℕ) → startAt (lengthsOf r buf) j ≤ r .h
   unfolding lengthsOf

@@ -9,13 +9,13 @@ use lib.ListN.{length, take, drop, length-drop}
 use lib.Seq.{length-take-le}
 use Rattle.ground.specs.Laws.Limit.{limit-fits}
 use Rattle.stopper.specs.Paper.Table.{characters}
-use Rattle.stopper.specs.Laws.Table.{table-code}
 use Rattle.stopper.specs.declared.code.Code.{Code}
 use Rattle.symbols.specs.Paper.Symbols.{room}
 use Rattle.symbols.specs.Laws.Sizes.{room-limit}
 use Rattle.texts.specs.Paper.Directory.{entries}
 use Rattle.texts.specs.Paper.Edited.{edited}
 use Rattle.sound.specs.Paper.Roll.{textRow, textOf}
+use Rattle.sound.specs.Laws.Sound.{sound-code}
 use Rattle.sound.specs.Laws.Holding.{sound-h}
 use Rattle.sound.specs.declared.records.Roll.{Roll}
 use Rattle.store.specs.Paper.Fitting.{firstOver}
@@ -51,7 +51,7 @@ module _ {r : Roll} {buf dir : List ℕ} {x : Run} (p : Located r buf dir x) whe
   whole-few = omega (arith, room-limit (c .k) (length buf), limit-fits)
 
   n-few : r .n ≤ 16777216
-  n-few = omega (arith, size p, row-count c (table-code (r .table) (p .held .sound .table)) l old, sound-h (p .held), p .held .sound .fits, whole-few)
+  n-few = omega (arith, size p, row-count c (sound-code (p .held .sound)) l old, sound-h (p .held), p .held .sound .fits, whole-few)
 
   module _ (text : List ℕ) where
     abbrev new : List ℕ
@@ -71,16 +71,8 @@ module _ {r : Roll} {buf dir : List ℕ} {x : Run} (p : Located r buf dir x) whe
       pub over-text-few : x .start + upto ≤ 33554432
       over-text-few =
           let n : ℕ = firstOver c l (whole - x .first) text in
-          omega (
-            arith,
-            length-take-le n text (omega arith),
-            row-count c (table-code (r .table) (p .held .sound .table)) l (take n text),
-            over-fits c l (whole - x .first) text,
-            whole-few,
-            n-few,
-            p .ordered,
-            p .inside,
-          )
+          let many = row-count c (sound-code (p .held .sound)) l (take n text) in
+          omega (arith, length-take-le n text (omega arith), many, over-fits c l (whole - x .first) text, whole-few, n-few, p .ordered, p .inside)
 
   -- it fits, and what stands behind it
   module _ {lengths words text : List ℕ} {taken : ℕ} (s : Spelled (r .table) lengths words text taken) (enough : x .first + taken ≤ whole) {left : ℕ} (rest : left ≡ whole - (x .first + taken)) where
@@ -88,7 +80,7 @@ module _ {r : Roll} {buf dir : List ℕ} {x : Run} (p : Located r buf dir x) whe
     behind = firstOver c l left (drop (x .end) old)
 
     pub count-few : x .start + length text + (r .n - x .end) ≤ 50331648
-    count-few = omega (arith, s .count, row-count c (table-code (r .table) (p .held .sound .table)) l text, whole-few, n-few, p .ordered, p .inside)
+    count-few = omega (arith, s .count, row-count c (sound-code (p .held .sound)) l text, whole-few, n-few, p .ordered, p .inside)
 
     over-is : x .start + length text + behind ≡ firstOver c l whole (new text)
     over-is =

@@ -12,7 +12,6 @@ use Rattle.ground.specs.Paper.Runs.{over, run, inPlace}
 use Rattle.ground.specs.Helpers.Below.{Below}
 use Rattle.ground.specs.Laws.Runs.{over-none, place-front, place-cleared, place-kept, place-length}
 use Rattle.stopper.specs.Paper.Table.{characters}
-use Rattle.stopper.specs.Laws.Table.{table-code, code-width}
 use Rattle.symbols.specs.Paper.Symbols.{Width, per, bytesFor, room, symbolsOf, bytesOf}
 use Rattle.symbols.specs.Laws.Sizes.{room-bytes}
 use Rattle.symbols.specs.Laws.Rows.{room-row}
@@ -25,6 +24,7 @@ use Rattle.texts.specs.Laws.Edited.{edited-known}
 use Rattle.sound.specs.Paper.Roll.{symbolsFor, recordOf, textOf, Sound}
 use Rattle.sound.specs.Paper.Lengths.{lengthsFor, Right}
 use Rattle.sound.specs.Helpers.Held.{Held}
+use Rattle.sound.specs.Laws.Sound.{sound-code, sound-width}
 use Rattle.sound.specs.Laws.Texts.{text-below, length-parts, length-up}
 use Rattle.sound.specs.Laws.Holding.{Holds, holds-sound, holds-text, sound-known, sound-h, sound-symbols, sound-bytes}
 use Rattle.sound.specs.Laws.Lengths.{lengths-length, sound-lengths}
@@ -76,7 +76,7 @@ module _ {r : Roll} {buf dir : List ℕ} {start end : ℕ} {text : List ℕ} (lo
   held = record { sound = u .sound; places = long }
 
   width : Width k
-  width = code-width (r .table .code) (table-code (r .table) (u .sound .table))
+  width = sound-width (u .sound)
 
   -- how many bytes and entries are put in
   bytes-size : length (bytesOf k row) ≡ bytesFor k (q .h)
@@ -153,7 +153,7 @@ module _ {r : Roll} {buf dir : List ℕ} {start end : ℕ} {text : List ℕ} (lo
         ∙ ap (λ (x : List ℕ). over x (startSymbol start) (symbolsFor (r .table) text) (startSymbol end)) (sound-symbols held)
 
     below : Below (2 ^ k) (symbolsFor (r .table) text)
-    below = text-below (r .table .code) (table-code (r .table) (u .sound .table)) (characters (r .table)) text
+    below = text-below (r .table .code) (sound-code (u .sound)) (characters (r .table)) text
 
     ordered : startSymbol start ≤ startSymbol end
     ordered = length-up (r .table .code) (characters (r .table)) (textOf r buf) start end (u .ordered)
@@ -185,7 +185,7 @@ unfolding zeros
 edit-nothing {r} {buf} held bytes start =
     let k : ℕ = r .table .code .k in
     let n : ℕ = bytesFor k (r .h) in
-    let w : Width k = code-width (r .table .code) (table-code (r .table) (held .sound .table)) in
+    let w : Width k = sound-width (held .sound) in
     let size : length (take n buf) ≡ n = length-take-le n buf (room-bytes w (r .h) (length buf) (held .sound .fits)) in
     let whole : n + (n - n) ≡ n = omega arith in
     ap (λ (x : List ℕ). bytesAfter r x buf) (over-none (textOf r buf) start)

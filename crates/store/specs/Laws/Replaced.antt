@@ -15,7 +15,6 @@ use Rattle.ground.specs.Paper.Runs.{over, run, inPlace}
 use Rattle.ground.specs.Laws.Limit.{limit-fits}
 use Rattle.ground.specs.Laws.Rows.{map-drop}
 use Rattle.stopper.specs.Paper.Table.{characters, rankIn, lengthOf}
-use Rattle.stopper.specs.Laws.Table.{table-code}
 use Rattle.stopper.specs.declared.code.Code.{Code}
 use Rattle.symbols.specs.Paper.Symbols.{bytesFor, bytesOf}
 use Rattle.symbols.specs.Laws.Sizes.{room-limit}
@@ -27,6 +26,7 @@ use Rattle.texts.specs.Laws.Mended.{mended, mended-even, mended-cleared}
 use Rattle.sound.specs.Paper.Roll.{symbolsFor, textRow, textOf, Sound}
 use Rattle.sound.specs.Paper.Lengths.{lengthsOf, lengthsFor}
 use Rattle.sound.specs.Helpers.Held.{Held}
+use Rattle.sound.specs.Laws.Sound.{sound-code}
 use Rattle.sound.specs.Laws.Texts.{length-parts}
 use Rattle.sound.specs.Laws.Holding.{sound-symbols}
 use Rattle.sound.specs.Laws.Lengths.{lengths-length, sound-lengths, start-text}
@@ -80,7 +80,7 @@ module _ {r : Roll} {lengths words buf dir : List ℕ} {x : Run} {text : List �
   symbols-few = omega (arith, p .fits, room-limit (c .k) (length buf), limit-fits)
 
   pub count-few : x .start + length text + (r .n - x .end) ≤ 16777216
-  count-few = omega (arith, count-after at text, symbols-after, symbols-few, row-count c (table-code (r .table) (at .held .sound .table)) l E)
+  count-few = omega (arith, count-after at text, symbols-after, symbols-few, row-count c (sound-code (at .held .sound)) l E)
 
   pub roll-after : {n h : ℕ} → n ≡ x .start + length text + (r .n - x .end) → h ≡ x .first + taken + (r .h - x .last)
       → record { table = r .table; n = n; h = h } ≡ rollAfter r buf (x .start) (x .end) text

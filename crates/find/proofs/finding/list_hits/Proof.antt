@@ -10,7 +10,6 @@ use native.Mathlib.Omega.{arith}
 use borrow.Author.Needs.{needs}
 use lib.ListN.{length, drop, getD, set, length-set, length-append}
 use lib.Seq.{getD-take}
-use Rattle.stopper.specs.Laws.Table.{table-code, code-width}
 use Rattle.stopper.specs.declared.code.Code.{Code}
 use Rattle.symbols.specs.Paper.Symbols.{symbolsOf}
 use Rattle.texts.specs.Paper.Hits.{stands, listed}
@@ -18,7 +17,7 @@ use Rattle.texts.specs.Helpers.Passing.{grown, passing}
 use Rattle.texts.specs.Laws.Finding.{stands-end, stands-past, stands-same, stands-differ, passing-more, passing-same, listed-none, listed-more, listed-full}
 use Rattle.sound.specs.Paper.Roll.{rowUpto, reading, ranksRead}
 use Rattle.sound.specs.Helpers.Ends.{endOf, endFrom}
-use Rattle.sound.specs.Laws.Sound.{sound-reads, sound-start, sound-length}
+use Rattle.sound.specs.Laws.Sound.{sound-width, sound-reads, sound-start, sound-length}
 use Rattle.sound.specs.Laws.Ends.{sound-end, sound-one, sound-next}
 use Rattle.find.specs.Helpers.Finding.{standsAt, wordHits}
 use Rattle.find.specs.Laws.Hits.{stands-start}
@@ -116,7 +115,7 @@ inside c = omega (arith, c .if2 .left, c .before .before .loop2 .inv .1)
 get-requires : tie.Need-get-requires Inv-loop2 μ-loop2 Inv-loop μ-loop
 get-requires c κs =
     let s = entered (turned (c .before .before) .before) in
-    (code-width (s .args .roll .table .code) (table-code (s .args .roll .table) (s .pre .table)), omega (arith, inside c, within s .0))
+    (sound-width (s .pre), omega (arith, inside c, within s .0))
 
 symbol-is : (g : tie.After-get Inv-loop2 μ-loop2 Inv-loop μ-loop) → let q = g .before .before .before in let l = turned q .before in
     g .get .result ≡ getD (row (entered l)) (l .loop .p + q .loop2 .j) 0

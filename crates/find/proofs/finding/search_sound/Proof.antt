@@ -6,16 +6,16 @@ use mathlib.Core.List.{List}
 use Prim.Native.Nat.{ℕ, _≤_}
 use native.Mathlib.Omega.{arith}
 use borrow.Author.Needs.{needs}
-use lib.Dec.{T}
 use lib.ListN.{length, take, length-take}
-use Rattle.stopper.specs.Paper.Table.{goodCode, characters}
-use Rattle.stopper.specs.Laws.Table.{table-code, table-few}
+use Rattle.stopper.specs.Paper.Table.{characters}
+use Rattle.stopper.specs.Laws.Table.{table-few}
 use Rattle.texts.specs.Paper.Characters.{firstForeign}
 use Rattle.texts.specs.Paper.Hits.{hits, listed, mostPattern}
 use Rattle.texts.specs.Laws.Patterns.{pattern-most}
 use Rattle.texts.specs.Laws.Finding.{listed-none}
 use Rattle.sound.specs.Paper.Roll.{textOf}
 use Rattle.sound.specs.Helpers.Held.{Held}
+use Rattle.sound.specs.Laws.Sound.{sound-code}
 use Rattle.find.specs.Helpers.Finding.{wordHits}
 use Rattle.find.specs.Laws.Finding.{pattern-known, none-foreign, some-known, word-hits, no-hits}
 use Rattle.find.proofs.finding.search_sound.Statement.{statement}
@@ -23,9 +23,6 @@ use Rattle.find.proofs.finding.search_sound.Tie as tie
 
 held : (s : tie.Start) → Held (s .args .roll) (s .args .buf .now)
 held s = record { sound = s .pre .0; places = search needs }
-
-code : (s : tie.Start) → T (goodCode (s .args .roll .table .code))
-code s = table-code (s .args .roll .table) (s .pre .0 .table)
 
 few : (s : tie.Start) → length (s .args .pattern .now) ≤ mostPattern
 few s = pattern-most (s .args .pattern .now) (s .pre .1)
@@ -43,7 +40,7 @@ symbols-long p = p .spell-pattern .ensures .0 ∙ sym (ap length (p .spell-patte
 spell-pattern-requires : tie.Need-spell-pattern-requires
 spell-pattern-requires c κs =
     let s = c .before .before .before .before .before .before .before in
-    (code s, table-few (s .args .roll .table) (s .pre .0 .table), few s, omega arith)
+    (sound-code (s .pre .0), table-few (s .args .roll .table) (s .pre .0 .table), few s, omega arith)
 
 returns : tie.Need-returns
 returns c =
@@ -51,7 +48,7 @@ returns c =
     let s = begun p in
     let a = s .args in
     let e = no-hits (held s) (a .pattern .now)
-    (none-foreign (a .roll .table .code) (code s) (characters (a .roll .table)) (a .pattern .now) (s .pre .1) (sym (p .spell-pattern .ensures .0) ∙ c .if1 .taken)) in
+    (none-foreign (a .roll .table .code) (sound-code (s .pre .0)) (characters (a .roll .table)) (a .pattern .now) (s .pre .1) (sym (p .spell-pattern .ensures .0) ∙ c .if1 .taken)) in
     (sym (ap length e), sym (ap (λ (found : List ℕ). listed found (a .slice .now)) e ∙ listed-none (a .slice .now)))
 
 array-share-prefix-symbols : tie.Need-array-share-prefix-symbols

@@ -8,8 +8,8 @@ use borrow.Author.Tests.{lt-ltb, le-ltb}
 use lib.ListN.{length, length-replicate}
 use Rattle.ground.specs.Paper.Rows.{zeros}
 use Rattle.stopper.specs.Paper.Table.{longest}
-use Rattle.stopper.specs.Laws.Table.{table-code, code-width}
 use Rattle.symbols.specs.Paper.Symbols.{room}
+use Rattle.sound.specs.Laws.Sound.{sound-width}
 use Rattle.store.specs.Helpers.Measured.{Measured}
 use Rattle.store.specs.Helpers.Replacing.{Located}
 use Rattle.store.specs.Laws.Changing.{first-room, over-text, over-text-few, over-text-within}
@@ -43,9 +43,7 @@ located r =
     }
 
 room-of-requires : tie.Need-room-of-requires
-room-of-requires c κs =
-    let s = c .before .before .before .before .before .before .before .before .before .before .before in
-    code-width (s .args .roll .table .code) (table-code (s .args .roll .table) (s .pre .0 .table))
+room-of-requires c κs = sound-width (c .before .before .before .before .before .before .before .before .before .before .before .pre .0)
 
 sub-space : tie.Need-sub-space
 sub-space c = omega (arith, c .room-of .ensures, first-room (located c))

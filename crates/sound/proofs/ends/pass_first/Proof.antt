@@ -1,6 +1,5 @@
 -- `sound::ends::pass_first` meets its contract.
 -- Assumes nothing.
-use mathlib.Core.Path.{refl}
 use borrow.Author.Needs.{needs}
 use Rattle.sound.specs.Helpers.Ends.{endOf, endFrom}
 use Rattle.sound.proofs.ends.pass_first.Statement.{statement}

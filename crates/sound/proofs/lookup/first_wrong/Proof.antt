@@ -8,11 +8,11 @@ use native.Mathlib.Omega.{arith}
 use borrow.Author.Needs.{needs}
 use lib.ListN.{length, take, getD}
 use Rattle.ground.specs.Laws.Rows.{length-tab}
-use Rattle.stopper.specs.Laws.Table.{table-code}
 use Rattle.texts.specs.Paper.Directory.{entries, directoryOf, firstWrong}
 use Rattle.texts.specs.Laws.Directory.{entries-before, wrong-none, wrong-missing, wrong-differs, agree-more}
 use Rattle.sound.specs.Paper.Lengths.{lengthsOf}
 use Rattle.sound.specs.Helpers.Ends.{endOf, endFrom}
+use Rattle.sound.specs.Laws.Sound.{sound-code}
 use Rattle.sound.specs.Laws.Directory.{byStops, stops-entry, stops-directory, entry-ending, entry-ends}
 use Rattle.sound.proofs.lookup.first_wrong.Statement.{statement}
 use Rattle.sound.proofs.lookup.first_wrong.Tie as tie
@@ -75,7 +75,7 @@ entry-is c =
     stops-entry (entered l .args .roll .table .code) (entered l .args .buf .now) (last l) (l .loop .e) (n .loop-test .taken) ∙ sym (passed c)
 
 stops-by-byte-requires : tie.Need-stops-by-byte-requires Inv-loop μ-loop
-stops-by-byte-requires c κs = let s = c .before .before .before .before in table-code (s .args .roll .table) (s .pre .table)
+stops-by-byte-requires c κs = sound-code (c .before .before .before .before .pre)
 
 loop-holds : tie.Need-loop-holds Inv-loop μ-loop
 unfolding endFrom endOf

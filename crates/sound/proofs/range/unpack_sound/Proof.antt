@@ -13,7 +13,7 @@ use lib.Seq.{getD-drop}
 use Rattle.ground.specs.Laws.Rows.{map-at, below-at}
 use Rattle.ground.specs.Laws.Runs.{front-length, front-more}
 use Rattle.stopper.specs.Paper.Table.{lengthOf}
-use Rattle.stopper.specs.Laws.Table.{table-code, table-few}
+use Rattle.stopper.specs.Laws.Table.{table-few}
 use Rattle.stopper.specs.declared.code.Code.{Code}
 use Rattle.texts.specs.Paper.Directory.{startAt}
 use Rattle.sound.specs.Paper.Roll.{rowUpto, readRow, readingFrom, ranksRead, textOf}

@@ -10,11 +10,10 @@ use lib.ListN.{length, set}
 use Rattle.ground.specs.Helpers.Moved.{laid}
 use Rattle.ground.specs.Laws.Rows.{length-tab}
 use Rattle.ground.specs.Laws.Runs.{laid-none, laid-length, laid-more}
-use Rattle.stopper.specs.Laws.Table.{table-code}
 use Rattle.texts.specs.Paper.Directory.{entries}
 use Rattle.texts.specs.Laws.Directory.{entries-upto, entries-before, entries-behind}
 use Rattle.sound.specs.Helpers.Ends.{endFrom}
-use Rattle.sound.specs.Laws.Sound.{sound-reads, sound-start}
+use Rattle.sound.specs.Laws.Sound.{sound-code, sound-reads, sound-start}
 use Rattle.sound.specs.Laws.Ends.{sound-end}
 use Rattle.sound.specs.Laws.Directory.{byStops, stops-entry, stops-laid, entry-ending, entry-ends}
 use Rattle.store.proofs.mending.mend_entries.Statement.{statement}
@@ -72,7 +71,7 @@ passed c =
     c .pass-ends .ensures ∙ entry-ends (entered l .pre .0) (l .loop .j) (l .loop .e) (l .loop .inv .2) (inside n) (l .loop .inv .3)
 
 stops-by-byte-requires : tie.Need-stops-by-byte-requires Inv-loop μ-loop
-stops-by-byte-requires c κs = let s = c .before .before .before .before in table-code (s .args .roll .table) (s .pre .0 .table)
+stops-by-byte-requires c κs = sound-code (c .before .before .before .before .pre .0)
 
 loop-holds : tie.Need-loop-holds Inv-loop μ-loop
 loop-holds c =
