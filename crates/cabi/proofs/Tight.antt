@@ -1,6 +1,5 @@
 -- Two outcomes that an exported function's contract allows for one input are equal, number, value and all that is lent: of the contracts
 -- as the source states them.
--- Assumes nothing.
 use mathlib.Core.Path.{_≡_, _∙_, sym}
 use Prim.Native.Nat.{ℕ}
 use contract.Lifetimes.{Lfts}

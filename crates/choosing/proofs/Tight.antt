@@ -1,6 +1,5 @@
 -- Two outcomes that an operation's contract allows for one input are equal, answer and every lent slice: of the contracts as the source
 -- states them.
--- Assumes nothing.
 use mathlib.Core.Path.{_≡_, _∙_, sym, ap, ap₂}
 use Prim.Native.Nat.{ℕ}
 use contract.Lifetimes.{Lfts}

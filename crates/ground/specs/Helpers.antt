@@ -1,3 +1,4 @@
 -- What helpers ask and answer. No promise of an operation speaks of it.
 pub mod Below
 pub mod Moved
+pub mod Bound

@@ -1,5 +1,4 @@
 -- Two outcomes that the report's contract allows for one input are equal, answer and lent array: of the contract as the source states it.
--- Assumes nothing.
 use mathlib.Core.Path.{_≡_, _∙_, sym}
 use contract.Lifetimes.{Lfts}
 use borrow.Fn.Kinds.{Dens, resT, endedOf}

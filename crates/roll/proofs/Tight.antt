@@ -1,6 +1,5 @@
 -- Two outcomes that an operation's contract allows for one input are equal, answer and every lent slice: of the contracts as the source
 -- states them.
--- Assumes nothing.
 use mathlib.Core.Path.{_≡_, _∙_, sym, ap₂}
 use contract.Lifetimes.{Lfts}
 use borrow.Fn.Kinds.{Dens, resT, endedOf}

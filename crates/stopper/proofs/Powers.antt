@@ -1,5 +1,4 @@
 -- Finding the place of the stopper by powers: what is known at the head of the loop, for any stopper counts by place.
--- Assumes nothing.
 use mathlib.Core.Path.{_≡_, refl, sym, ap₂}
 use Prim.Native.Nat.{ℕ, _+_, _-_, _*_, _≤_, _<_}
 use native.Mathlib.Nat.{mul-pos, mul-le-mul, le-mul-of-pos-right}

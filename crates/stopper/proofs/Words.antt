@@ -1,5 +1,4 @@
 -- A row of symbols that should be one codeword, by what is seen of it.
--- Assumes nothing.
 use mathlib.Core.Path.{_≡_, refl, sym, ap, _∙_}
 use mathlib.Core.Bool.{Bool, true, false, cond, _&&_}
 use mathlib.Core.List.{List, _∷_}

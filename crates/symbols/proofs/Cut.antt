@@ -1,5 +1,4 @@
 -- A symbol cut out of a number that was put together of parts. Once over the width and the shift.
--- Assumes nothing.
 use mathlib.Core.Path.{_≡_, _∙_, sym, ap, subst}
 use Prim.Native.Nat.{ℕ, suc, _+_, _*_, _-_, _/_, _%_, _^_, _≤_, _<_}
 use native.Mathlib.Nat.{mod-lt, mul-add}

@@ -1,5 +1,4 @@
 -- A byte stored that was read from another place of the row: a byte's symbols are moved.
--- Assumes nothing.
 use mathlib.Core.Path.{_≡_, _∙_, ap, ap₂}
 use mathlib.Core.List.{List, [], _∷_}
 use Prim.Native.Nat.{ℕ, _+_, _*_, _-_, _<_}

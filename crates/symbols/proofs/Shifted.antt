@@ -3,7 +3,6 @@
 --     got      (b >> shift) & mask
 --     stored   (b & !(mask << shift)) | (sym << shift)
 --     shifted  (first << skip) | (second >> (w - skip))
--- Assumes nothing.
 use mathlib.Core.Path.{_≡_, _∙_, sym, ap, ap₂, subst}
 use Prim.Native.Nat.{ℕ, _+_, _*_, _-_, _/_, _%_, _^_, _≤_, _<_}
 use native.Mathlib.Nat.{mod-eq-of-lt, mod-lt, one-mul, mul-assoc, mul-mod-left, add-zero}

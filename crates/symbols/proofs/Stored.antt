@@ -1,5 +1,4 @@
 -- A symbol that is stored in its byte stands in the row at its place, and the others are as they were. Once over the width.
--- Assumes nothing.
 use mathlib.Core.Path.{_≡_, _∙_, sym, ap, ap₂}
 use mathlib.Core.Logic.{_⊎_, ⊎-elim, inl, inr}
 use mathlib.Core.List.{List}

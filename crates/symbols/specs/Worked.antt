@@ -1,5 +1,4 @@
 -- The definitions at a few values: 27 is 00 01 10 11, 165 is 1010 0101.
--- Assumes nothing.
 use mathlib.Core.Path.{_≡_, refl}
 use mathlib.Core.List.{[], _∷_}
 use Rattle.ground.specs.Paper.Rows.{tab}

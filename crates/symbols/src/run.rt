@@ -7,6 +7,7 @@ use crate::whole;
 ghost use mathlib.Core.Path.{_≡_};
 ghost use Prim.Native.Nat.{_+_, _*_, _^_, _≤_, _<_};
 ghost use lib.ListN.{length};
+ghost use Rattle.ground.specs.Helpers.Bound.{limitBound};
 ghost use Rattle.ground.specs.Paper.Runs.{run};
 ghost use Rattle.ground.specs.Paper.Rows.{allZero};
 ghost use Rattle.ground.specs.Helpers.Moved.{cleared, movedUp, movedDown};
@@ -30,7 +31,7 @@ pub fn clear(k: u8, buf: &mut [u8], from: usize, to: usize)
 
 // The unused symbols of the last byte that h symbols take.
 pub fn clear_unused(k: u8, buf: &mut [u8], h: usize)
-    requires { ⌜ (Width k) × (h ≤ length (symbolsOf k (now buf))) × (h ≤ 16777216) ⌝ }
+    requires { ⌜ (Width k) × (h ≤ length (symbolsOf k (now buf))) × (h ≤ limitBound) ⌝ }
     ensures { λ _. ⌜ symbolsOf k (now (buf .exit)) ≡ cleared (symbolsOf k (now (buf .entry))) h (bytesFor k h * per k) ⌝ }
 {
     clear(k, buf, h, h + size::unused(k, h));

@@ -1,6 +1,5 @@
 -- Worked on paper: cases of one table under one claim, which the check computes over the definitions that the promises cite. Every case
 -- that the paper marks with a star, P1 to P11, is in the table.
--- Assumes nothing.
 use mathlib.Core.Bool.{Bool, true, false, not, _&&_}
 use mathlib.Core.List.{List, [], _∷_, _++_, map}
 use Prim.Native.Nat.{ℕ, _^_}

@@ -1,5 +1,4 @@
 -- The paper's example and two small inputs, computed over the definitions: cases of one table under one claim.
--- Assumes nothing.
 use mathlib.Core.Bool.{Bool, true, _&&_}
 use mathlib.Core.List.{List, [], _∷_}
 use Prim.Native.Nat.{ℕ}

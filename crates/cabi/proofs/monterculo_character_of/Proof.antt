@@ -1,5 +1,4 @@
 -- `cabi::monterculo_character_of` meets its contract.
--- Assumes nothing.
 use borrow.Author.Needs.{needs}
 use Rattle.cabi.proofs.monterculo_character_of.Statement.{statement}
 use Rattle.cabi.proofs.monterculo_character_of.Tie as tie

@@ -1,5 +1,4 @@
 -- `cabi::monterculo_check` meets its contract.
--- Assumes nothing.
 use borrow.Author.Needs.{needs}
 use Rattle.cabi.proofs.monterculo_check.Statement.{statement}
 use Rattle.cabi.proofs.monterculo_check.Tie as tie

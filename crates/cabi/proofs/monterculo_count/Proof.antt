@@ -1,5 +1,4 @@
 -- `cabi::monterculo_count` meets its contract.
--- Assumes nothing.
 use borrow.Author.Needs.{needs}
 use Rattle.cabi.proofs.monterculo_count.Statement.{statement}
 use Rattle.cabi.proofs.monterculo_count.Tie as tie

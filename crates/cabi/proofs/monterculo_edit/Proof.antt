@@ -1,5 +1,4 @@
 -- `cabi::monterculo_edit` meets its contract.
--- Assumes nothing.
 use mathlib.Core.Path.{ap}
 use borrow.Author.Needs.{needs}
 use Rattle.sound.specs.declared.records.Roll.{Roll}

@@ -1,5 +1,4 @@
 -- `cabi::monterculo_make_directory` meets its contract.
--- Assumes nothing.
 use borrow.Author.Needs.{needs}
 use Rattle.cabi.proofs.monterculo_make_directory.Statement.{statement}
 use Rattle.cabi.proofs.monterculo_make_directory.Tie as tie

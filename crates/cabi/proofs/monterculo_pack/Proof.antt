@@ -1,5 +1,4 @@
 -- `cabi::monterculo_pack` meets its contract.
--- Assumes nothing.
 use mathlib.Core.Path.{ap}
 use borrow.Author.Needs.{needs}
 use Rattle.ground.specs.Laws.Answers.{says-as}

@@ -1,5 +1,4 @@
 -- `cabi::monterculo_read_one` meets its contract.
--- Assumes nothing.
 use borrow.Author.Needs.{needs}
 use Rattle.cabi.proofs.monterculo_read_one.Statement.{statement}
 use Rattle.cabi.proofs.monterculo_read_one.Tie as tie

@@ -1,5 +1,4 @@
 -- `cabi::monterculo_search` meets its contract.
--- Assumes nothing.
 use mathlib.Core.Path.{sym, ap, _∙_}
 use borrow.Author.Needs.{needs}
 use Rattle.ground.specs.Paper.Answers.{totalSays}

@@ -1,5 +1,4 @@
 -- `cabi::monterculo_unpack` meets its contract.
--- Assumes nothing.
 use borrow.Author.Needs.{needs}
 use Rattle.cabi.proofs.monterculo_unpack.Statement.{statement}
 use Rattle.cabi.proofs.monterculo_unpack.Tie as tie

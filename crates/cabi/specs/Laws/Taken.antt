@@ -1,5 +1,4 @@
 -- An answer that says what the operation does tells it.
--- Assumes nothing.
 use mathlib.Core.Path.{_≡_, sym, ap}
 use Prim.Native.Nat.{ℕ}
 use Rattle.ground.specs.Paper.Refusals.{Outcome, accepted, refused}

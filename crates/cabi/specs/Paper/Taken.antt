@@ -1,5 +1,4 @@
 -- Answers as numbers, and tables and rolls taken together from their parts.
--- Assumes nothing.
 use mathlib.Core.Path.{_≡_}
 use mathlib.Core.List.{List}
 use Prim.Native.Nat.{ℕ}

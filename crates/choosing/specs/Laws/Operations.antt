@@ -1,5 +1,4 @@
 -- The promises: a law for a refused call and one for an accepted call.
--- Assumes nothing.
 use mathlib.Core.Path.{_≡_, sym}
 use mathlib.Core.List.{List}
 use Prim.Native.Nat.{ℕ}

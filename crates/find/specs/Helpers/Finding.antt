@@ -1,5 +1,4 @@
 -- Searching by symbols: the symbols of a pattern, and the codewords at whose start they stand.
--- Assumes nothing.
 use mathlib.Core.Bool.{Bool, cond}
 use mathlib.Core.List.{List, []}
 use Prim.Native.Nat.{ℕ}

@@ -1,5 +1,4 @@
 -- The pattern's symbols; and that searching by symbols finds the hits.
--- Assumes nothing.
 use mathlib.Core.Path.{_≡_, ap, _∙_}
 use mathlib.Core.Logic.{_≢_}
 use mathlib.Core.List.{List, [], _∷_}

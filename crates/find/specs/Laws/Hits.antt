@@ -1,5 +1,4 @@
 -- A pattern stands in a text exactly where its symbols stand at the start of a codeword of the packed text.
--- Assumes nothing.
 use mathlib.Core.Path.{_≡_, refl, sym, ap, subst, _∙_}
 use mathlib.Core.Logic.{_↔_}
 use mathlib.Core.List.{List, [], _∷_, _++_, map}

@@ -1,5 +1,4 @@
 -- Rows of small numbers.
--- Assumes nothing.
 use mathlib.Core.List.{List, [], _∷_}
 use Prim.Native.Nat.{ℕ, _<_}
 

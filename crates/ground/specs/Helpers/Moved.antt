@@ -1,5 +1,4 @@
 -- A run of a row cleared, moved, laid over.
--- Assumes nothing.
 use mathlib.Core.List.{List}
 use Prim.Native.Nat.{ℕ, _+_, _-_}
 use lib.ListN.{length}

@@ -1,5 +1,4 @@
 -- A refused call changes nothing it was lent; an accepted one leaves what it says; accepted is what no row refuses.
--- Assumes nothing.
 use mathlib.Core.Path.{_≡_, refl}
 use mathlib.Core.Bool.{Bool, true, false, cond}
 use mathlib.Core.List.{List, [], _∷_}

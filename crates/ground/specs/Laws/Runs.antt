@@ -1,5 +1,4 @@
 -- Runs cut out of a row and laid over it, one after the other; and a row in place of what another used.
--- Assumes nothing.
 use mathlib.Core.Path.{_≡_, refl, sym, ap, ap₂, _∙_}
 use mathlib.Core.List.{List, [], _∷_, _++_, append-assoc}
 use mathlib.Core.Logic.{_≢_}

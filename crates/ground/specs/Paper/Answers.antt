@@ -1,5 +1,4 @@
 -- The paper's number and value for each case of an answer.
--- Assumes nothing.
 use Prim.Native.Nat.{ℕ}
 use Rattle.ground.specs.Paper.Refusals.{Outcome, accepted, refused}
 use Rattle.ground.specs.declared.answers.Done.{Done}

@@ -1,6 +1,5 @@
 -- Refusals: a list in the paper's order, each row with its test, its number and its value. The first row that applies is the
 -- outcome; if none applies the work is accepted.
--- Assumes nothing.
 use mathlib.Core.Bool.{Bool, cond}
 use mathlib.Core.List.{List, [], _∷_}
 use Prim.Native.Nat.{ℕ}

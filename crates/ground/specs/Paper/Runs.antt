@@ -1,5 +1,4 @@
 -- A run of a row: cut out, replaced, and a row put in place of what another used.
--- Assumes nothing.
 use mathlib.Core.List.{List, _++_}
 use Prim.Native.Nat.{ℕ, _+_, _-_}
 use lib.ListN.{take, drop, length}

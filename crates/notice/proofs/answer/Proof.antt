@@ -1,5 +1,4 @@
 -- `notice::answer`: the answer lies in the array.
--- Assumes nothing.
 use mathlib.Core.Path.{sym}
 use Prim.Native.Nat.{_≤_}
 use borrow.Author.Needs.{needs}
@@ -15,18 +14,12 @@ within c =
     let a = c .before .before .before .args in
     written-within (reportOf (a .input .now)) _ (c .report .ensures .0) (c .report .ensures .1)
 
-array-share-prefix-out : tie.Need-array-share-prefix-out
-array-share-prefix-out c = within c
-
-slice-aggregate-write-all : tie.Need-slice-aggregate-write-all
-slice-aggregate-write-all c = sym (length-take-le _ _ (within (c .before)))
-
 pub answer-spec : {M : Type 1} → statement M
 answer-spec =
     tie.close
     (tie.spec
     (λ c κs. search needs)
-    array-share-prefix-out
-    slice-aggregate-write-all
+    (λ c. within c)
+    (λ c. sym (length-take-le _ _ (within (c .before))))
     (λ c κs. search needs)
     (λ c. search needs))

@@ -1,5 +1,4 @@
 -- The answer, row by row: 11 first, then 4 for a text over 16,384 bytes, then packing's; else the lines.
--- Assumes nothing.
 use mathlib.Core.Path.{_≡_, ap, _∙_}
 use mathlib.Core.Bool.{true, false}
 use mathlib.Core.List.{List, _++_}

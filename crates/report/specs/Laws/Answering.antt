@@ -1,5 +1,4 @@
 -- The answer's steps: the counts of the text, its table, its packing, its hits; and how long the answer is.
--- Assumes nothing.
 use mathlib.Core.Path.{_≡_, refl, sym, ap, _∙_}
 use mathlib.Core.Logic.{inl}
 use mathlib.Core.List.{List, _++_}

@@ -1,5 +1,4 @@
 -- What came in: the pattern and the text of an input cut short, and why the first 16,450 bytes are enough.
--- Assumes nothing.
 use mathlib.Core.Path.{_≡_, refl, sym, ap, _∙_}
 use mathlib.Core.Logic.{inr}
 use mathlib.Core.Bool.{Bool, true, false, cond}

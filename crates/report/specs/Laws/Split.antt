@@ -1,5 +1,4 @@
 -- The input at its first byte 10: the pattern before it, the text behind it.
--- Assumes nothing.
 use mathlib.Core.Path.{_≡_, refl, ap, _∙_}
 use mathlib.Core.Logic.{_≢_}
 use mathlib.Core.List.{List, [], _∷_}

@@ -1,5 +1,4 @@
 -- What the program answers, as the paper says it: from the bytes that came in to the bytes that go out.
--- Assumes nothing.
 use mathlib.Core.Bool.{cond, not}
 use mathlib.Core.List.{List, [], _∷_, _++_}
 use Prim.Native.Nat.{ℕ}

@@ -1,5 +1,4 @@
 -- What stands beside the refusals of packing and of editing.
--- Assumes nothing.
 use Prim.Native.Nat.{ℕ}
 use Rattle.ground.specs.declared.answers.Done.the-variants.{Refused}
 use Rattle.stopper.specs.declared.table.Table.{Table}

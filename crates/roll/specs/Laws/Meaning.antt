@@ -1,5 +1,4 @@
 -- What a sound roll is: a text packed. Unpacking what was packed gives the text, and packing what was unpacked gives the roll.
--- Assumes nothing.
 use mathlib.Core.Path.{_≡_, refl, sym, ap, ap₂, subst, _∙_}
 use mathlib.Core.Logic.{_↔_}
 use mathlib.Core.List.{List, _++_}

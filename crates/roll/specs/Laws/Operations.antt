@@ -1,5 +1,4 @@
 -- The promises: a law for a refused call and one for an accepted call.
--- Assumes nothing.
 use mathlib.Core.Path.{_≡_, refl, sym}
 use mathlib.Core.Logic.{_≢_}
 use mathlib.Core.Bool.{true, false, not}

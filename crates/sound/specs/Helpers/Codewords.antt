@@ -1,9 +1,9 @@
 -- What reading asks of a buffer, and what it answers.
--- Assumes nothing.
 use mathlib.Core.List.{List}
 use Prim.Native.Nat.{ℕ, zero, suc, _+_, _≤_}
 use lib.Dec.{T}
 use lib.ListN.{length, drop}
+use Rattle.ground.specs.Helpers.Bound.{limitBound}
 use Rattle.stopper.specs.Paper.Table.{base, stoppers, goodCode}
 use Rattle.stopper.specs.Paper.Reading.{Reading, done, bad}
 use Rattle.stopper.specs.Helpers.First.{First, whole, broken, firstWord}
@@ -21,7 +21,7 @@ pub record Reads (c : Code) (σ : ℕ) (buf : List ℕ) (h p : ℕ) : Type 0 whe
   pub good : T (goodCode c)
   pub few : σ ≤ 256
   pub held : h ≤ length (symbolsOf (c .k) buf)
-  pub small : h ≤ 16777216
+  pub small : h ≤ limitBound
   pub upto : p ≤ h
 
 -- the code does not say why a codeword is bad: it stops once σ is reached, before it can know

@@ -1,5 +1,4 @@
 -- Where codewords end, by their stoppers alone. `st i` is the stopper count of place i of a codeword, and i the place of the next symbol.
--- Assumes nothing.
 use mathlib.Core.Bool.{cond}
 use mathlib.Core.List.{List, [], _∷_}
 use Prim.Native.Nat.{ℕ, zero, suc, _+_, _^_, _≤_, _<_}

@@ -1,5 +1,4 @@
 -- A sound roll whose table's row of places is as long as its type says.
--- Assumes nothing.
 use mathlib.Core.Path.{_≡_}
 use mathlib.Core.List.{List}
 use Prim.Native.Nat.{ℕ}

@@ -1,5 +1,4 @@
 -- The directory of a sound roll: an entry is where a codeword starts, and by a right one each codeword is reached.
--- Assumes nothing.
 use mathlib.Core.Path.{_≡_, sym, ap, _∙_}
 use mathlib.Core.List.{List}
 use Prim.Native.Nat.{ℕ, suc, _+_, _*_, _/_, _%_, _≤_, _<_, _-_}

@@ -1,5 +1,4 @@
 -- A sound roll's lengths and starts are those of its text.
--- Assumes nothing.
 use mathlib.Core.Path.{_≡_, sym, ap, _∙_}
 use mathlib.Core.List.{List, map, map-map}
 use Prim.Native.Nat.{ℕ}

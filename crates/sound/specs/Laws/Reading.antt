@@ -1,5 +1,4 @@
 -- Readings: a whole one, and one with a codeword ahead.
--- Assumes nothing.
 use mathlib.Core.Path.{_≡_, refl, ap}
 use mathlib.Core.Bool.{false}
 use mathlib.Core.List.{List, _∷_}

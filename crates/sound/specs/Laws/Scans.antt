@@ -1,5 +1,4 @@
 -- Codewords read one after the other: what those from symbol p on add to the ones before.
--- Assumes nothing.
 use mathlib.Core.Path.{_≡_, refl, ap, _∙_}
 use mathlib.Core.List.{List, []}
 use Prim.Native.Nat.{ℕ, suc, _+_, _-_, _≤_, _<_}

@@ -1,5 +1,4 @@
 -- A sound roll: its symbols are the codewords of its ranks, and each is found where it starts.
--- Assumes nothing.
 use mathlib.Core.Path.{_≡_, sym, ap, _∙_}
 use mathlib.Core.List.{List}
 use Prim.Native.Nat.{ℕ, suc, _≤_, _<_}

@@ -1,5 +1,4 @@
 -- The lengths of a roll's codewords and of a text's, and a right directory.
--- Assumes nothing.
 use mathlib.Core.Path.{_≡_}
 use mathlib.Core.List.{List, map}
 use Prim.Native.Nat.{ℕ}

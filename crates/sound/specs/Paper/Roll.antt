@@ -1,5 +1,4 @@
 -- A text packed under a table, and a roll in its buffer.
--- Assumes nothing.
 use mathlib.Core.Path.{_≡_}
 use mathlib.Core.Bool.{Bool, true, false}
 use mathlib.Core.List.{List, map}

@@ -1,5 +1,4 @@
 -- What helpers answer: the stopper's place, the ranks of all byte values, a codeword's rank, refusals.
--- Assumes nothing.
 use mathlib.Core.Bool.{cond}
 use mathlib.Core.List.{List, []}
 use Prim.Native.Nat.{ℕ, _-_}

@@ -1,5 +1,4 @@
 -- Reading a codeword symbol by symbol, as a state.
--- Assumes nothing.
 use mathlib.Core.Bool.{true, false, cond}
 use Prim.Native.Nat.{ℕ, zero, suc, _+_, _-_, _*_, _≤_}
 use lib.Dec.{ltb, leb}

@@ -1,5 +1,4 @@
 -- The promises: a law for a refused call and one for an accepted call.
--- Assumes nothing.
 use mathlib.Core.Path.{_≡_, refl, sym, subst}
 use mathlib.Core.Bool.{Bool, true, false, cond}
 use mathlib.Core.List.{List, _++_}

@@ -1,5 +1,4 @@
 -- Reading the codeword that stands first in a row, symbol by symbol: what is known of the state when i symbols are read.
--- Assumes nothing.
 use mathlib.Core.Path.{_≡_, refl, sym, ap, subst, _∙_}
 use mathlib.Core.Bool.{true}
 use mathlib.Core.List.{List, _∷_}

@@ -1,5 +1,4 @@
 -- The laws of the reading state: it stands for the continuers read, and one more symbol does to it what the symbol does to the codeword.
--- Assumes nothing.
 use mathlib.Core.Path.{_≡_, refl, sym, _∙_}
 use mathlib.Core.Bool.{Bool, true, false, cond}
 use Prim.Native.Nat.{ℕ, zero, suc, _+_, _-_, _*_, _≤_, _<_}

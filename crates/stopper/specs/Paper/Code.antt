@@ -2,7 +2,6 @@
 --
 -- `m` is the number of base symbols, 2 ^ k. `s i` is the stopper count of place i of a codeword (the base: the same at every place),
 -- and `m - s i` its continuer count. Places count from 0. A symbol below `s i` at place i is a stopper, any other below m a continuer.
--- Assumes nothing.
 use mathlib.Core.Bool.{Bool, false, cond, _&&_}
 use mathlib.Core.List.{List, [], _∷_}
 use Prim.Native.Nat.{ℕ, zero, suc, _+_, _-_, _*_, _/_, _%_, _≤_, _<_}

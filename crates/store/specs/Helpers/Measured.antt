@@ -1,5 +1,4 @@
 -- A text measured under a table, its codewords laid out by character.
--- Assumes nothing.
 use mathlib.Core.Path.{_≡_}
 use mathlib.Core.List.{List}
 use Prim.Native.Nat.{ℕ, _≤_, _<_}

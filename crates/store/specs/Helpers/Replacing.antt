@@ -1,11 +1,11 @@
 -- A run of symbols replaced where it lies: what is asked for it, and what it leaves.
--- Assumes nothing.
 use mathlib.Core.Path.{_≡_}
 use mathlib.Core.Bool.{cond, _&&_}
 use mathlib.Core.List.{List}
 use Prim.Native.Nat.{ℕ, _+_, _-_, _*_, _≤_}
 use lib.Dec.{T, eqb}
 use lib.ListN.{length, take}
+use Rattle.ground.specs.Helpers.Bound.{limitBound}
 use Rattle.ground.specs.Paper.Runs.{over, run, inPlace}
 use Rattle.ground.specs.Paper.Rows.{allZero}
 use Rattle.symbols.specs.Paper.Symbols.{per, bytesFor, room, symbolsOf, bytesOf}
@@ -35,8 +35,8 @@ pub record Replaces (k : ℕ) (lengths words text : List ℕ) (taken : ℕ) (buf
   pub inside : x .last ≤ h
   pub held : h ≤ length (symbolsOf k buf)
   pub fits : x .first + taken + (h - x .last) ≤ length (symbolsOf k buf)
-  pub small : h ≤ 16777216
-  pub few : x .first + taken + (h - x .last) ≤ 16777216
+  pub small : h ≤ limitBound
+  pub few : x .first + taken + (h - x .last) ≤ limitBound
   pub clean : T (allZero (run (symbolsOf k buf) h (bytesFor k h * per k)))
 
 -- up to which character entries change: with as many characters and symbols as before, those behind the run stay

@@ -1,5 +1,4 @@
 -- The codewords of a table, laid out by character: 86 places each. What of a text is in the table and fits, and its symbols, from them.
--- Assumes nothing.
 use mathlib.Core.Path.{_≡_}
 use mathlib.Core.Bool.{Bool, cond, true, _&&_}
 use mathlib.Core.List.{List, [], _∷_, _++_}

@@ -1,12 +1,12 @@
 -- A run of a sound roll and a text that is to replace it: what does not fit, and what replacing asks.
--- Assumes nothing.
 use mathlib.Core.Path.{_≡_, sym, ap, _∙_}
 use mathlib.Core.List.{List}
-use Prim.Native.Nat.{ℕ, _+_, _-_, _≤_, _<_}
+use Prim.Native.Nat.{ℕ, _+_, _-_, _≤_, _<_, _*_}
 use native.Mathlib.Decide.{decLt}
 use native.Mathlib.Omega.{arith}
 use lib.ListN.{length, take, drop, length-drop}
 use lib.Seq.{length-take-le}
+use Rattle.ground.specs.Helpers.Bound.{limitBound}
 use Rattle.ground.specs.Laws.Limit.{limit-fits}
 use Rattle.stopper.specs.Paper.Table.{characters}
 use Rattle.stopper.specs.declared.code.Code.{Code}
@@ -47,10 +47,10 @@ module _ {r : Roll} {buf dir : List ℕ} {x : Run} (p : Located r buf dir x) whe
   before = omega (arith, size p, p .ordered, p .inside)
 
   -- no number is great
-  whole-few : whole ≤ 16777216
+  whole-few : whole ≤ limitBound
   whole-few = omega (arith, room-limit (c .k) (length buf), limit-fits)
 
-  n-few : r .n ≤ 16777216
+  n-few : r .n ≤ limitBound
   n-few = omega (arith, size p, row-count c (sound-code (p .held .sound)) l old, sound-h (p .held), p .held .sound .fits, whole-few)
 
   module _ (text : List ℕ) where
@@ -68,7 +68,7 @@ module _ {r : Roll} {buf dir : List ℕ} {x : Run} (p : Located r buf dir x) whe
       over-text-within = omega (arith, count-after p text)
 
       -- those before it fit, and each takes a symbol at least
-      pub over-text-few : x .start + upto ≤ 33554432
+      pub over-text-few : x .start + upto ≤ 2 * limitBound
       over-text-few =
           let n : ℕ = firstOver c l (whole - x .first) text in
           let many = row-count c (sound-code (p .held .sound)) l (take n text) in
@@ -79,7 +79,7 @@ module _ {r : Roll} {buf dir : List ℕ} {x : Run} (p : Located r buf dir x) whe
     abbrev behind : ℕ
     behind = firstOver c l left (drop (x .end) old)
 
-    pub count-few : x .start + length text + (r .n - x .end) ≤ 50331648
+    pub count-few : x .start + length text + (r .n - x .end) ≤ 3 * limitBound
     count-few = omega (arith, s .count, row-count c (sound-code (p .held .sound)) l text, whole-few, n-few, p .ordered, p .inside)
 
     over-is : x .start + length text + behind ≡ firstOver c l whole (new text)

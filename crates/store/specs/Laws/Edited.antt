@@ -1,5 +1,4 @@
 -- What an edit leaves: the edited text packed, with its directory, in place of the roll; the rest as it was.
--- Assumes nothing.
 use mathlib.Core.Path.{_≡_, refl, sym, ap, ap₂, _∙_}
 use mathlib.Core.List.{List, [], _++_}
 use Prim.Native.Nat.{ℕ, _+_, _-_, _/_, _^_, _≤_}

@@ -1,5 +1,4 @@
 -- An edited text: its symbols, the lengths of its codewords, and the first of its characters that does not fit.
--- Assumes nothing.
 use mathlib.Core.Path.{_≡_, sym, ap, ap₂, _∙_}
 use mathlib.Core.List.{List, _++_, map, map-append}
 use Prim.Native.Nat.{ℕ, suc, _+_, _-_, _≤_, _<_}

@@ -1,5 +1,4 @@
 -- A run of a sound roll: where its symbols are, and what stands behind it.
--- Assumes nothing.
 use mathlib.Core.Path.{_≡_, sym, ap, _∙_}
 use mathlib.Core.List.{List}
 use Prim.Native.Nat.{ℕ, _+_, _-_, _≤_}

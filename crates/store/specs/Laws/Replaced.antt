@@ -1,5 +1,4 @@
 -- A run that may be replaced: what its helpers ask, and that together they leave the edited text with its directory.
--- Assumes nothing.
 use mathlib.Core.Path.{_≡_, refl, sym, ap, ap₂, _∙_}
 use mathlib.Core.Logic.{_⊎_, inl, inr, ⊎-elim}
 use mathlib.Core.Bool.{Bool, true, false, cond, _&&_}
@@ -10,6 +9,7 @@ use mir.Facts.{eqb-yes}
 use lib.Dec.{T, eqb}
 use lib.ListN.{length, take, drop, length-append}
 use lib.Seq.{take-at, drop-at, length-take-le}
+use Rattle.ground.specs.Helpers.Bound.{limitBound}
 use Rattle.ground.specs.Paper.Rows.{zeros}
 use Rattle.ground.specs.Paper.Runs.{over, run, inPlace}
 use Rattle.ground.specs.Laws.Limit.{limit-fits}
@@ -76,10 +76,10 @@ module _ {r : Roll} {lengths words buf dir : List ℕ} {x : Run} {text : List �
       omega (arith, parts, length-parts c l text (drop (x .end) old), tail at, first-is at, last-is at, p .spelled .count)
 
   -- no number is great
-  pub symbols-few : x .first + taken + (r .h - x .last) ≤ 16777216
+  pub symbols-few : x .first + taken + (r .h - x .last) ≤ limitBound
   symbols-few = omega (arith, p .fits, room-limit (c .k) (length buf), limit-fits)
 
-  pub count-few : x .start + length text + (r .n - x .end) ≤ 16777216
+  pub count-few : x .start + length text + (r .n - x .end) ≤ limitBound
   count-few = omega (arith, count-after at text, symbols-after, symbols-few, row-count c (sound-code (at .held .sound)) l E)
 
   pub roll-after : {n h : ℕ} → n ≡ x .start + length text + (r .n - x .end) → h ≡ x .first + taken + (r .h - x .last)

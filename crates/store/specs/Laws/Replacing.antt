@@ -1,5 +1,4 @@
 -- A run of symbols replaced where it lies: the row that each way of doing it leaves, and what the outcome keeps.
--- Assumes nothing.
 use mathlib.Core.Path.{_≡_, refl, sym, ap, ap₂, _∙_}
 use mathlib.Core.List.{List, _++_, append-assoc}
 use Prim.Native.Nat.{ℕ, _+_, _-_, _*_, _/_, _^_, _≤_}

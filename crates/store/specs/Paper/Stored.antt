@@ -1,5 +1,4 @@
 -- A text packed into a buffer, and packed in place of a roll with its directory.
--- Assumes nothing.
 use mathlib.Core.List.{List, _++_}
 use Prim.Native.Nat.{ℕ}
 use lib.ListN.{length, drop}

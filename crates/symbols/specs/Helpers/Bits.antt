@@ -1,5 +1,4 @@
 -- A symbol of k bits in a byte, above its `low` lowest bits.
--- Assumes nothing.
 use Prim.Native.Nat.{ℕ, _+_, _-_, _*_, _/_, _%_, _^_}
 
 -- that symbol

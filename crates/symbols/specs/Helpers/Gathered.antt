@@ -1,5 +1,4 @@
 -- Symbols on their way into a buffer: whole bytes are stored, and the symbols behind them wait as the digits of a number.
--- Assumes nothing.
 use mathlib.Core.Path.{_≡_}
 use mathlib.Core.List.{List, [], _∷_, _++_}
 use Prim.Native.Nat.{ℕ, zero, suc, _+_, _*_, _/_, _%_, _^_, _≤_, _<_}

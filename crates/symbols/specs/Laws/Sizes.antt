@@ -1,5 +1,4 @@
 -- Bytes for so many symbols, and the room of a buffer.
--- Assumes nothing.
 use mathlib.Core.Path.{_≡_, refl, subst⁻¹}
 use Prim.Native.Nat.{ℕ, suc, _+_, _-_, _*_, _/_, _%_, _≤_, _<_}
 use native.Mathlib.Nat.{le-refl, le-of-lt, le-trans, lt-div-mul-add, div-mul-le-self, lt-of-mul-lt-mul-right, suc-mul, mod-lt, div-add-mod'}

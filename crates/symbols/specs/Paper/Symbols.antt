@@ -1,6 +1,5 @@
 -- Base symbols of k bits in bytes: symbol 0 fills the highest bits of byte 0, and so on down; unused symbols of the last byte
 -- are 0; the room of a buffer is the smaller of the limit and its bytes times 8/k.
--- Assumes nothing.
 use mathlib.Core.Path.{_≡_}
 use mathlib.Core.Logic.{_⊎_}
 use mathlib.Core.Bool.{cond}

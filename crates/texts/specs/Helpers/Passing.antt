@@ -1,5 +1,4 @@
 -- The numbers that pass a test, as a search finds them one after the other.
--- Assumes nothing.
 use mathlib.Core.Bool.{Bool, true, false}
 use mathlib.Core.List.{List, [], _∷_, _++_}
 use Prim.Native.Nat.{ℕ, zero, suc}

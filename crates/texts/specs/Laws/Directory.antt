@@ -1,5 +1,4 @@
 -- The laws of directories over lengths: how many entries, which, and the first wrong one.
--- Assumes nothing.
 use mathlib.Core.Path.{_≡_, refl, sym, ap, _∙_, ap₂}
 use mathlib.Core.List.{List, [], _∷_}
 use mathlib.Core.Logic.{_≢_}

@@ -1,5 +1,4 @@
 -- Searching step by step: the comparison, the list, and that the numbers that pass are the hits.
--- Assumes nothing.
 use mathlib.Core.Path.{_≡_, refl, sym, ap, ap₂, _∙_}
 use mathlib.Core.Logic.{_≢_}
 use mathlib.Core.Bool.{Bool, true, false, cond, _&&_}

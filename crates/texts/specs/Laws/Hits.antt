@@ -1,5 +1,4 @@
 -- Hits are the places where the pattern stands, ascending; and characters stand where their ranks stand.
--- Assumes nothing.
 use mathlib.Core.Path.{_≡_, refl, sym, ap, ap₂, subst, _∙_}
 use mathlib.Core.Logic.{_↔_, _⊎_, inl, inr}
 use mathlib.Core.Bool.{Bool, true, false, cond, _&&_}

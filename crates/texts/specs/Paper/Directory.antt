@@ -1,5 +1,4 @@
 -- A directory, over the lengths of a text's codewords: an entry for each of characters 0, 32, 64, .., the number of that character's first symbol.
--- Assumes nothing.
 use mathlib.Core.List.{List, [], _∷_}
 use mathlib.Core.Bool.{cond}
 use Prim.Native.Nat.{ℕ, suc, _+_, _*_, _/_}

@@ -1,5 +1,4 @@
 -- A text with a run replaced.
--- Assumes nothing.
 use mathlib.Core.List.{List}
 use Prim.Native.Nat.{ℕ}
 use Rattle.ground.specs.Paper.Runs.{over}

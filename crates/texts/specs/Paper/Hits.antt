@@ -1,5 +1,4 @@
 -- Hits, over texts alone: the numbers of the places where the pattern stands, overlapping ones too.
--- Assumes nothing.
 use mathlib.Core.Bool.{Bool, true, false, cond, _&&_}
 use mathlib.Core.List.{List, [], _∷_, _++_}
 use Prim.Native.Nat.{ℕ, suc}

@@ -1,5 +1,4 @@
 -- Numbers and bytes, written: decimal, hexadecimal, and lines of them, each ended by byte 10.
--- Assumes nothing.
 use mathlib.Core.Bool.{cond}
 use mathlib.Core.List.{List, [], _∷_, _++_}
 use Prim.Native.Nat.{ℕ, zero, suc, _+_, _/_, _%_}

@@ -1,5 +1,4 @@
 -- `choosing::choose::choose` meets its contract: the operation's refusals in order, and its acceptance.
--- Assumes nothing.
 use mathlib.Core.Path.{_≡_, sym, ap, _∙_}
 use mathlib.Core.Bool.{true}
 use native.Mathlib.Omega.{arith}

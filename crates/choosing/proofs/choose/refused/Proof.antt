@@ -1,5 +1,4 @@
 -- `choosing::choose::refused` meets its contract.
--- Assumes nothing.
 use borrow.Author.Needs.{needs}
 use Rattle.ground.specs.Paper.Rows.{zeros, padded}
 use Rattle.choosing.specs.Helpers.Answers.{refusedChoice}

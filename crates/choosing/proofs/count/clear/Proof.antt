@@ -1,5 +1,4 @@
 -- `choosing::count::clear` meets its contract.
--- Assumes nothing.
 use mathlib.Core.Path.{_≡_, _∙_, ap, refl}
 use mathlib.Core.List.{List, _++_, append-nil}
 use Prim.Native.Nat.{ℕ, _-_, _≤_}
@@ -17,18 +16,12 @@ Inv-loop counts₀ i₀ counts i = (i ≤ length counts₀) × (counts ≡ repli
 abbrev μ-loop : tie.MeasureT-loop
 μ-loop counts₀ i₀ counts i = length counts₀ - i
 
-loop-holds : tie.Need-loop-holds Inv-loop μ-loop
-loop-holds c = (omega arith, fill-none (c .args .counts .now) 0, refl)
-
 loop-again : tie.Need-loop-again Inv-loop μ-loop
 loop-again c =
     let l = c .before in
     let s = l .before .args .counts .now in
     let i = l .loop .i in
     (omega arith, ap (λ (x : List ℕ). set x i 0) (l .loop .inv .1) ∙ fill-more i 0 s (omega arith), length-set (l .loop .counts) i 0 ∙ l .loop .inv .2)
-
-same-length : tie.Need-same-length Inv-loop μ-loop
-same-length c = c .before .loop .inv .2
 
 returns : tie.Need-returns Inv-loop μ-loop
 unfolding zeros
@@ -40,4 +33,4 @@ returns c =
 
 pub clear-spec : {M : Type 1} → statement M
 clear-spec =
-    tie.close (tie.spec Inv-loop μ-loop loop-holds (λ c. omega arith) (λ c. omega arith) (λ c. omega arith) (λ c. omega arith) loop-again same-length returns)
+    tie.close (tie.spec Inv-loop μ-loop (λ c. (omega arith, fill-none (c .args .counts .now) 0, refl)) (λ c. omega arith) (λ c. omega arith) (λ c. omega arith) (λ c. omega arith) loop-again (λ c. c .before .loop .inv .2) returns)

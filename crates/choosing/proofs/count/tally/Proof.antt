@@ -1,5 +1,4 @@
 -- `choosing::count::tally` meets its contract: the counts are those of the characters passed.
--- Assumes nothing.
 use mathlib.Core.Path.{_≡_, _∙_, ap, sym, refl}
 use mathlib.Core.List.{List}
 use Prim.Native.Nat.{ℕ, _+_, _-_, _≤_, _<_}
@@ -36,15 +35,6 @@ small c = omega (arith, c .shared-slice-known .given (c .before .before .loop .i
 loop-holds : tie.Need-loop-holds Inv-loop μ-loop
 loop-holds c = (omega arith, c .pre .1 ∙ tab-zeros _ 256 occurs-none, ap length (c .pre .1) ∙ length-zeros 256)
 
-cast-b : tie.Need-cast-b Inv-loop μ-loop
-cast-b c = omega (arith, small c)
-
-mul-counts : tie.Need-mul-counts Inv-loop μ-loop
-mul-counts c = omega (arith, small c)
-
-slice-read-counts : tie.Need-slice-read-counts Inv-loop μ-loop
-slice-read-counts c = omega (arith, small (c .before))
-
 -- its count so far
 so-far : (c : tie.After-slice-known Inv-loop μ-loop) → let l = c .before .before .before in getD (l .loop .counts) (byte l) 0 ≡ occurs (take (l .loop .i) (text l)) (byte l)
 so-far c =
@@ -55,12 +45,6 @@ add-counts : tie.Need-add-counts Inv-loop μ-loop
 add-counts c =
     let l = c .before .before .before in
     omega (arith, so-far c, occurs-le (take (l .loop .i) (text l)) (byte l), length-take-le (l .loop .i) (text l) (l .loop .inv .0), l .before .pre .0, limit-fits)
-
-mul-counts-2 : tie.Need-mul-counts-2 Inv-loop μ-loop
-mul-counts-2 c = omega (arith, small (c .before))
-
-slice-write-counts : tie.Need-slice-write-counts Inv-loop μ-loop
-slice-write-counts c = omega (arith, small (c .before))
 
 loop-again : tie.Need-loop-again Inv-loop μ-loop
 loop-again c =
@@ -96,12 +80,12 @@ tally-spec =
     μ-loop
     loop-holds
     (λ c. omega arith)
-    cast-b
-    mul-counts
-    slice-read-counts
+    (λ c. omega (arith, small c))
+    (λ c. omega (arith, small c))
+    (λ c. omega (arith, small (c .before)))
     add-counts
-    mul-counts-2
-    slice-write-counts
+    (λ c. omega (arith, small (c .before)))
+    (λ c. omega (arith, small (c .before)))
     (λ c. omega arith)
     (λ c. omega arith)
     loop-again

@@ -1,5 +1,4 @@
 -- `find::finding::list_hits` meets its contract: before codeword i the hits among the codewords before it are counted and listed.
--- Assumes nothing.
 use mathlib.Core.Path.{_≡_, refl, sym, ap, ap₂, _∙_}
 use mathlib.Core.Logic.{⊎-elim}
 use mathlib.Core.Bool.{Bool}
@@ -10,6 +9,7 @@ use native.Mathlib.Omega.{arith}
 use borrow.Author.Needs.{needs}
 use lib.ListN.{length, drop, getD, set, length-set, length-append}
 use lib.Seq.{getD-take}
+use Rattle.ground.specs.Helpers.Bound.{limitBound}
 use Rattle.stopper.specs.declared.code.Code.{Code}
 use Rattle.symbols.specs.Paper.Symbols.{symbolsOf}
 use Rattle.texts.specs.Paper.Hits.{stands, listed}
@@ -65,7 +65,7 @@ row s = rowUpto (s .args .roll .table .code) (s .args .roll .h) (s .args .buf .n
 
 -- ---- the row of symbols
 
-within : (s : tie.Start Inv-loop2 μ-loop2 Inv-loop μ-loop) → (s .args .roll .h ≤ length (symbolsOf (s .args .roll .table .code .k) (s .args .buf .now))) × (s .args .roll .h ≤ 16777216)
+within : (s : tie.Start Inv-loop2 μ-loop2 Inv-loop μ-loop) → (s .args .roll .h ≤ length (symbolsOf (s .args .roll .table .code .k) (s .args .buf .now))) × (s .args .roll .h ≤ limitBound)
 within s = let d = sound-reads (s .pre) 0 (omega arith) in (d .held, d .small)
 
 row-long : (s : tie.Start Inv-loop2 μ-loop2 Inv-loop μ-loop) → length (row s) ≡ s .args .roll .h
@@ -203,9 +203,6 @@ loop-again c =
     (omega (arith, n .loop-test .taken), next, w .2 ∙ inv .2 ∙ ap length (sym e), w .1 ∙ inv .3 ∙ ap (λ (x : List ℕ). listed x o) (sym e), omega (arith, w .2, inv .4), ap length (w .1) ∙ inv .5))
     (c .if4 .came)
 
-same-length : tie.Need-same-length Inv-loop2 μ-loop2 Inv-loop μ-loop
-same-length c = c .before .loop .inv .5
-
 -- where the first i codewords end codeword i starts
 all-found : (s : tie.Start Inv-loop2 μ-loop2 Inv-loop μ-loop)
     → found (s .args .roll .table .code) (s .args .buf .now) (s .args .roll .h) (s .args .symbols .now) (s .args .roll .n) ≡ wordHits (s .args .roll) (s .args .buf .now) (s .args .symbols .now)
@@ -252,5 +249,5 @@ list-hits-spec =
     (λ c. omega arith)
     (λ c. omega arith)
     loop-again
-    same-length
+    (λ c. c .before .loop .inv .5)
     returns)

@@ -1,6 +1,5 @@
 -- `find::finding::search_sound` meets its contract: a pattern with a character that is not in the table has no hits, and one without has
 -- them where its symbols stand.
--- Assumes nothing.
 use mathlib.Core.Path.{_≡_, sym, ap, _∙_}
 use mathlib.Core.List.{List}
 use Prim.Native.Nat.{ℕ, _≤_}
@@ -56,9 +55,6 @@ array-share-prefix-symbols c =
     let p = c .before .before in
     omega (arith, symbols-long p, length-take (p .spell-pattern .result) (p .spell-pattern .last .1 .1 .1 .1 .0))
 
-slice-aggregate-list-hits : tie.Need-slice-aggregate-list-hits
-slice-aggregate-list-hits c = symbols-long (c .before .before .before)
-
 -- the codewords at whose start they stand are the hits
 hits-are : (e : tie.Else1) → let p = e .before .before in let a = begun p .args in wordHits (a .roll) (a .buf .now) (symbols p) ≡ hits (a .pattern .now) (textOf (a .roll) (a .buf .now))
 hits-are e =
@@ -86,7 +82,7 @@ search-sound-spec =
     spell-pattern-requires
     returns
     array-share-prefix-symbols
-    slice-aggregate-list-hits
+    (λ c. symbols-long (c .before .before .before))
     (λ c κs. search needs)
     (λ c. search needs)
     returns-2)

@@ -1,5 +1,4 @@
 -- `find::finding::spell_pattern` meets its contract: the characters passed are in the table, and their symbols stand at the front.
--- Assumes nothing.
 use mathlib.Core.Path.{_≡_, sym, ap, ap₂, _∙_}
 use mathlib.Core.List.{List, [], _++_, append-assoc}
 use Prim.Native.Nat.{ℕ, _+_, _-_, _*_, _≤_, _<_}
@@ -100,22 +99,10 @@ rank-is c l e = ap (λ (x : List ℕ). getD x (character c) 0) e ∙ tab-at (ran
 spelt : (l : tie.At-loop Inv-loop μ-loop) → let s = entered l in Spelling (s .args .code) (row s) (s .args .pattern .now) (l .loop .symbols) (l .loop .p) (l .loop .i)
 spelt l = l .loop .inv .3 (row (entered l)) (row-long (entered l)) (l .before .ranks-of .ensures)
 
-ranks-of-requires : tie.Need-ranks-of-requires Inv-loop μ-loop
-ranks-of-requires c κs = c .before .before .pre .1
-
 loop-holds : tie.Need-loop-holds Inv-loop μ-loop
 loop-holds c =
     let a = c .before .before .before .args in
     (omega arith, omega arith, c .before .before .before .pre .3, λ l e r. start (a .code) l (a .pattern .now) (a .symbols .now))
-
-cast-rank : tie.Need-cast-rank Inv-loop μ-loop
-cast-rank c = omega (arith, byte c)
-
-mul-rank : tie.Need-mul-rank Inv-loop μ-loop
-mul-rank c = omega (arith, byte c)
-
-array-read-rank : tie.Need-array-read-rank Inv-loop μ-loop
-array-read-rank c = omega (arith, byte c)
 
 same-length : tie.Need-same-length Inv-loop μ-loop
 same-length c = let l = c .before .before .before in l .loop .inv .2 ∙ sym (entered l .pre .3)
@@ -171,9 +158,6 @@ loop-again c =
           (u .spell-word .ensures .1),
     )
 
-same-length-2 : tie.Need-same-length-2 Inv-loop μ-loop
-same-length-2 c = c .before .loop .inv .2 ∙ sym (entered (c .before) .pre .3)
-
 returns-2 : tie.Need-returns-2 Inv-loop μ-loop
 returns-2 c =
     let l = c .before in
@@ -185,12 +169,12 @@ spell-pattern-spec =
     (tie.spec
     Inv-loop
     μ-loop
-    ranks-of-requires
+    (λ c κs. c .before .before .pre .1)
     loop-holds
     (λ c. omega arith)
-    cast-rank
-    mul-rank
-    array-read-rank
+    (λ c. omega (arith, byte c))
+    (λ c. omega (arith, byte c))
+    (λ c. omega (arith, byte c))
     same-length
     returns
     (λ c. omega arith)
@@ -203,5 +187,5 @@ spell-pattern-spec =
     (λ c. omega arith)
     (λ c. omega arith)
     loop-again
-    same-length-2
+    (λ c. c .before .loop .inv .2 ∙ sym (entered (c .before) .pre .3))
     returns-2)

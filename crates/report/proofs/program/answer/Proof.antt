@@ -1,5 +1,4 @@
 -- `report::program::answer` meets its contract.
--- Assumes nothing.
 use mathlib.Core.Path.{_≡_, refl, sym, ap, ap₂, subst, _∙_}
 use mathlib.Core.Logic.{inl}
 use mathlib.Core.List.{List}
@@ -76,9 +75,6 @@ returns-2 c =
     let z : _≡_ {A = ℕ} 0 1 = cc (c .enum-told2 .given .1, found s) in
     absurd (omega arith)
 
-bytes-for-requires : tie.Need-bytes-for-requires
-bytes-for-requires c κs = inl refl
-
 -- ---- what is lent to be written
 
 abbrev searched : tie.After-bytes-for → tie.After-search
@@ -132,15 +128,6 @@ whole b =
     ∙ hits-are (pattern p) (text p) (begun p .pre .1) (begun p .pre .0) (packing p) (accepted s) (length-replicate {A = ℕ} 16384 0) (s .search .ensures))
     ∙ sym (lines-are (pattern p) (text p) (begun p .pre .1) (begun p .pre .0) (packing p) (accepted s))
 
-array-share-prefix-buf : tie.Need-array-share-prefix-buf
-array-share-prefix-buf c = bytes-fit (c .before)
-
-slice-aggregate-lines-out : tie.Need-slice-aggregate-lines-out
-slice-aggregate-lines-out c = sym (length-take-le _ _ (bytes-fit (c .before .before)))
-
-array-share-prefix-hits : tie.Need-array-share-prefix-hits
-array-share-prefix-hits c = hits-fit (c .before .before)
-
 slice-aggregate-lines-out-2 : tie.Need-slice-aggregate-lines-out-2
 slice-aggregate-lines-out-2 c = sym (length-take-le _ _ (hits-fit (c .before .before .before)))
 
@@ -178,11 +165,11 @@ answer-spec =
     (λ c. search needs)
     returns-2
     (λ c. search needs)
-    bytes-for-requires
+    (λ c κs. inl refl)
     (λ c. search needs)
-    array-share-prefix-buf
-    slice-aggregate-lines-out
-    array-share-prefix-hits
+    (λ c. bytes-fit (c .before))
+    (λ c. sym (length-take-le _ _ (bytes-fit (c .before .before))))
+    (λ c. hits-fit (c .before .before))
     slice-aggregate-lines-out-2
     lines-out-requires
     (λ c. search needs)

@@ -1,5 +1,4 @@
 -- `report::program::line_end` meets its contract: before place i no byte is 10.
--- Assumes nothing.
 use mathlib.Core.Path.{_≡_, sym, _∙_}
 use Prim.Native.Nat.{_+_, _-_, _≤_}
 use native.Mathlib.Numerals.{add-one}
@@ -17,9 +16,6 @@ Inv-loop input i₀ i = (i ≤ length input) × (i + length (givenPattern (drop 
 
 abbrev μ-loop : tie.MeasureT-loop
 μ-loop input i₀ i = length input - i
-
-loop-holds : tie.Need-loop-holds Inv-loop μ-loop
-loop-holds c = (omega arith, zero-add _)
 
 returns : tie.Need-returns Inv-loop μ-loop
 returns c =
@@ -46,7 +42,7 @@ line-end-spec =
     (tie.spec
     Inv-loop
     μ-loop
-    loop-holds
+    (λ c. (omega arith, zero-add _))
     (λ c. search needs)
     returns
     (λ c. search needs)

@@ -1,5 +1,4 @@
 -- `report::program::report` meets its contract.
--- Assumes nothing.
 use mathlib.Core.Path.{_≡_, sym, ap, ap₂, _∙_}
 use mathlib.Core.Bool.{true}
 use mathlib.Core.List.{List, _++_}
@@ -46,9 +45,6 @@ good-is g = g .good-pattern .ensures ∙ ap goodPattern (pattern-lent (g .before
 
 good : (e : tie.Else1) → let l = e .before .before .before in goodPattern (givenPattern (input l)) ≡ true
 good e = sym (good-is (e .before)) ∙ not-false _ (e .if1 .left)
-
-slice-aggregate-good-pattern : tie.Need-slice-aggregate-good-pattern
-slice-aggregate-good-pattern c = sym (length-take-le _ _ (c .before .line-end .ensures .0))
 
 returns : tie.Need-returns
 returns c =
@@ -108,7 +104,7 @@ report-spec =
     tie.close
     (tie.spec
     (λ c κs. search needs)
-    slice-aggregate-good-pattern
+    (λ c. sym (length-take-le _ _ (c .before .line-end .ensures .0)))
     (λ c κs. search needs)
     (λ c κs. search needs)
     returns

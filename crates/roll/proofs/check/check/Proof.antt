@@ -1,5 +1,4 @@
 -- `roll::check::check` meets its contract.
--- Assumes nothing.
 use mathlib.Core.Path.{_≡_, sym, ap, _∙_}
 use mathlib.Core.Bool.{true}
 use Prim.Native.Nat.{ℕ, _+_, _*_, _≤_}
@@ -71,24 +70,15 @@ returns : tie.Need-returns
 unfolding checkSays
 returns c = record { says = rw (sym (c .before .good-table .ensures) ∙ not-true _ (c .if1 .taken)) }
 
-room-of-requires : tie.Need-room-of-requires
-room-of-requires c κs = width (c .before .before)
-
 returns-2 : tie.Need-returns-2
 unfolding checkSays
 returns-2 c = record { says = rw (good (c .before .before .before .before), lt-ltb _ _ (rw (c .before .room-of .ensures) at (c .if2 .taken))) }
-
-read-all-requires : tie.Need-read-all-requires
-read-all-requires c κs = reads (c .before)
 
 returns-3 : tie.Need-returns-3
 returns-3 c =
     let w = c .before .before .before in
     let f = fitted w in
     record { says = sym (check-7 _ _ (good (tabled f)) (fits f) (whole w) (c .if3 .taken)) }
-
-unused-requires : tie.Need-unused-requires
-unused-requires c κs = width (tabled (fitted (c .before .before .before)))
 
 add-all-zero : tie.Need-add-all-zero
 add-all-zero c =
@@ -130,15 +120,15 @@ check-spec =
     (λ c κs. search needs)
     returns
     (λ c. search needs)
-    room-of-requires
+    (λ c κs. width (c .before .before))
     returns-2
     (λ c. search needs)
-    read-all-requires
+    (λ c κs. reads (c .before))
     (λ c. search needs)
     (λ c. search needs)
     (λ c. search needs)
     returns-3
-    unused-requires
+    (λ c κs. width (tabled (fitted (c .before .before .before))))
     add-all-zero
     all-zero-requires
     returns-4

@@ -1,5 +1,4 @@
 -- `roll::edit::change` meets its contract.
--- Assumes nothing.
 use mathlib.Core.Path.{_≡_, refl, subst}
 use Prim.Native.Nat.{ℕ, _-_, _*_}
 use native.Mathlib.Omega.{arith}
@@ -44,9 +43,6 @@ located r =
 
 room-of-requires : tie.Need-room-of-requires
 room-of-requires c κs = sound-width (c .before .before .before .before .before .before .before .before .before .before .before .pre .0)
-
-sub-space : tie.Need-sub-space
-sub-space c = omega (arith, c .room-of .ensures, first-room (located c))
 
 measure-requires : tie.Need-measure-requires
 unfolding zeros
@@ -112,7 +108,7 @@ change-spec =
     (λ c κs. search needs)
     (λ c κs. search needs)
     room-of-requires
-    sub-space
+    (λ c. omega (arith, c .room-of .ensures, first-room (located c)))
     (λ c. search needs)
     (λ c. search needs)
     measure-requires

@@ -1,5 +1,4 @@
 -- `roll::edit::check_directory` meets its contract.
--- Assumes nothing.
 use borrow.Author.Needs.{needs}
 use borrow.Author.Tests.{lt-ltb, le-ltb}
 use Rattle.ground.specs.Laws.Answers.{says-as}
@@ -24,9 +23,6 @@ returns : tie.Need-returns
 unfolding directorySays
 returns c = let e = c .enum-told2 .given .1 in record { says = rw (says-as (c .before .before .check .ensures .says) e, e) }
 
-first-wrong-requires : tie.Need-first-wrong-requires
-first-wrong-requires c κs = sound c
-
 returns-2 : tie.Need-returns-2
 unfolding directorySays
 returns-2 c =
@@ -50,7 +46,7 @@ check-directory-spec =
     (λ c. search needs)
     (λ c. search needs)
     returns
-    first-wrong-requires
+    (λ c κs. sound c)
     (λ c κs. search needs)
     returns-2
     returns-3)

@@ -1,13 +1,13 @@
 -- `roll::edit::put_in` meets its contract.
--- Assumes nothing.
 use mathlib.Core.Path.{_≡_, sym, ap, _∙_}
 use mathlib.Core.List.{[], _∷_}
-use Prim.Native.Nat.{ℕ, _+_, _-_, _≤_, _<_}
+use Prim.Native.Nat.{ℕ, _+_, _-_, _≤_, _<_, _*_}
 use native.Mathlib.Omega.{arith}
 use borrow.Author.Needs.{needs}
 use borrow.Author.Tests.{lt-ltb, le-ltb}
 use lib.Dec.{ltb}
 use lib.ListN.{length}
+use Rattle.ground.specs.Helpers.Bound.{limitBound}
 use Rattle.ground.specs.Paper.Refusals.{refuse, refused, judged}
 use Rattle.symbols.specs.Paper.Symbols.{room}
 use Rattle.texts.specs.Paper.Directory.{entries}
@@ -28,7 +28,7 @@ begun r = r .before .before .before .before .before .before .before .before
 rest : (r : tie.After-room-of) → let a = begun r .args in r .room-of .result - (a .run .first + a .taken) ≡ room (a .roll .table .code .k) (length (a .buf .now)) - (a .run .first + a .taken)
 rest r = let a = begun r .args in ap (λ (n : ℕ). n - (a .run .first + a .taken)) (r .room-of .ensures)
 
-few : (r : tie.After-room-of) → let a = begun r .args in a .run .start + length (a .text .now) + (a .roll .n - a .run .end) ≤ 50331648
+few : (r : tie.After-room-of) → let a = begun r .args in a .run .start + length (a .text .now) + (a .roll .n - a .run .end) ≤ 3 * limitBound
 few r = let p = begun r .pre in count-few (p .0) (p .1) (p .2) (rest r)
 
 sub-if1 : tie.Need-sub-if1
@@ -44,9 +44,6 @@ within : (o : tie.After-first-over) → let a = begun (roomed o) .args in
 within o =
     let s = begun (roomed o) in
     over-tail-within (s .pre .0) (s .pre .1) (s .pre .2) (rest (roomed o)) (o .before .before .if1 .taken) (o .first-over .ensures)
-
-add-refused : tie.Need-add-refused
-add-refused c = omega (arith, few (roomed (c .before)))
 
 add-refused-2 : tie.Need-add-refused-2
 add-refused-2 c =
@@ -118,7 +115,7 @@ put-in-spec =
     (λ c. search needs)
     sub-if1
     (λ c κs. search needs)
-    add-refused
+    (λ c. omega (arith, few (roomed (c .before))))
     (λ c. search needs)
     add-refused-2
     (λ c κs. search needs)

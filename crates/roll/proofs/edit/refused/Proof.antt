@@ -1,5 +1,4 @@
 -- `roll::edit::refused` meets its contract.
--- Assumes nothing.
 use mathlib.Core.Path.{refl}
 use Rattle.roll.specs.Helpers.Refused.{refusedEdit}
 use Rattle.roll.proofs.edit.refused.Statement.{statement}

@@ -1,5 +1,4 @@
 -- `roll::pack::pack` meets its contract.
--- Assumes nothing.
 use mathlib.Core.Path.{_≡_, refl, sym, subst, _∙_}
 use mathlib.Core.Bool.{true}
 use mathlib.Core.List.{List}

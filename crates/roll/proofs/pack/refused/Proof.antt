@@ -1,5 +1,4 @@
 -- `roll::pack::refused` meets its contract.
--- Assumes nothing.
 use mathlib.Core.Path.{refl}
 use Rattle.roll.specs.Helpers.Refused.{refusedPack}
 use Rattle.roll.proofs.pack.refused.Statement.{statement}

@@ -1,5 +1,4 @@
 -- `roll::search::search` meets its contract.
--- Assumes nothing.
 use mathlib.Core.Path.{sym, _∙_}
 use borrow.Author.Needs.{needs}
 use borrow.Author.Tests.{not-true, not-false}
@@ -39,9 +38,6 @@ returns-2 c =
     let g = c .before in
     search-refused (rw (sound-accepted (sound (g .before)), sym (g .good-pattern .ensures) ∙ not-true _ (c .if1 .taken)))
 
-search-sound-requires : tie.Need-search-sound-requires
-search-sound-requires c κs = (sound (c .before .before .before), good (c .before))
-
 returns-3 : tie.Need-returns-3
 returns-3 c =
     let u = c .before .before in
@@ -58,6 +54,6 @@ search-spec =
     (λ c. search needs)
     (λ c κs. search needs)
     returns-2
-    search-sound-requires
+    (λ c κs. (sound (c .before .before .before), good (c .before)))
     (λ c. search needs)
     returns-3)

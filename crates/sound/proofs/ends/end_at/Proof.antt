@@ -1,5 +1,4 @@
 -- `sound::ends::end_at` meets its contract: before symbol q, at place i of the codeword, its end is yet to come, and is as far as it was from p.
--- Assumes nothing.
 use mathlib.Core.Path.{_≡_, refl, ap, _∙_}
 use mathlib.Core.List.{List}
 use Prim.Native.Nat.{ℕ, suc, _+_, _-_, _<_}
@@ -60,18 +59,12 @@ here c =
 inside : (l : tie.At-loop Inv-loop μ-loop) → l .loop .q < length (row (entered l))
 inside l = let s = entered l in stops-inside (stoppers (s .args .code)) (l .loop .inv .0) (row s) (l .loop .q) (l .loop .inv .2)
 
-loop-holds : tie.Need-loop-holds Inv-loop μ-loop
-loop-holds c = (0, refl, c .before .pre .enough, refl)
-
 get-requires : tie.Need-get-requires Inv-loop μ-loop
 get-requires c κs = let s = entered (c .before) in (code-width (s .args .code) (s .pre .good), inside (c .before))
 
 add-q : tie.Need-add-q Inv-loop μ-loop
 unfolding endFrom
 add-q c = let l = c .before .before .before .before in omega (arith, on (c .before) .1, l .loop .inv .3, entered l .pre .counts)
-
-loop-less : tie.Need-loop-less Inv-loop μ-loop
-loop-less c = omega (arith, inside (c .before .before .before .before))
 
 loop-again : tie.Need-loop-again Inv-loop μ-loop
 loop-again c =
@@ -93,13 +86,13 @@ end-at-spec =
     (tie.spec
     Inv-loop
     μ-loop
-    loop-holds
+    (λ c. (0, refl, c .before .pre .enough, refl))
     (λ c κs. search needs)
     get-requires
     (λ c. search needs)
     (λ c κs. search needs)
     add-q
-    loop-less
+    (λ c. omega (arith, inside (c .before .before .before .before)))
     loop-again
     add-result
     returns)

@@ -1,5 +1,4 @@
 -- `sound::ends::pass_ends` meets its contract: behind symbol q so many codewords are left.
--- Assumes nothing.
 use mathlib.Core.Path.{_≡_, sym, ap, _∙_}
 use mathlib.Core.Logic.{⊎-elim}
 use mathlib.Core.List.{List, [], _∷_}
@@ -78,24 +77,6 @@ symbol-passed c =
     (λ w. rw (w .1) (passing-continuer (l .loop .inv) (n .loop-test .taken) (omega (arith, w .0 .left, e, f))))
     (c .if3 .came)
 
-per-byte-requires : tie.Need-per-byte-requires Inv-loop μ-loop
-per-byte-requires c κs = good-width (c .before .before .before)
-
-loop-holds : tie.Need-loop-holds Inv-loop μ-loop
-loop-holds c = passing-first (c .before .before .before .before .pre .0)
-
-place-in-byte-requires : tie.Need-place-in-byte-requires Inv-loop μ-loop
-place-in-byte-requires c κs = good-width (entered (c .before))
-
-byte-of-requires : tie.Need-byte-of-requires Inv-loop μ-loop
-byte-of-requires c κs = good-width (entered (c .before .before .before))
-
-shared-slice-read-ended : tie.Need-shared-slice-read-ended Inv-loop μ-loop
-shared-slice-read-ended c = byte-inside (c .before)
-
-cast-ended : tie.Need-cast-ended Inv-loop μ-loop
-cast-ended c = omega (arith, small c)
-
 shared-slice-read-ended-2 : tie.Need-shared-slice-read-ended-2 Inv-loop μ-loop
 shared-slice-read-ended-2 c =
     let k = c .before in
@@ -124,14 +105,8 @@ get-requires c κs =
 add-q-2 : tie.Need-add-q-2 Inv-loop μ-loop
 add-q-2 c = let p = symbol-passed c in omega (arith, passing-upto p, p .counts)
 
-loop-less-2 : tie.Need-loop-less-2 Inv-loop μ-loop
-loop-less-2 c = omega (arith, passing-upto (symbol-passed c))
-
 loop-again-2 : tie.Need-loop-again-2 Inv-loop μ-loop
 loop-again-2 = symbol-passed
-
-returns : tie.Need-returns Inv-loop μ-loop
-returns c = passing-last (c .before .loop .inv) (omega arith)
 
 pub pass-ends-spec : {M : Type 1} → statement M
 pass-ends-spec =
@@ -140,12 +115,12 @@ pass-ends-spec =
     Inv-loop
     μ-loop
     (λ c κs. search needs)
-    per-byte-requires
-    loop-holds
-    place-in-byte-requires
-    byte-of-requires
-    shared-slice-read-ended
-    cast-ended
+    (λ c κs. good-width (c .before .before .before))
+    (λ c. passing-first (c .before .before .before .before .pre .0))
+    (λ c κs. good-width (entered (c .before)))
+    (λ c κs. good-width (entered (c .before .before .before)))
+    (λ c. byte-inside (c .before))
+    (λ c. omega (arith, small c))
     shared-slice-read-ended-2
     cast-ended-2
     (λ c. search needs)
@@ -156,6 +131,6 @@ pass-ends-spec =
     (λ c. search needs)
     (λ c. search needs)
     add-q-2
-    loop-less-2
+    (λ c. omega (arith, passing-upto (symbol-passed c)))
     loop-again-2
-    returns)
+    (λ c. passing-last (c .before .loop .inv) (omega arith)))

@@ -1,5 +1,4 @@
 -- `sound::ends::pass_first` meets its contract.
--- Assumes nothing.
 use borrow.Author.Needs.{needs}
 use Rattle.sound.specs.Helpers.Ends.{endOf, endFrom}
 use Rattle.sound.proofs.ends.pass_first.Statement.{statement}

@@ -1,5 +1,4 @@
 -- `sound::ends::stops_by_byte` meets its contract: the bytes below b are counted.
--- Assumes nothing.
 use mathlib.Core.Path.{_≡_, sym, ap, _∙_}
 use mathlib.Core.Bool.{cond}
 use mathlib.Core.List.{List, [], _∷_}
@@ -39,9 +38,6 @@ loop-holds : tie.Need-loop-holds Inv-loop μ-loop
 unfolding zeros
 loop-holds c = (omega arith, tab-zeros (counted (c .args .code) 0) 256 (λ b. rw (le-ltb b 0 (omega arith))))
 
-stops-in-requires : tie.Need-stops-in-requires Inv-loop μ-loop
-stops-in-requires c κs = c .before .before .pre
-
 loop-again : tie.Need-loop-again Inv-loop μ-loop
 loop-again c =
     let n = c .before in
@@ -73,7 +69,7 @@ stops-by-byte-spec =
     μ-loop
     loop-holds
     (λ c. omega arith)
-    stops-in-requires
+    (λ c κs. c .before .before .pre)
     (λ c. omega arith)
     (λ c. omega arith)
     (λ c. omega arith)

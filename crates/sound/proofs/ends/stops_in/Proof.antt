@@ -1,5 +1,4 @@
 -- `sound::ends::stops_in` meets its contract: the codewords that end before symbol i are counted.
--- Assumes nothing.
 use mathlib.Core.Path.{_≡_, ap, _∙_}
 use mathlib.Core.Logic.{⊎-elim}
 use mathlib.Core.List.{List, [], _∷_}
@@ -39,12 +38,6 @@ row s = symbolsOf (s .args .code .k) (s .args .b ∷ [])
 
 long : (l : tie.At-loop Inv-loop μ-loop) → length (row (entered l)) ≡ l .before .per-byte .result
 long l = let a = entered l .args in omega (arith, byte-length (a .code .k) (a .b), l .before .per-byte .ensures)
-
-per-byte-requires : tie.Need-per-byte-requires Inv-loop μ-loop
-per-byte-requires c κs = good-width (c .before)
-
-loop-holds : tie.Need-loop-holds Inv-loop μ-loop
-loop-holds c = zero-add _
 
 get-requires : tie.Need-get-requires Inv-loop μ-loop
 get-requires c κs = let l = c .before .before in (good-width (entered l), omega (arith, long l, c .before .loop-test .taken))
@@ -89,8 +82,8 @@ stops-in-spec =
     Inv-loop
     μ-loop
     (λ c κs. search needs)
-    per-byte-requires
-    loop-holds
+    (λ c κs. good-width (c .before))
+    (λ c. zero-add _)
     (λ c. search needs)
     get-requires
     (λ c. search needs)

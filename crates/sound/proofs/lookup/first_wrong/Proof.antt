@@ -1,6 +1,5 @@
 -- `sound::lookup::first_wrong` meets its contract: before entry e the symbol is where the codeword of character j starts, and the
 -- entries before it are right.
--- Assumes nothing.
 use mathlib.Core.Path.{_≡_, refl, sym, ap, subst, _∙_}
 use mathlib.Core.List.{List}
 use Prim.Native.Nat.{ℕ, _-_, _*_, _≤_, _<_}
@@ -74,9 +73,6 @@ entry-is c =
     let l = n .before in
     stops-entry (entered l .args .roll .table .code) (entered l .args .buf .now) (last l) (l .loop .e) (n .loop-test .taken) ∙ sym (passed c)
 
-stops-by-byte-requires : tie.Need-stops-by-byte-requires Inv-loop μ-loop
-stops-by-byte-requires c κs = sound-code (c .before .before .before .before .pre)
-
 loop-holds : tie.Need-loop-holds Inv-loop μ-loop
 unfolding endFrom endOf
 loop-holds c = (omega arith, omega arith, refl, refl)
@@ -136,7 +132,7 @@ first-wrong-spec =
     (tie.spec
     Inv-loop
     μ-loop
-    stops-by-byte-requires
+    (λ c κs. sound-code (c .before .before .before .before .pre))
     (λ c κs. search needs)
     loop-holds
     returns

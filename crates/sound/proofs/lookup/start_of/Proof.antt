@@ -1,5 +1,4 @@
 -- `sound::lookup::start_of` meets its contract: from the entry on, codeword i starts at the symbol in hand.
--- Assumes nothing.
 use mathlib.Core.Path.{_≡_, sym, ap, _∙_}
 use Prim.Native.Nat.{ℕ, _-_, _*_, _/_, _≤_}
 use native.Mathlib.Omega.{arith}

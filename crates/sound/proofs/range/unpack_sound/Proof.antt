@@ -1,6 +1,5 @@
 -- `sound::range::unpack_sound` meets its contract: before character start + i the symbol is where its codeword starts, and the
 -- characters before it are written.
--- Assumes nothing.
 use mathlib.Core.Path.{_≡_, refl, sym, ap, ap₂, _∙_}
 use mathlib.Core.List.{List, _++_, map}
 use Prim.Native.Nat.{ℕ, suc, _+_, _-_, _≤_, _<_}
@@ -117,21 +116,12 @@ same l =
 pass-first-requires : tie.Need-pass-first-requires Inv-loop μ-loop
 pass-first-requires c κs = let s = begun c in sound-first (s .pre .0) (s .args .start) (omega (arith, s .pre .1, s .pre .2))
 
-loop-holds : tie.Need-loop-holds Inv-loop μ-loop
-loop-holds c = (omega arith, rw add-zero (first-is c), refl)
-
-sub-loop : tie.Need-sub-loop Inv-loop μ-loop
-sub-loop c = entered c .pre .1
-
 codeword-at-requires : tie.Need-codeword-at-requires Inv-loop μ-loop
 unfolding readingFrom lengthsOf
 codeword-at-requires c κs =
     let l = c .before in
     let s = entered l in
     sound-reads (s .pre .0) (l .loop .p) (rw (l .loop .inv .1) (sound-start (s .pre .0) (s .args .start + l .loop .i)))
-
-same-length : tie.Need-same-length Inv-loop μ-loop
-same-length c = same (c .before .before .before .before)
 
 returns : tie.Need-returns Inv-loop μ-loop
 returns c =
@@ -162,9 +152,6 @@ loop-again c =
     let s = entered l in
     (omega (arith, n .loop-test .taken), rw (add-one, add-suc) (next-is (c .before)), written (c .before))
 
-same-length-2 : tie.Need-same-length-2 Inv-loop μ-loop
-same-length-2 c = same (c .before)
-
 returns-2 : tie.Need-returns-2 Inv-loop μ-loop
 unfolding textOf readingFrom
 returns-2 c =
@@ -182,12 +169,12 @@ unpack-sound-spec =
     (λ c. search needs)
     (λ c. search needs)
     pass-first-requires
-    loop-holds
-    sub-loop
+    (λ c. (omega arith, rw add-zero (first-is c), refl))
+    (λ c. entered c .pre .1)
     codeword-at-requires
     (λ c. search needs)
     (λ c. search needs)
-    same-length
+    (λ c. same (c .before .before .before .before))
     returns
     (λ c. search needs)
     array-read-out
@@ -195,5 +182,5 @@ unpack-sound-spec =
     add-i
     (λ c. omega arith)
     loop-again
-    same-length-2
+    (λ c. same (c .before))
     returns-2)

@@ -1,5 +1,4 @@
 -- `sound::reading::codeword_at` meets its contract: `Seen` of the symbols up to h.
--- Assumes nothing.
 use mathlib.Core.Path.{_≡_, sym, ap, _∙_}
 use mathlib.Core.List.{List}
 use Prim.Native.Nat.{ℕ, suc, _+_, _-_, _≤_, _<_}

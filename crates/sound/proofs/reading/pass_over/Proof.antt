@@ -1,5 +1,4 @@
 -- `sound::reading::pass_over` meets its contract: what is passed over from symbol `at` on is `left` codewords.
--- Assumes nothing.
 use mathlib.Core.Path.{_≡_, refl, sym, _∙_}
 use mathlib.Core.List.{List}
 use Prim.Native.Nat.{ℕ, _≤_}
@@ -23,9 +22,6 @@ abbrev μ-loop : tie.MeasureT-loop
 
 abbrev row : (c : tie.Start Inv-loop μ-loop) → List ℕ
 row c = rowUpto (c .args .code) (c .args .h) (c .args .buf .now)
-
-loop-holds : tie.Need-loop-holds Inv-loop μ-loop
-loop-holds c = (c .before .pre .upto, refl)
 
 codeword-at-requires : tie.Need-codeword-at-requires Inv-loop μ-loop
 codeword-at-requires c κs =
@@ -62,7 +58,7 @@ pass-over-spec =
     (tie.spec
     Inv-loop
     μ-loop
-    loop-holds
+    (λ c. (c .before .pre .upto, refl))
     codeword-at-requires
     (λ c. search needs)
     (λ c. omega arith)

@@ -1,5 +1,4 @@
 -- `sound::reading::read_all` meets its contract: what is scanned is what the codewords from symbol p on add to the `count` before.
--- Assumes nothing.
 use mathlib.Core.Path.{_≡_, sym, _∙_}
 use mathlib.Core.List.{List}
 use Prim.Native.Nat.{ℕ, _-_, _≤_}
@@ -36,9 +35,6 @@ stands c =
     let l = f .before .before in
     let s = l .before .before in
     found-word (s .args .code) (s .pre .good) (s .args .sigma) (row s) (sym (c .found .given .1) ∙ f .codeword-at .ensures) (omega (arith, long s, l .loop .inv .0))
-
-loop-holds : tie.Need-loop-holds Inv-loop μ-loop
-loop-holds c = (omega arith, omega arith, scan-first _ _ _)
 
 codeword-at-requires : tie.Need-codeword-at-requires Inv-loop μ-loop
 codeword-at-requires c κs =
@@ -77,7 +73,7 @@ read-all-spec =
     (tie.spec
     Inv-loop
     μ-loop
-    loop-holds
+    (λ c. (omega arith, omega arith, scan-first _ _ _))
     codeword-at-requires
     (λ c. search needs)
     (λ c. omega arith)

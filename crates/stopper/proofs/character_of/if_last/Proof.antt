@@ -1,5 +1,4 @@
 -- `stopper::character_of::if_last` meets its contract.
--- Assumes nothing.
 use borrow.Author.Tests.{lt-ltb, le-ltb}
 use Rattle.stopper.specs.Helpers.Answers.{ifLast}
 use Rattle.stopper.proofs.character_of.if_last.Statement.{statement}

@@ -1,5 +1,4 @@
 -- `stopper::character_of::rank_of_word` meets its contract: `Seen` of the symbols up to the length.
--- Assumes nothing.
 use mathlib.Core.Path.{_≡_, sym, _∙_}
 use mathlib.Core.List.{List}
 use Prim.Native.Nat.{ℕ, _-_, _≤_, _<_}

@@ -1,5 +1,4 @@
 -- `stopper::code::good_width` meets its contract.
--- Assumes nothing.
 use borrow.Author.Tests.{eq-eqb, ne-eqb}
 use Rattle.stopper.specs.Paper.Table.{goodWidth}
 use Rattle.stopper.proofs.code.good_width.Statement.{statement}

@@ -1,5 +1,4 @@
 -- `stopper::code::place_of` meets its contract: `Powers`, at the code's stopper counts.
--- Assumes nothing.
 use mathlib.Core.Path.{_≡_, ap, ap₂, _∙_}
 use Prim.Native.Nat.{ℕ, _+_, _-_, _*_, _<_}
 use native.Mathlib.Nat.{mul-pos}
@@ -32,9 +31,6 @@ ended c rank s i short rows g a h =
     = ap (λ (n : ℕ). rank - n) (a .count ∙ ap (shorter (base c) (stoppers c)) p) in
     ap₂ {C = Place} (λ (x y : ℕ). record { at = x; q = y }) p q
 
-base-of-requires : tie.Need-base-of-requires Inv-loop μ-loop
-base-of-requires c κs = c .pre .0
-
 loop-holds : tie.Need-loop-holds Inv-loop μ-loop
 loop-holds c =
     let a = c .before .before in
@@ -60,9 +56,6 @@ loop-again c =
     let i = l .loop .inv in
     (i .0, i .1, rw (i .1) (again (code-good _ (i .0)) (i .2) (c .before .loop-test .taken) (c .stoppers-at2 .ensures)))
 
-sub-t11 : tie.Need-sub-t11 Inv-loop μ-loop
-sub-t11 c = c .before .loop .inv .2 .low
-
 returns : tie.Need-returns Inv-loop μ-loop
 returns c =
     let l = c .before in
@@ -74,7 +67,7 @@ place-of-spec =
     (tie.spec
     Inv-loop
     μ-loop
-    base-of-requires
+    (λ c κs. c .pre .0)
     (λ c κs. search needs)
     loop-holds
     mul-loop
@@ -87,5 +80,5 @@ place-of-spec =
     (λ c κs. search needs)
     loop-less
     loop-again
-    sub-t11
+    (λ c. c .before .loop .inv .2 .low)
     returns)

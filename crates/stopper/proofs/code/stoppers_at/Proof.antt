@@ -1,5 +1,4 @@
 -- `stopper::code::stoppers_at` meets its contract: the one function that opens `stoppers`.
--- Assumes nothing.
 use mathlib.Core.Path.{refl}
 use borrow.Author.Needs.{needs}
 use Rattle.stopper.specs.Paper.Table.{stoppers}

@@ -1,5 +1,4 @@
 -- `stopper::codeword_of::codeword_of` meets its contract.
--- Assumes nothing.
 use mathlib.Core.Path.{_≡_, sym, ap₂, _∙_}
 use mathlib.Core.Bool.{Bool, true}
 use Prim.Native.Nat.{_<_}

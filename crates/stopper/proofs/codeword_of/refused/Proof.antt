@@ -1,5 +1,4 @@
 -- `stopper::codeword_of::refused` meets its contract.
--- Assumes nothing.
 use mathlib.Core.Path.{refl}
 use Rattle.ground.specs.Paper.Rows.{zeros, padded}
 use Rattle.stopper.specs.Helpers.Answers.{refusedCoded}

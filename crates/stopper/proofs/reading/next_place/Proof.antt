@@ -1,5 +1,4 @@
 -- `stopper::reading::next_place` meets its contract.
--- Assumes nothing.
 use borrow.Author.Needs.{needs}
 use borrow.Author.Tests.{lt-ltb, le-ltb}
 use Rattle.stopper.specs.Helpers.State.{nearer}

@@ -1,5 +1,4 @@
 -- `stopper::reading::read_symbol` meets its contract: each way through it is a case of `stepped`.
--- Assumes nothing.
 use mathlib.Core.Path.{_≡_, refl, sym, ap, _∙_}
 use Prim.Native.Nat.{ℕ}
 use native.Mathlib.Omega.{arith}
@@ -22,15 +21,6 @@ rank-small c = small (c .before) _ refl
 
 next-small : (c : tie.After-base-of) → Sizes (c .base-of .result) (c .before .before .before .before .stoppers-at .result) (c .before .before .before .before .before .args .r)
 next-small c = small (c .before .before .before .before) _ (c .base-of .ensures)
-
-mul-rank : tie.Need-mul-rank
-mul-rank c = let z = rank-small c in omega arith
-
-add-rank : tie.Need-add-rank
-add-rank c = let z = rank-small c in omega arith
-
-add-rank-2 : tie.Need-add-rank-2
-add-rank-2 c = let z = rank-small c in omega arith
 
 returns : tie.Need-returns
 returns c =
@@ -58,24 +48,6 @@ returns-4 c =
     ap {B = Step} (λ (x : Reader). Open x) (c .past-at .ensures ∙ ap pastAt (n .next-place .ensures))
     ∙ sym (step-past-on (a .code) (a .sigma) (a .r) (a .symbol) _ (s .stoppers-at .ensures) (n .before .if1 .left) (c .before .if4 .taken))
 
-sub-c : tie.Need-sub-c
-sub-c c = let z = next-small c in omega arith
-
-mul-least : tie.Need-mul-least
-mul-least c = let z = next-small c in omega arith
-
-add-least : tie.Need-add-least
-add-least c = let z = next-small c in omega arith
-
-mul-next : tie.Need-mul-next
-mul-next c = let z = next-small c in omega arith
-
-add-next : tie.Need-add-next
-add-next c = let z = next-small c in omega arith
-
-add-if5 : tie.Need-add-if5
-add-if5 c = let z = next-small c in omega arith
-
 returns-5 : tie.Need-returns-5
 returns-5 c =
     let b = c .before .before in
@@ -84,9 +56,6 @@ returns-5 c =
     let a = s .before .args in
     ap {B = Step} (λ (x : Reader). Open x) (c .past-at2 .ensures ∙ ap pastAt (n .next-place .ensures))
     ∙ sym (step-reach (a .code) (a .sigma) (a .r) (a .symbol) _ (s .stoppers-at .ensures) _ (b .base-of .ensures) (n .before .if1 .left) (b .before .if4 .left) (c .before .if5 .taken))
-
-mul-t21 : tie.Need-mul-t21
-mul-t21 c = let z = next-small (c .before) in omega arith
 
 returns-6 : tie.Need-returns-6
 returns-6 c =
@@ -102,9 +71,9 @@ read-symbol-spec =
     tie.close
     (tie.spec
     (λ c κs. search needs)
-    mul-rank
-    add-rank
-    add-rank-2
+    (λ c. let z = rank-small c in omega arith)
+    (λ c. let z = rank-small c in omega arith)
+    (λ c. let z = rank-small c in omega arith)
     returns
     returns-2
     returns-3
@@ -112,13 +81,13 @@ read-symbol-spec =
     (λ c κs. search needs)
     returns-4
     (λ c κs. search needs)
-    sub-c
-    mul-least
-    add-least
-    mul-next
-    add-next
-    add-if5
+    (λ c. let z = next-small c in omega arith)
+    (λ c. let z = next-small c in omega arith)
+    (λ c. let z = next-small c in omega arith)
+    (λ c. let z = next-small c in omega arith)
+    (λ c. let z = next-small c in omega arith)
+    (λ c. let z = next-small c in omega arith)
     (λ c κs. search needs)
     returns-5
-    mul-t21
+    (λ c. let z = next-small (c .before) in omega arith)
     returns-6)

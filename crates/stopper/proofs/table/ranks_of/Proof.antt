@@ -1,5 +1,4 @@
 -- `stopper::table::ranks_of` meets its contract: the ranks are those among the characters from place i on, and i more.
--- Assumes nothing.
 use mathlib.Core.Path.{_≡_, sym, ap, subst, _∙_}
 use mathlib.Core.List.{List}
 use Prim.Native.Nat.{ℕ, zero, suc, _+_, _≤_, _<_}
@@ -64,25 +63,13 @@ Inv-loop sigma places ranks₀ i₀ ranks i = Filled places sigma ranks i
 abbrev μ-loop : tie.MeasureT-loop
 μ-loop sigma places ranks₀ i₀ ranks i = i
 
-loop-holds : tie.Need-loop-holds Inv-loop μ-loop
-loop-holds c = start (c .args .t2) (c .args .sigma) (search needs) (c .pre)
-
-mul-ranks : tie.Need-mul-ranks Inv-loop μ-loop
-mul-ranks c = omega (arith, c .wide .ensures .1)
-
-array-write-ranks : tie.Need-array-write-ranks Inv-loop μ-loop
-array-write-ranks c = c .wide .ensures .1
-
 loop-again : tie.Need-loop-again Inv-loop μ-loop
 loop-again c =
     let l = c .before .before in
     let a = l .before .args in
     down (subst (Filled (a .t2) (a .sigma) (l .loop .ranks)) (omega arith) (l .loop .inv)) (c .wide .ensures .0) (c .wide .ensures .1)
 
-returns : tie.Need-returns Inv-loop μ-loop
-returns c = whole (c .before .loop .inv) (c .loop-test .left)
-
 pub ranks-of-spec : {M : Type 1} → statement M
 ranks-of-spec =
     tie.close
-    (tie.spec Inv-loop μ-loop loop-holds (λ c. omega arith) (λ c. omega arith) (λ c. omega arith) (λ c κs. search needs) mul-ranks array-write-ranks (λ c. omega arith) loop-again returns)
+    (tie.spec Inv-loop μ-loop (λ c. start (c .args .t2) (c .args .sigma) (search needs) (c .pre)) (λ c. omega arith) (λ c. omega arith) (λ c. omega arith) (λ c κs. search needs) (λ c. omega (arith, c .wide .ensures .1)) (λ c. c .wide .ensures .1) (λ c. omega arith) loop-again (λ c. whole (c .before .loop .inv) (c .loop-test .left)))

@@ -1,5 +1,4 @@
 -- `stopper::word::emit` meets its contract: a digit stored, and the rest spelt before it.
--- Assumes nothing.
 use mathlib.Core.Path.{_≡_, _∙_}
 use Prim.Native.Nat.{ℕ, _-_, _%_, _≤_, _<_}
 use native.Mathlib.Nat.{mod-lt}

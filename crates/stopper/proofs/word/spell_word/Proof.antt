@@ -1,5 +1,4 @@
 -- `stopper::word::spell_word` meets its contract: the stopper stored at its place, and the continuers spelt before it.
--- Assumes nothing.
 use mathlib.Core.Path.{sym, ap, _∙_}
 use Prim.Native.Nat.{_+_, _<_}
 use native.Mathlib.Nat.{mod-lt}
@@ -26,17 +25,8 @@ inside c =
     let a = c .before .before .before in
     omega (arith, length-place (a .args .code) (a .pre .0) (a .args .rank), ap (λ (x : Place). x .at) (c .before .place-of .ensures), a .pre .2)
 
-rem-out : tie.Need-rem-out
-rem-out c = some c .0
-
 cast-out : tie.Need-cast-out
 cast-out c = omega (arith, some c, mod-lt (c .before .place-of .result .q) (some c .0))
-
-slice-write-out : tie.Need-slice-write-out
-slice-write-out c = inside c
-
-div-emit : tie.Need-div-emit
-div-emit c = some c .0
 
 emit-requires : tie.Need-emit-requires
 emit-requires c κs = (c .before .before .before .before .pre .0, simp length-set (omega (arith, inside (c .before))))
@@ -60,11 +50,11 @@ spell-word-spec =
     (tie.spec
     (λ c κs. search needs)
     (λ c κs. search needs)
-    rem-out
+    (λ c. some c .0)
     cast-out
     (λ c. search needs)
-    slice-write-out
-    div-emit
+    (λ c. inside c)
+    (λ c. some c .0)
     emit-requires
     (λ c. search needs)
     (λ c. search needs)

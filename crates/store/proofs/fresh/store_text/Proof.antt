@@ -1,10 +1,10 @@
 -- `store::fresh::store_text` meets its contract.
--- Assumes nothing.
 use mathlib.Core.Path.{ap}
 use Prim.Native.Nat.{ℕ, _≤_}
 use native.Mathlib.Omega.{arith}
 use borrow.Author.Needs.{needs}
 use lib.ListN.{length}
+use Rattle.ground.specs.Helpers.Bound.{limitBound}
 use Rattle.ground.specs.Laws.Limit.{limit-fits}
 use Rattle.ground.specs.Laws.Rows.{below-all}
 use Rattle.stopper.specs.Paper.Table.{characters}
@@ -20,7 +20,7 @@ use Rattle.store.proofs.fresh.store_text.Tie as tie
 held : (s : tie.Start) → s .args .taken ≤ length (symbolsOf (s .args .table .code .k) (s .args .buf .now))
 held s = room-row (s .args .table .code .k) (s .args .buf .now) (s .args .taken) (s .pre .2)
 
-few : (s : tie.Start) → s .args .taken ≤ 16777216
+few : (s : tie.Start) → s .args .taken ≤ limitBound
 few s = omega (arith, s .pre .2, room-limit (s .args .table .code .k) (length (s .args .buf .now)), limit-fits)
 
 write-text-requires : tie.Need-write-text-requires
@@ -50,9 +50,6 @@ cast-t15 c =
     let t = s .args .table in
     omega (arith, row-count (t .code) (table-code t (s .pre .0)) (characters t) (s .args .text .now), s .pre .1 .count, few s)
 
-cast-t16 : tie.Need-cast-t16
-cast-t16 c = omega (arith, few (begun (written c)))
-
 returns : tie.Need-returns
 returns c =
     let w = written c in
@@ -71,4 +68,4 @@ returns c =
 
 pub store-text-spec : {M : Type 1} → statement M
 store-text-spec =
-    tie.close (tie.spec write-text-requires clear-unused-requires cast-t15 cast-t16 (λ c. search needs) returns)
+    tie.close (tie.spec write-text-requires clear-unused-requires cast-t15 (λ c. omega (arith, few (begun (written c)))) (λ c. search needs) returns)

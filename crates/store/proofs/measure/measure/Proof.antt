@@ -1,5 +1,4 @@
 -- `store::measure::measure` meets its contract.
--- Assumes nothing.
 use mathlib.Core.Path.{_≡_, ap, _∙_}
 use mathlib.Core.List.{List}
 use Prim.Native.Nat.{ℕ}
@@ -38,9 +37,6 @@ long p = ap length (p .spell-all .ensures .sizes) ∙ length-tab _ 0 256
 bytes : (p : tie.After-spell-all) → Below 256 (begun p .args .text .now)
 bytes p = below-all 256 _ (λ i. p .before .before .before .before .before .before .before .before .shared-slice-known .given i .fits)
 
-fitting-requires : tie.Need-fitting-requires
-fitting-requires c κs = long (c .before .before .before .before .before)
-
 -- ---- after `fitting`
 
 abbrev spelled : tie.After-fitting → tie.After-spell-all
@@ -55,9 +51,6 @@ returns-2 c =
     let p = spelled f in
     let s = begun p in
     measured-fits (s .args .table) (s .pre .0) (s .args .room) (p .spell-all .ensures) (bytes p) (upto-is f) (ap (λ (x : Fit). x .taken) (f .fitting .ensures)) (c .if2 .taken)
-
-first-foreign-requires : tie.Need-first-foreign-requires
-first-foreign-requires c κs = (long (spelled (c .before .before)), search needs)
 
 returns-3 : tie.Need-returns-3
 returns-3 c =
@@ -79,11 +72,11 @@ measure-spec =
     (tie.spec
     returns
     spell-all-requires
-    fitting-requires
+    (λ c κs. long (c .before .before .before .before .before))
     (λ c. search needs)
     (λ c. search needs)
     returns-2
-    first-foreign-requires
+    (λ c κs. (long (spelled (c .before .before)), search needs))
     (λ c. search needs)
     (λ c. search needs)
     returns-3

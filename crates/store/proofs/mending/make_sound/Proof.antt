@@ -1,5 +1,4 @@
 -- `store::mending::make_sound` meets its contract.
--- Assumes nothing.
 use mathlib.Core.Path.{refl, _∙_}
 use native.Mathlib.Omega.{arith}
 use borrow.Author.Needs.{needs}

@@ -1,6 +1,5 @@
 -- `store::mending::mend_entries` meets its contract: before entry e the symbol is where the codeword of character j starts, and the entries
 -- from that of `from` up to e are written.
--- Assumes nothing.
 use mathlib.Core.Path.{_≡_, sym, ap, ap₂, _∙_}
 use mathlib.Core.List.{List}
 use Prim.Native.Nat.{ℕ, _-_, _*_, _≤_, _<_}
@@ -70,9 +69,6 @@ passed c =
     let l = n .before in
     c .pass-ends .ensures ∙ entry-ends (entered l .pre .0) (l .loop .j) (l .loop .e) (l .loop .inv .2) (inside n) (l .loop .inv .3)
 
-stops-by-byte-requires : tie.Need-stops-by-byte-requires Inv-loop μ-loop
-stops-by-byte-requires c κs = sound-code (c .before .before .before .before .pre .0)
-
 loop-holds : tie.Need-loop-holds Inv-loop μ-loop
 loop-holds c =
     let s = c .before .before .before .before .before .before .before in
@@ -127,9 +123,6 @@ loop-again c =
           ∙ laid-more (s .args .dir .now) (wanted l) (entries (s .args .from)) e (l .loop .inv .0) (omega (arith, h, long l)) (omega (arith, h, held l)),
     )
 
-same-length : tie.Need-same-length Inv-loop μ-loop
-same-length c = same (c .before)
-
 returns : tie.Need-returns Inv-loop μ-loop
 returns c =
     let l = c .before in
@@ -145,7 +138,7 @@ mend-entries-spec =
     (tie.spec
     Inv-loop
     μ-loop
-    stops-by-byte-requires
+    (λ c κs. sound-code (c .before .before .before .before .pre .0))
     (λ c. search needs)
     (λ c κs. search needs)
     (λ c. search needs)
@@ -162,5 +155,5 @@ mend-entries-spec =
     (λ c. search needs)
     (λ c. search needs)
     loop-again
-    same-length
+    (λ c. same (c .before))
     returns)

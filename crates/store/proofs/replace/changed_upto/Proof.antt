@@ -1,5 +1,4 @@
 -- `store::replace::changed_upto` meets its contract.
--- Assumes nothing.
 use borrow.Author.Needs.{needs}
 use borrow.Author.Tests.{eq-eqb, ne-eqb}
 use Rattle.store.specs.Helpers.Replacing.{changedUpto}

@@ -1,6 +1,5 @@
 -- `store::replace::first_over` meets its contract: before character j the symbol is where its codeword starts, and what is left of the room
 -- is the room without the codewords passed.
--- Assumes nothing.
 use mathlib.Core.Path.{_≡_, refl, sym, ap, _∙_}
 use Prim.Native.Nat.{ℕ, suc, _+_, _-_, _≤_, _<_}
 use native.Mathlib.Numerals.{add-one}
@@ -86,9 +85,6 @@ grows c =
     let l = n .before in
     omega (arith, here l, next-starts c, later (entered l) (l .loop .j) (n .loop-test .taken))
 
-sub-if1 : tie.Need-sub-if1 Inv-loop μ-loop
-sub-if1 c = grows c
-
 returns : tie.Need-returns Inv-loop μ-loop
 returns c =
     let e = c .before in
@@ -96,12 +92,6 @@ returns c =
     let s = entered l in
     ends s (l .loop .j) (l .loop .inv .0) (l .loop .inv .1) (omega (arith, here l, l .loop .inv .3))
     (λ h. omega (arith, c .if1 .taken, grows e, next-starts e, l .loop .inv .3))
-
-sub-left : tie.Need-sub-left Inv-loop μ-loop
-sub-left c = grows (c .before)
-
-sub-left-2 : tie.Need-sub-left-2 Inv-loop μ-loop
-sub-left-2 c = c .if1 .left
 
 add-j : tie.Need-add-j Inv-loop μ-loop
 add-j c = let n = c .before .before in omega (arith, n .loop-test .taken, n .before .before .struct-known .given)
@@ -131,10 +121,10 @@ first-over-spec =
     (λ c. search needs)
     loop-holds
     end-at-requires
-    sub-if1
+    (λ c. grows c)
     returns
-    sub-left
-    sub-left-2
+    (λ c. grows (c .before))
+    (λ c. c .if1 .left)
     add-j
     loop-less
     loop-again

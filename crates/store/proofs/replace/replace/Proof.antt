@@ -1,10 +1,10 @@
 -- `store::replace::replace` meets its contract.
--- Assumes nothing.
 use mathlib.Core.Path.{_≡_, refl}
 use Prim.Native.Nat.{ℕ, _+_, _-_, _≤_}
 use native.Mathlib.Omega.{arith}
 use borrow.Author.Needs.{needs}
 use lib.ListN.{length}
+use Rattle.ground.specs.Helpers.Bound.{limitBound}
 use Rattle.sound.specs.Laws.Directory.{right-long}
 use Rattle.store.specs.Paper.Stored.{bytesAfter}
 use Rattle.store.proofs.replace.replace.Statement.{statement}
@@ -17,9 +17,6 @@ use Rattle.store.proofs.replace.replace.Tie as tie
 
 abbrev begun : tie.After-struct-known2 → tie.Start
 begun c = c .before .before .before .before .before .before .before .before .before
-
-replace-symbols-requires : tie.Need-replace-symbols-requires
-replace-symbols-requires c κs = replaced.replaces (begun (c .before) .pre)
 
 -- ---- after the symbols
 
@@ -36,23 +33,11 @@ count s = s .args .run .start + length (s .args .text .now) + (s .args .roll .n 
 abbrev symbols : tie.Start → ℕ
 symbols s = s .args .run .first + s .args .taken + (s .args .roll .h - s .args .run .last)
 
-count-few : (c : tie.After-slice-known3) → count (started c) ≤ 16777216
+count-few : (c : tie.After-slice-known3) → count (started c) ≤ limitBound
 count-few c = replaced.count-few (started c .pre)
 
-symbols-few : (c : tie.After-slice-known3) → symbols (started c) ≤ 16777216
+symbols-few : (c : tie.After-slice-known3) → symbols (started c) ≤ limitBound
 symbols-few c = replaced.symbols-few (started c .pre)
-
-add-count : tie.Need-add-count
-add-count c = omega (arith, count-few (c .before))
-
-add-count-2 : tie.Need-add-count-2
-add-count-2 c = omega (arith, count-few (c .before .before))
-
-cast-t23 : tie.Need-cast-t23
-cast-t23 c = omega (arith, count-few (c .before .before))
-
-add-t20 : tie.Need-add-t20
-add-t20 c = omega (arith, symbols-few (c .before .before .before))
 
 sub-t22 : tie.Need-sub-t22
 sub-t22 c = omega (arith, run-inside (started (c .before .before .before .before) .pre .located))
@@ -112,12 +97,12 @@ replace-spec =
     (tie.spec
     (λ c. search needs)
     (λ c. search needs)
-    replace-symbols-requires
-    add-count
+    (λ c κs. replaced.replaces (begun (c .before) .pre))
+    (λ c. omega (arith, count-few (c .before)))
     (λ c. search needs)
-    add-count-2
-    cast-t23
-    add-t20
+    (λ c. omega (arith, count-few (c .before .before)))
+    (λ c. omega (arith, count-few (c .before .before)))
+    (λ c. omega (arith, symbols-few (c .before .before .before)))
     sub-t22
     add-t21
     cast-t24

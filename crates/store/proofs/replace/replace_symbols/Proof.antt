@@ -1,5 +1,4 @@
 -- `store::replace::replace_symbols` meets its contract.
--- Assumes nothing.
 use native.Mathlib.Omega.{arith}
 use borrow.Author.Needs.{needs}
 use Rattle.ground.specs.Laws.Rows.{below-all}

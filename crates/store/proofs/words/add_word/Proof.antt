@@ -1,5 +1,4 @@
 -- `store::words::add_word` meets its contract.
--- Assumes nothing.
 use mathlib.Core.Path.{_≡_, sym, _∙_}
 use Prim.Native.Nat.{_*_, _^_, _<_}
 use native.Mathlib.Omega.{arith}

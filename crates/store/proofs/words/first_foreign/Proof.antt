@@ -1,5 +1,4 @@
 -- `store::words::first_foreign` meets its contract.
--- Assumes nothing.
 use mathlib.Core.Path.{_≡_, refl, ap, _∙_}
 use mathlib.Core.Logic.{_≢_}
 use mathlib.Core.List.{List}
@@ -33,9 +32,6 @@ Inv-loop lengths text from i₀ i =
 abbrev μ-loop : tie.MeasureT-loop
 μ-loop lengths text from i₀ i = length text - i
 
-loop-holds : tie.Need-loop-holds Inv-loop μ-loop
-loop-holds c = (omega arith, refl)
-
 returns : tie.Need-returns Inv-loop μ-loop
 returns c =
     let k = c .before in
@@ -64,7 +60,7 @@ first-foreign-spec =
     (tie.spec
     Inv-loop
     μ-loop
-    loop-holds
+    (λ c. (omega arith, refl))
     (λ c. omega arith)
     (λ c κs. search needs)
     (λ c. omega arith)

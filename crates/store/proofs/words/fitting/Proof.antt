@@ -1,5 +1,4 @@
 -- `store::words::fitting` meets its contract: what is left of the text under what is left of the room.
--- Assumes nothing.
 use mathlib.Core.Path.{_≡_, sym, ap, _∙_}
 use mathlib.Core.Bool.{true, false}
 use mathlib.Core.List.{List, []}
@@ -71,9 +70,6 @@ Inv-loop lengths room text i₀ taken₀ i taken = Passed lengths room text i ta
 abbrev μ-loop : tie.MeasureT-loop
 μ-loop lengths room text i₀ taken₀ i taken = length text - i
 
-loop-holds : tie.Need-loop-holds Inv-loop μ-loop
-loop-holds c = start _ _ _
-
 -- the length of the character in hand
 long : (c : tie.After-wide2 Inv-loop μ-loop) → let l = c .before .before .before .before .before in let a = l .before .before .before .args in
     c .wide2 .result ≡ getD (a .lengths .now) (getD (a .text .now) (l .loop .i) 0) 0
@@ -94,9 +90,6 @@ goes : (c : tie.Else1 Inv-loop μ-loop) → let w = c .before .before in let l =
     goesOn (w .wide2 .result) (l .before .before .before .args .room - l .loop .taken) ≡ true
 goes c = sym (c .before .goes-on .ensures) ∙ not-false _ (c .if1 .left)
 
-add-taken : tie.Need-add-taken Inv-loop μ-loop
-add-taken c = omega (arith, goes-parts _ _ (goes c))
-
 loop-again : tie.Need-loop-again Inv-loop μ-loop
 loop-again c =
     let w = c .before .before in
@@ -116,7 +109,7 @@ fitting-spec =
     (tie.spec
     Inv-loop
     μ-loop
-    loop-holds
+    (λ c. start _ _ _)
     (λ c. omega arith)
     (λ c κs. search needs)
     (λ c. omega arith)
@@ -124,7 +117,7 @@ fitting-spec =
     (λ c. omega arith)
     (λ c κs. search needs)
     returns
-    add-taken
+    (λ c. omega (arith, goes-parts _ _ (goes c)))
     (λ c. omega arith)
     (λ c. omega arith)
     loop-again

@@ -1,5 +1,4 @@
 -- `store::words::goes_on` meets its contract.
--- Assumes nothing.
 use borrow.Author.Tests.{lt-ltb, le-ltb}
 use Rattle.store.specs.Helpers.Words.{goesOn}
 use Rattle.store.proofs.words.goes_on.Statement.{statement}

@@ -1,5 +1,4 @@
 -- `store::words::numbers_of` meets its contract: the codewords of the characters passed are joined.
--- Assumes nothing.
 use mathlib.Core.Path.{_≡_, refl, _∙_}
 use mathlib.Core.Logic.{⊎-elim}
 use mathlib.Core.List.{List}

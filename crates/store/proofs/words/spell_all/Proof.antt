@@ -1,5 +1,4 @@
 -- `store::words::spell_all` meets its contract: the lengths and words are those of the characters from place i on.
--- Assumes nothing.
 use mathlib.Core.Path.{_≡_, refl, sym, ap, subst, _∙_}
 use mathlib.Core.Logic.{_≢_}
 use mathlib.Core.Bool.{true, false, cond}
@@ -195,9 +194,6 @@ same-length c =
 same-length-2 : tie.Need-same-length-2 Inv-loop μ-loop
 same-length-2 c = c .before .loop .inv .long ∙ sym (c .before .before .before .before .pre .3)
 
-returns : tie.Need-returns Inv-loop μ-loop
-returns c = whole (c .before .loop .inv) (c .loop-test .left)
-
 pub spell-all-spec : {M : Type 1} → statement M
 spell-all-spec =
     tie.close
@@ -221,4 +217,4 @@ spell-all-spec =
     loop-again
     same-length
     same-length-2
-    returns)
+    (λ c. whole (c .before .loop .inv) (c .loop-test .left)))

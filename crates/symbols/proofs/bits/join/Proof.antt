@@ -1,5 +1,4 @@
 -- `symbols::bits::join` meets its contract.
--- Assumes nothing.
 use native.Mathlib.Omega.{arith}
 use borrow.Author.Needs.{needs}
 use Rattle.symbols.proofs.Shifted.{shifted}

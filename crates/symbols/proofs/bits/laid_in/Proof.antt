@@ -1,5 +1,4 @@
 -- `symbols::bits::laid_in` meets its contract.
--- Assumes nothing.
 use native.Mathlib.Omega.{arith}
 use borrow.Author.Needs.{needs}
 use lib.Pow.{pow-pos}

@@ -1,5 +1,4 @@
 -- `symbols::bits::shift_of` meets its contract.
--- Assumes nothing.
 use Prim.Native.Nat.{suc, _*_, _≤_}
 use native.Mathlib.Nat.{mod-lt}
 use native.Mathlib.Omega.{arith}
@@ -13,17 +12,8 @@ use Rattle.symbols.proofs.bits.shift_of.Tie as tie
 ends : (c : tie.After-place-in-byte) → c .before .args .k * suc (c .place-in-byte .result) ≤ 8
 ends c = rw (c .place-in-byte .ensures) (ends-within (c .before .pre) (mod-lt (c .before .args .i) (per-pos (c .before .pre))))
 
-sub-result : tie.Need-sub-result
-sub-result c = omega (arith, narrow (c .pre))
-
 cast-result : tie.Need-cast-result
 cast-result c = omega (arith, c .place-in-byte .ensures, mod-lt (c .before .args .i) (per-pos (c .before .pre)), per-few (c .before .pre))
-
-mul-result : tie.Need-mul-result
-mul-result c = omega (arith, ends c)
-
-sub-result-2 : tie.Need-sub-result-2
-sub-result-2 c = omega (arith, ends c)
 
 returns : tie.Need-returns
 unfolding shift
@@ -31,4 +21,4 @@ returns c = rw (c .place-in-byte .ensures) (omega arith)
 
 pub shift-of-spec : {M : Type 1} → statement M
 shift-of-spec =
-    tie.close (tie.spec sub-result (λ c κs. search needs) cast-result mul-result sub-result-2 returns)
+    tie.close (tie.spec (λ c. omega (arith, narrow (c .pre))) (λ c κs. search needs) cast-result (λ c. omega (arith, ends c)) (λ c. omega (arith, ends c)) returns)

@@ -1,5 +1,4 @@
 -- `symbols::each::down` meets its contract. The symbols up to `i` are moved.
--- Assumes nothing.
 use mathlib.Core.Path.{_≡_, refl, sym, ap, _∙_}
 use Prim.Native.Nat.{_+_, _-_, _≤_}
 use native.Mathlib.Omega.{arith}
@@ -61,9 +60,6 @@ loop-again c =
           (omega arith) (omega arith) (omega arith) (omega arith),
     )
 
-same-length : tie.Need-same-length Inv-loop μ-loop
-same-length c = c .before .loop .inv .2
-
 returns : tie.Need-returns Inv-loop μ-loop
 returns c =
     let e : c .before .loop .i ≡ c .before .before .before .args .to = omega arith in
@@ -82,5 +78,5 @@ down-spec =
     (λ c. omega arith)
     (λ c. omega arith)
     loop-again
-    same-length
+    (λ c. c .before .loop .inv .2)
     returns)

@@ -1,5 +1,4 @@
 -- `symbols::gather::add` meets its contract.
--- Assumes nothing.
 use mathlib.Core.Path.{_≡_, refl, _∙_}
 use mathlib.Core.List.{_++_, append-nil}
 use Prim.Native.Nat.{_+_, _*_, _%_, _^_, _≤_, _<_}
@@ -32,12 +31,6 @@ small c = joined-small (c .args .k) (c .args .g .count) (c .args .count) (c .arg
 many : (c : tie.Start) → c .args .count ≤ 4 * per (c .args .k)
 unfolding per
 many c = by-width (λ k. c .args .count ≤ 4 * per k) (c .pre .0) (omega arith) (omega arith)
-
-mul-t8 : tie.Need-mul-t8
-mul-t8 c = omega (arith, few (c .before))
-
-shl-t10 : tie.Need-shl-t10
-shl-t10 c = omega (arith, few (c .before .before))
 
 add-t12 : tie.Need-add-t12
 add-t12 c =
@@ -99,8 +92,8 @@ pub add-spec : {M : Type 1} → statement M
 add-spec =
     tie.close
     (tie.spec
-    mul-t8
-    shl-t10
+    (λ c. omega (arith, few (c .before)))
+    (λ c. omega (arith, few (c .before .before)))
     add-t12
     (λ c. search needs)
     (λ c κs. search needs)

@@ -1,5 +1,4 @@
 -- `symbols::gather::add_each` meets its contract. The symbols passed are added.
--- Assumes nothing.
 use mathlib.Core.Path.{_≡_, refl, _∙_}
 use Prim.Native.Nat.{_-_, _^_, _≤_, _<_}
 use native.Mathlib.Nat.{mul-one}
@@ -59,9 +58,6 @@ loop-again c =
           (added-more (l .loop .inv .2) (rw (digits-one (2 ^ k) (getD row i 0) (below-at (s .pre .2) i h)) at (p .add .ensures))),
     )
 
-same-length : tie.Need-same-length Inv-loop μ-loop
-same-length c = c .before .loop .inv .1
-
 returns : tie.Need-returns Inv-loop μ-loop
 returns c =
     let l = c .before in
@@ -82,5 +78,5 @@ add-each-spec =
     (λ c. omega arith)
     (λ c. omega arith)
     loop-again
-    same-length
+    (λ c. c .before .loop .inv .1)
     returns)

@@ -1,5 +1,4 @@
 -- `symbols::gather::begin` meets its contract.
--- Assumes nothing.
 use mathlib.Core.Path.{_≡_, sym, ap, _∙_}
 use mathlib.Core.List.{append-nil}
 use Prim.Native.Nat.{ℕ, _+_, _-_, _*_, _^_, _<_}
@@ -60,15 +59,6 @@ returns c =
 cast-low : tie.Need-cast-low
 cast-low c = omega (arith, within (c .before), per-few (c .before .before .before .before .pre .0))
 
-mul-low : tie.Need-mul-low
-mul-low c = omega (arith, bits (c .before))
-
-sub-low : tie.Need-sub-low
-sub-low c = omega (arith, bits (c .before))
-
-shared-slice-read-t8 : tie.Need-shared-slice-read-t8
-shared-slice-read-t8 c = there (c .before)
-
 shr-t9 : tie.Need-shr-t9
 shr-t9 c =
     let p = c .before .before in
@@ -108,9 +98,9 @@ begin-spec =
     (λ c κs. search needs)
     returns
     cast-low
-    mul-low
-    sub-low
-    shared-slice-read-t8
+    (λ c. omega (arith, bits (c .before)))
+    (λ c. omega (arith, bits (c .before)))
+    (λ c. there (c .before))
     shr-t9
     cast-t11
     returns-2)

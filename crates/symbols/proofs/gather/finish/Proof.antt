@@ -1,5 +1,4 @@
 -- `symbols::gather::finish` meets its contract. The symbols passed are laid over the row.
--- Assumes nothing.
 use mathlib.Core.Path.{_≡_, refl, sym, ap₂, _∙_}
 use mathlib.Core.List.{List}
 use Prim.Native.Nat.{ℕ, _+_, _-_, _*_, _/_, _%_, _^_, _≤_, _<_}
@@ -43,9 +42,6 @@ there c =
     rw (c .before .before .before .per-byte .ensures)
     (omega (arith, s .pre .1 .counts), omega (arith, s .pre .1 .within))
 
-per-byte-requires : tie.Need-per-byte-requires Inv-loop μ-loop
-per-byte-requires c κs = c .before .pre .0
-
 mul-first : tie.Need-mul-first Inv-loop μ-loop
 mul-first c = rw (c .before .per-byte .ensures) (omega (arith, c .before .before .before .pre .1 .counts))
 
@@ -64,9 +60,6 @@ piece-requires : tie.Need-piece-requires Inv-loop μ-loop
 piece-requires c κs =
     let s = c .before .before .before .before .before in
     (omega (arith, within (c .before) (s .args .g .count - 1 - c .before .loop .i) (omega arith)), omega (arith, narrow (s .pre .0)))
-
-add-put : tie.Need-add-put Inv-loop μ-loop
-add-put c = omega (arith, there (c .before .before) .0)
 
 put-requires : tie.Need-put-requires Inv-loop μ-loop
 put-requires c κs =
@@ -104,9 +97,6 @@ loop-again c =
           ∙ ap₂ (λ (xs : List ℕ) (to : ℕ). over row first xs to) (sym (laid-more k i n v)) g)),
     )
 
-same-length : tie.Need-same-length Inv-loop μ-loop
-same-length c = c .before .loop .inv .1
-
 returns : tie.Need-returns Inv-loop μ-loop
 returns c =
     let l = c .before in
@@ -120,17 +110,17 @@ finish-spec =
     (tie.spec
     Inv-loop
     μ-loop
-    per-byte-requires
+    (λ c κs. c .before .pre .0)
     mul-first
     loop-holds
     (λ c. omega arith)
     (λ c. omega arith)
     mul-piece
     piece-requires
-    add-put
+    (λ c. omega (arith, there (c .before .before) .0))
     put-requires
     (λ c. omega arith)
     (λ c. omega arith)
     loop-again
-    same-length
+    (λ c. c .before .loop .inv .1)
     returns)

@@ -1,5 +1,4 @@
 -- `symbols::gather::lowest` meets its contract.
--- Assumes nothing.
 use mathlib.Core.Path.{_∙_, ap}
 use Prim.Native.Nat.{ℕ, _-_}
 use native.Mathlib.Omega.{arith}

@@ -1,5 +1,4 @@
 -- `symbols::gather::store` meets its contract. The symbols that wait no longer stand in the bytes before `next`.
--- Assumes nothing.
 use mathlib.Core.Path.{_≡_, refl, sym, ap, _∙_}
 use mathlib.Core.List.{_++_, append-nil}
 use Prim.Native.Nat.{ℕ, _+_, _-_, _*_, _/_, _^_, _≤_, _<_}
@@ -42,9 +41,6 @@ there c =
     let h : l .loop .next * per k < length old * per k = omega (arith, symbols-length k old, l .before .per-byte .ensures, per-pos (s .pre .0)) in
     omega (arith, lt-of-mul-lt-mul-right (per k) h)
 
-per-byte-requires : tie.Need-per-byte-requires Inv-loop μ-loop
-per-byte-requires c κs = c .before .pre .0
-
 loop-holds : tie.Need-loop-holds Inv-loop μ-loop
 unfolding digits
 loop-holds c = (omega arith, omega arith, refl, refl, rw sub-self (sym (append-nil _)), refl)
@@ -58,12 +54,6 @@ piece-requires : tie.Need-piece-requires Inv-loop μ-loop
 piece-requires c κs =
     let l = c .before in
     (within l (l .loop .count - l .before .per-byte .result) (omega arith), omega arith)
-
-slice-write-buf : tie.Need-slice-write-buf Inv-loop μ-loop
-slice-write-buf c = there (c .before)
-
-add-next : tie.Need-add-next Inv-loop μ-loop
-add-next c = omega (arith, there (c .before))
 
 loop-less : tie.Need-loop-less Inv-loop μ-loop
 loop-less c =
@@ -104,12 +94,6 @@ loop-again c =
 mul-lowest : tie.Need-mul-lowest Inv-loop μ-loop
 mul-lowest c = omega (arith, within (c .before) (c .before .loop .count) (omega arith))
 
-lowest-requires : tie.Need-lowest-requires Inv-loop μ-loop
-lowest-requires c κs = within (c .before) (c .before .loop .count) (omega arith)
-
-same-length : tie.Need-same-length Inv-loop μ-loop
-same-length c = c .before .before .loop .inv .3
-
 returns : tie.Need-returns Inv-loop μ-loop
 unfolding gathered
 returns c =
@@ -140,15 +124,15 @@ store-spec =
     (tie.spec
     Inv-loop
     μ-loop
-    per-byte-requires
+    (λ c κs. c .before .pre .0)
     loop-holds
     mul-piece
     piece-requires
-    slice-write-buf
-    add-next
+    (λ c. there (c .before))
+    (λ c. omega (arith, there (c .before)))
     loop-less
     loop-again
     mul-lowest
-    lowest-requires
-    same-length
+    (λ c κs. within (c .before) (c .before .loop .count) (omega arith))
+    (λ c. c .before .before .loop .inv .3)
     returns)

@@ -1,5 +1,4 @@
 -- `symbols::run::all_zero` meets its contract: the symbols from `from` on are all 0 if those from i on are.
--- Assumes nothing.
 use mathlib.Core.Path.{_≡_, refl, sym, ap, _∙_}
 use mathlib.Core.List.{List}
 use Prim.Native.Nat.{ℕ, _-_, _≤_}
@@ -19,9 +18,6 @@ abbrev μ-loop : tie.MeasureT-loop
 
 abbrev all : (c : tie.Start Inv-loop μ-loop) → List ℕ
 all c = symbolsOf (c .args .k) (c .args .buf .now)
-
-loop-holds : tie.Need-loop-holds Inv-loop μ-loop
-loop-holds c = (c .before .pre .1, refl)
 
 get-requires : tie.Need-get-requires Inv-loop μ-loop
 get-requires c κs = let s = c .before .before .before in (s .pre .0, omega (arith, s .pre .2, c .loop-test .taken))
@@ -50,4 +46,4 @@ returns-2 c =
 pub all-zero-spec : {M : Type 1} → statement M
 all-zero-spec =
     tie.close
-    (tie.spec Inv-loop μ-loop loop-holds get-requires returns (λ c. omega arith) (λ c. omega arith) loop-again returns-2)
+    (tie.spec Inv-loop μ-loop (λ c. (c .before .pre .1, refl)) get-requires returns (λ c. omega arith) (λ c. omega arith) loop-again returns-2)

@@ -1,5 +1,4 @@
 -- `symbols::run::clear` meets its contract: three parts, one after the other.
--- Assumes nothing.
 use mathlib.Core.Path.{_≡_, ap, _∙_}
 use Prim.Native.Nat.{_*_}
 use native.Mathlib.Omega.{arith}
@@ -27,9 +26,6 @@ known c =
     between (s .pre .0) (s .args .buf .now) _ _ _ _ _
     (c .per-byte .ensures) (c .before .before .before .bytes-for .ensures) (c .before .before .byte-of .ensures)
     (c .before .if1 .left) (s .pre .2)
-
-mul-clear : tie.Need-mul-clear
-mul-clear c = omega (arith, known (c .before))
 
 clear-requires-2 : tie.Need-clear-requires-2
 clear-requires-2 c κs =
@@ -80,7 +76,7 @@ clear-spec =
     (λ c. search needs)
     (λ c. search needs)
     (λ c κs. search needs)
-    mul-clear
+    (λ c. omega (arith, known (c .before)))
     clear-requires-2
     clear-requires-3
     mul-clear-2

@@ -1,5 +1,4 @@
 -- `symbols::run::clear_unused` meets its contract.
--- Assumes nothing.
 use mathlib.Core.Path.{_≡_, ap, _∙_}
 use Prim.Native.Nat.{_+_, _*_}
 use native.Mathlib.Omega.{arith}

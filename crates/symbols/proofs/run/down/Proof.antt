@@ -1,5 +1,4 @@
 -- `symbols::run::down` meets its contract: three parts, the first first.
--- Assumes nothing.
 use mathlib.Core.Path.{_≡_, sym, _∙_}
 use Prim.Native.Nat.{_+_, _-_, _*_}
 use native.Mathlib.Omega.{arith}
@@ -26,12 +25,6 @@ known c =
     between (s .pre .0) (s .args .buf .now) _ _ _ _ _
     (c .per-byte .ensures) (c .before .before .before .bytes-for .ensures) (c .before .before .byte-of .ensures)
     (c .before .if1 .left) (omega arith)
-
-mul-down : tie.Need-mul-down
-mul-down c = omega (arith, known (c .before))
-
-add-down : tie.Need-add-down
-add-down c = omega (arith, known (c .before))
 
 down-requires-2 : tie.Need-down-requires-2
 down-requires-2 c κs =
@@ -93,8 +86,8 @@ down-spec =
     (λ c. search needs)
     (λ c. search needs)
     (λ c κs. search needs)
-    mul-down
-    add-down
+    (λ c. omega (arith, known (c .before)))
+    (λ c. omega (arith, known (c .before)))
     down-requires-2
     down-requires-3
     mul-down-2

@@ -1,5 +1,4 @@
 -- `symbols::run::up` meets its contract: three parts, the last first.
--- Assumes nothing.
 use mathlib.Core.Path.{_≡_, _∙_}
 use Prim.Native.Nat.{_+_, _-_, _*_, _≤_}
 use native.Mathlib.Omega.{arith}
@@ -26,12 +25,6 @@ known c =
     between (s .pre .0) (s .args .buf .now) _ _ _ _ _
     (c .per-byte .ensures) (c .before .before .before .bytes-for .ensures) (c .before .before .byte-of .ensures)
     (c .before .if1 .left) (s .pre .2)
-
-mul-up : tie.Need-mul-up
-mul-up c = omega (arith, known (c .before))
-
-sub-up : tie.Need-sub-up
-sub-up c = omega (arith, known (c .before))
 
 up-requires-2 : tie.Need-up-requires-2
 up-requires-2 c κs =
@@ -94,8 +87,8 @@ up-spec =
     (λ c. search needs)
     (λ c. search needs)
     (λ c κs. search needs)
-    mul-up
-    sub-up
+    (λ c. omega (arith, known (c .before)))
+    (λ c. omega (arith, known (c .before)))
     up-requires-2
     up-requires-3
     mul-up-2

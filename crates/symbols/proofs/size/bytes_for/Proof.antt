@@ -1,5 +1,4 @@
 -- `symbols::size::bytes_for` meets its contract.
--- Assumes nothing.
 use mathlib.Core.Path.{_∙_, sym, ap}
 use Prim.Native.Nat.{ℕ, _+_, _/_}
 use native.Mathlib.Nat.{div-add-mod', le-mul-of-pos-right}

@@ -1,5 +1,4 @@
 -- `symbols::size::room_of` meets its contract.
--- Assumes nothing.
 use mathlib.Core.Path.{_≡_, _∙_, sym, ap}
 use Prim.Native.Nat.{ℕ, _*_, _≤_}
 use native.Mathlib.Nat.{le-mul-of-pos-right, mul-le-mul-left}

@@ -1,5 +1,4 @@
 -- `symbols::size::unused` meets its contract.
--- Assumes nothing.
 use mathlib.Core.Path.{_≡_, sym, _∙_}
 use Prim.Native.Nat.{_%_}
 use native.Mathlib.Nat.{mod-lt, div-add-mod'}

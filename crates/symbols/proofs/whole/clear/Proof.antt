@@ -1,5 +1,4 @@
 -- `symbols::whole::clear` meets its contract. The bytes passed are cleared.
--- Assumes nothing.
 use mathlib.Core.Path.{_≡_, sym, ap, _∙_}
 use Prim.Native.Nat.{_+_, _-_, _≤_}
 use native.Mathlib.Omega.{arith}
@@ -23,9 +22,6 @@ kept-length l =
 loop-holds : tie.Need-loop-holds Inv-loop μ-loop
 loop-holds c = (omega arith, omega arith, sym (cleared-none (c .args .buf .now) (c .args .first)))
 
-slice-write-buf : tie.Need-slice-write-buf Inv-loop μ-loop
-slice-write-buf c = omega (arith, kept-length (c .before))
-
 loop-again : tie.Need-loop-again Inv-loop μ-loop
 loop-again c =
     let l = c .before in
@@ -36,9 +32,6 @@ loop-again c =
           (cleared-one (l .loop .buf) (l .loop .j) (omega (arith, kept-length l)))
           (omega arith) (omega arith) (omega arith),
     )
-
-same-length : tie.Need-same-length Inv-loop μ-loop
-same-length c = kept-length (c .before)
 
 returns : tie.Need-returns Inv-loop μ-loop
 returns c =
@@ -52,9 +45,9 @@ clear-spec =
     Inv-loop
     μ-loop
     loop-holds
-    slice-write-buf
+    (λ c. omega (arith, kept-length (c .before)))
     (λ c. omega arith)
     (λ c. omega arith)
     loop-again
-    same-length
+    (λ c. kept-length (c .before))
     returns)

@@ -1,5 +1,4 @@
 -- `symbols::whole::down` meets its contract. The bytes up to `j` have their symbols.
--- Assumes nothing.
 use mathlib.Core.Path.{_≡_, refl, sym, _∙_}
 use Prim.Native.Nat.{_+_, _-_, _*_, _≤_, _<_}
 use native.Mathlib.Nat.{mod-lt, div-add-mod', mul-le-mul-right}
@@ -51,12 +50,6 @@ reach c =
     let w = c .before .before .before .before .before .pre .0 in
     starts-within w (c .before .loop .buf) _ (omega (arith, fits c, per-pos w))
 
-byte-of-requires : tie.Need-byte-of-requires Inv-loop μ-loop
-byte-of-requires c κs = c .before .pre .0
-
-place-in-byte-requires : tie.Need-place-in-byte-requires Inv-loop μ-loop
-place-in-byte-requires c κs = c .before .before .pre .0
-
 cast-place : tie.Need-cast-place Inv-loop μ-loop
 cast-place c =
     let s = c .before .before .before in
@@ -67,16 +60,10 @@ loop-holds c =
     let a = c .before .before .before .args in
     (omega arith, omega arith, refl, sym (down-none (symbolsOf (a .k) (a .buf .now)) (a .first * per (a .k) + a .by) (a .by)))
 
-add-window : tie.Need-add-window Inv-loop μ-loop
-add-window c = omega (arith, reach (c .before))
-
 window-requires : tie.Need-window-requires Inv-loop μ-loop
 window-requires c κs =
     let l = c .before .before in
     (l .before .before .before .before .pre .0, known (l .before) .1, fits (c .before))
-
-slice-write-buf : tie.Need-slice-write-buf Inv-loop μ-loop
-slice-write-buf c = omega (arith, reach (c .before .before))
 
 loop-again : tie.Need-loop-again Inv-loop μ-loop
 loop-again c =
@@ -101,9 +88,6 @@ loop-again c =
           (omega arith) (omega arith) (omega arith) (omega arith),
     )
 
-same-length : tie.Need-same-length Inv-loop μ-loop
-same-length c = c .before .loop .inv .2
-
 returns : tie.Need-returns Inv-loop μ-loop
 returns c =
     let e : c .before .loop .j ≡ c .before .before .before .before .before .args .last = omega arith in
@@ -115,15 +99,15 @@ down-spec =
     (tie.spec
     Inv-loop
     μ-loop
-    byte-of-requires
-    place-in-byte-requires
+    (λ c κs. c .before .pre .0)
+    (λ c κs. c .before .before .pre .0)
     cast-place
     loop-holds
-    add-window
+    (λ c. omega (arith, reach (c .before)))
     window-requires
-    slice-write-buf
+    (λ c. omega (arith, reach (c .before .before)))
     (λ c. omega arith)
     (λ c. omega arith)
     loop-again
-    same-length
+    (λ c. c .before .loop .inv .2)
     returns)

@@ -1,5 +1,4 @@
 -- `symbols::whole::up` meets its contract. The bytes from `j` on have their symbols.
--- Assumes nothing.
 use mathlib.Core.Path.{_≡_, refl, sym, ap, _∙_}
 use Prim.Native.Nat.{ℕ, _+_, _-_, _*_, _≤_, _<_}
 use native.Mathlib.Nat.{mul-le-mul-right}
@@ -37,12 +36,6 @@ known c =
       bytesFor-within w by (s .args .first) (s .pre .2),
     )
 
-bytes-for-requires : tie.Need-bytes-for-requires Inv-loop μ-loop
-bytes-for-requires c κs = c .before .pre .0
-
-unused-requires : tie.Need-unused-requires Inv-loop μ-loop
-unused-requires c κs = c .before .before .pre .0
-
 cast-place : tie.Need-cast-place Inv-loop μ-loop
 cast-place c = omega (arith, known c .1, per-few (c .before .before .before .pre .0))
 
@@ -50,9 +43,6 @@ loop-holds : tie.Need-loop-holds Inv-loop μ-loop
 loop-holds c =
     let a = c .before .before .before .args in
     (omega arith, omega arith, refl, sym (up-none (symbolsOf (a .k) (a .buf .now)) (a .last * per (a .k) - a .by) (a .by)))
-
-sub-window : tie.Need-sub-window Inv-loop μ-loop
-sub-window c = omega (arith, known (c .before .before .before) .2)
 
 window-requires : tie.Need-window-requires Inv-loop μ-loop
 window-requires c κs =
@@ -68,9 +58,6 @@ window-requires c κs =
     let fits : i * per k + place + per k ≤ length (symbolsOf k (l .loop .buf))
     = omega (arith, known (l .before) .0, known (l .before) .1, mul-le-mul-right (per k) q) in
     (s .pre .0, known (l .before) .1, fits)
-
-slice-write-buf : tie.Need-slice-write-buf Inv-loop μ-loop
-slice-write-buf c = omega (arith, c .before .before .before .loop .inv .2)
 
 loop-again : tie.Need-loop-again Inv-loop μ-loop
 loop-again c =
@@ -101,9 +88,6 @@ loop-again c =
           (omega arith) (omega arith) (omega (arith, symbols-length k (s .args .buf .now))),
     )
 
-same-length : tie.Need-same-length Inv-loop μ-loop
-same-length c = c .before .loop .inv .2
-
 returns : tie.Need-returns Inv-loop μ-loop
 returns c =
     let e : c .before .loop .j ≡ c .before .before .before .before .before .args .first = omega arith in
@@ -115,15 +99,15 @@ up-spec =
     (tie.spec
     Inv-loop
     μ-loop
-    bytes-for-requires
-    unused-requires
+    (λ c κs. c .before .pre .0)
+    (λ c κs. c .before .before .pre .0)
     cast-place
     loop-holds
     (λ c. omega arith)
-    sub-window
+    (λ c. omega (arith, known (c .before .before .before) .2))
     window-requires
-    slice-write-buf
+    (λ c. omega (arith, c .before .before .before .loop .inv .2))
     (λ c. omega arith)
     loop-again
-    same-length
+    (λ c. c .before .loop .inv .2)
     returns)

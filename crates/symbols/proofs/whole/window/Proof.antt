@@ -1,5 +1,4 @@
 -- `symbols::whole::window` meets its contract.
--- Assumes nothing.
 use mathlib.Core.Path.{_≡_}
 use Prim.Native.Nat.{_+_, _<_}
 use native.Mathlib.Nat.{mul-pos}

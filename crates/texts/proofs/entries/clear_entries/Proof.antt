@@ -1,5 +1,4 @@
 -- `texts::entries::clear_entries` meets its contract: the entries from `from` up to i are cleared.
--- Assumes nothing.
 use mathlib.Core.Path.{_≡_, refl, sym, ap₂, _∙_}
 use Prim.Native.Nat.{ℕ, _+_, _-_, _≤_}
 use native.Mathlib.Omega.{arith}
@@ -34,9 +33,6 @@ loop-again c =
       cleared-more (s .args .dir .now) (s .args .from) i (i + 1) (l .loop .inv .3) (cleared-one (l .loop .dir) i (omega arith)) (omega arith) (omega arith) (omega arith),
     )
 
-same-length : tie.Need-same-length Inv-loop μ-loop
-same-length c = c .before .loop .inv .2
-
 returns : tie.Need-returns Inv-loop μ-loop
 returns c =
     let l = c .before in
@@ -57,5 +53,5 @@ clear-entries-spec =
     (λ c. omega arith)
     (λ c. omega arith)
     loop-again
-    same-length
+    (λ c. c .before .loop .inv .2)
     returns)

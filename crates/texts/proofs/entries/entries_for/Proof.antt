@@ -1,5 +1,4 @@
 -- `texts::entries::entries_for` meets its contract.
--- Assumes nothing.
 use mathlib.Core.Path.{refl}
 use borrow.Author.Needs.{needs}
 use Rattle.texts.specs.Paper.Directory.{entries}

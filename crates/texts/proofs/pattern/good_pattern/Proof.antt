@@ -1,5 +1,4 @@
 -- `texts::pattern::good_pattern` meets its contract.
--- Assumes nothing.
 use borrow.Author.Tests.{le-leb, lt-leb}
 use Rattle.texts.specs.Paper.Hits.{goodPattern}
 use Rattle.texts.proofs.pattern.good_pattern.Statement.{statement}

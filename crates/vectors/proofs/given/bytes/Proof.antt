@@ -1,5 +1,4 @@
 -- `vectors::given::bytes` meets its contract.
--- Assumes nothing.
 use mathlib.Core.Path.{_≡_, sym}
 use Prim.Native.Nat.{_≤_}
 use borrow.Author.Needs.{needs}

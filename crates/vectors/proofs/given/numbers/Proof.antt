@@ -1,5 +1,4 @@
 -- `vectors::given::numbers` meets its contract.
--- Assumes nothing.
 use mathlib.Core.Path.{_≡_, sym}
 use Prim.Native.Nat.{_-_, _≤_}
 use native.Mathlib.Omega.{arith}

@@ -1,5 +1,4 @@
 -- `writing::decimal::decimal_out` meets its contract: a digit alone, or the last behind the digits of the rest.
--- Assumes nothing.
 use mathlib.Core.Path.{_≡_, ap}
 use mathlib.Core.List.{List, [], _∷_}
 use Prim.Native.Nat.{ℕ, _+_, _/_, _%_, _≤_, _<_, _^_}

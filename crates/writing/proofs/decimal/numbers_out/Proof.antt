@@ -1,5 +1,4 @@
 -- `writing::decimal::numbers_out` meets its contract: the lines of the numbers passed are put.
--- Assumes nothing.
 use mathlib.Core.List.{_∷_, _++_}
 use Prim.Native.Nat.{_+_, _-_, _≤_}
 use native.Mathlib.Omega.{arith}

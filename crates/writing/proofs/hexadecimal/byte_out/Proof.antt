@@ -1,5 +1,4 @@
 -- `writing::hexadecimal::byte_out` meets its contract.
--- Assumes nothing.
 use mathlib.Core.Path.{refl}
 use native.Mathlib.Omega.{arith}
 use borrow.Author.Needs.{needs}
@@ -8,9 +7,6 @@ use Rattle.writing.specs.Paper.Written.{hexOf}
 use Rattle.writing.specs.Laws.Written.{going-none, going-byte, going-all}
 use Rattle.writing.proofs.hexadecimal.byte_out.Statement.{statement}
 use Rattle.writing.proofs.hexadecimal.byte_out.Tie as tie
-
-slice-write-out-2 : tie.Need-slice-write-out-2
-slice-write-out-2 c = simp length-set (omega arith)
 
 returns : tie.Need-returns
 returns c =
@@ -27,7 +23,7 @@ byte-out-spec =
     (λ c. search needs)
     (λ c κs. search needs)
     (λ c. search needs)
-    slice-write-out-2
+    (λ c. simp length-set (omega arith))
     (λ c. search needs)
     (λ c. search needs)
     returns)

@@ -1,5 +1,4 @@
 -- `writing::hexadecimal::hex_out` meets its contract: the bytes passed are put, `column` of them on the line that goes on.
--- Assumes nothing.
 use mathlib.Core.List.{[], _∷_}
 use Prim.Native.Nat.{_+_, _-_, _≤_, _<_}
 use native.Mathlib.Omega.{arith}
@@ -77,9 +76,6 @@ loop-again c =
     let s = c .before .before .before .before .before .before .before .before .before .before in
     (omega arith, omega arith, going-byte (s .pre) (full c))
 
-loop-again-2 : tie.Need-loop-again-2 Inv-loop μ-loop
-loop-again-2 c = (omega arith, omega arith, within c)
-
 slice-write-out-2 : tie.Need-slice-write-out-2 Inv-loop μ-loop
 slice-write-out-2 c =
     let s = c .before .before .before .before .before in
@@ -128,7 +124,7 @@ hex-out-spec =
     (λ c. omega arith)
     loop-again
     (λ c. omega arith)
-    loop-again-2
+    (λ c. (omega arith, omega arith, within c))
     slice-write-out-2
     add-p-2
     same-length

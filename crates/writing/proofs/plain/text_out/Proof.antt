@@ -1,5 +1,4 @@
 -- `writing::plain::text_out` meets its contract: the bytes passed are put.
--- Assumes nothing.
 use Prim.Native.Nat.{_+_, _-_, _≤_}
 use native.Mathlib.Nat.{add-zero, add-assoc}
 use native.Mathlib.Omega.{arith}
