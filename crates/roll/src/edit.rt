@@ -20,8 +20,8 @@ ghost use Rattle.sound.specs.Paper.Lengths.{Right};
 ghost use Rattle.sound.specs.Paper.Roll.{Sound};
 ghost use Rattle.store.specs.Helpers.Measured.{Spelled};
 ghost use Rattle.store.specs.Helpers.Replacing.{Located};
-ghost use Rattle.roll.specs.Paper.Operations.{DirectoryChecked, Editing};
-ghost use Rattle.roll.specs.Helpers.Refused.{refusedEdit};
+ghost use Rattle.roll.specs.Paper.Operations.{Editing};
+ghost use Rattle.roll.specs.Helpers.Refused.{DirectoryChecked, refusedEdit};
 
 pub struct Edited {
     pub answer: Done,

@@ -95,7 +95,7 @@ const MANY: usize = 256;
 // The codewords of fewer than JOINED symbols as numbers, by character.
 fn numbers_of(k: u8, lengths: &[u8], words: &[u8]) -> [u32; 256]
     requires { ⌜ WordsLaid k (now lengths) (now words) ⌝ }
-    ensures { λ r. ⌜ Numbers k (now (lengths .entry)) (now (words .entry)) r 9 ⌝ }
+    ensures { λ r. ⌜ Numbers k (now (lengths .entry)) (now (words .entry)) r ⌝ }
 {
     let mut numbers = [0u32; 256];
     let mut b: usize = 0;
@@ -111,46 +111,58 @@ fn numbers_of(k: u8, lengths: &[u8], words: &[u8]) -> [u32; 256]
     numbers
 }
 
-// The codeword of character b behind those before it; by its number if it has fewer symbols than `under`.
+// The codeword of character b behind those before it, symbol by symbol.
+fn add_spelled(k: u8, lengths: &[u8], words: &[u8], b: usize, g: Gather, buf: &mut [u8]) -> Gather
+    requires { ⌜ WordsLaid k (now lengths) (now words) × (b < 256) × Waiting k g (now buf) (length (wordAt (now lengths) (now words) b)) ⌝ }
+    ensures { λ r. ⌜ Added k g (now (buf .entry)) (wordAt (now (lengths .entry)) (now (words .entry)) b) r (now (buf .exit)) ⌝ }
+{
+    let at = b * LONGEST;
+    let end = at + wide(lengths[b]);
+    add_each(k, g, buf, &words[at..end])
+}
+
+// By its number, if it has one.
 fn add_word(
     k: u8,
     lengths: &[u8],
     words: &[u8],
     numbers: &[u32],
-    under: usize,
     b: usize,
     g: Gather,
     buf: &mut [u8],
 ) -> Gather
-    requires { ⌜ WordsLaid k (now lengths) (now words) × Numbers k (now lengths) (now words) (now numbers) under × (under ≤ 9) × (b < 256) × Waiting k g (now buf) (length (wordAt (now lengths) (now words) b)) ⌝ }
+    requires { ⌜ WordsLaid k (now lengths) (now words) × Numbers k (now lengths) (now words) (now numbers) × (b < 256) × Waiting k g (now buf) (length (wordAt (now lengths) (now words) b)) ⌝ }
     ensures { λ r. ⌜ Added k g (now (buf .entry)) (wordAt (now (lengths .entry)) (now (words .entry)) b) r (now (buf .exit)) ⌝ }
 {
     let long = wide(lengths[b]);
-    if long < under {
+    if long < JOINED {
         return add(k, g, buf, numbers[b], long);
     }
-    let at = b * LONGEST;
-    let end = at + long;
-    add_each(k, g, buf, &words[at..end])
+    add_spelled(k, lengths, words, b, g, buf)
 }
 
-fn write_words(
-    k: u8,
-    lengths: &[u8],
-    words: &[u8],
-    numbers: &[u32],
-    under: usize,
-    text: &[u8],
-    buf: &mut [u8],
-    first: usize,
-)
-    requires { ⌜ Laid k (now lengths) (now words) (now text) (now buf) first × Numbers k (now lengths) (now words) (now numbers) under × (under ≤ 9) ⌝ }
+fn write_short(k: u8, lengths: &[u8], words: &[u8], text: &[u8], buf: &mut [u8], first: usize)
+    requires { ⌜ Laid k (now lengths) (now words) (now text) (now buf) first ⌝ }
     ensures { λ _. ⌜ symbolsOf k (now (buf .exit)) ≡ laidFrom (symbolsOf k (now (buf .entry))) first (rowOf (now (lengths .entry)) (now (words .entry)) (now (text .entry))) ⌝ }
 {
     let mut g = begin(k, buf, first);
     let mut i = 0;
     while i < text.len() {
-        g = add_word(k, lengths, words, numbers, under, wide(text[i]), g, buf);
+        g = add_spelled(k, lengths, words, wide(text[i]), g, buf);
+        i += 1;
+    }
+    finish(k, g, buf);
+}
+
+fn write_long(k: u8, lengths: &[u8], words: &[u8], text: &[u8], buf: &mut [u8], first: usize)
+    requires { ⌜ Laid k (now lengths) (now words) (now text) (now buf) first ⌝ }
+    ensures { λ _. ⌜ symbolsOf k (now (buf .exit)) ≡ laidFrom (symbolsOf k (now (buf .entry))) first (rowOf (now (lengths .entry)) (now (words .entry)) (now (text .entry))) ⌝ }
+{
+    let numbers = numbers_of(k, lengths, words);
+    let mut g = begin(k, buf, first);
+    let mut i = 0;
+    while i < text.len() {
+        g = add_word(k, lengths, words, &numbers, wide(text[i]), g, buf);
         i += 1;
     }
     finish(k, g, buf);
@@ -162,10 +174,8 @@ pub fn write_text(k: u8, lengths: &[u8], words: &[u8], text: &[u8], buf: &mut [u
     ensures { λ _. ⌜ symbolsOf k (now (buf .exit)) ≡ laidFrom (symbolsOf k (now (buf .entry))) first (rowOf (now (lengths .entry)) (now (words .entry)) (now (text .entry))) ⌝ }
 {
     if text.len() < MANY {
-        let none = [0u32; 256];
-        write_words(k, lengths, words, &none, 0, text, buf, first);
+        write_short(k, lengths, words, text, buf, first);
         return;
     }
-    let numbers = numbers_of(k, lengths, words);
-    write_words(k, lengths, words, &numbers, JOINED, text, buf, first);
+    write_long(k, lengths, words, text, buf, first);
 }

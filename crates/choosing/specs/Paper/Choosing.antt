@@ -19,7 +19,7 @@ occurs (x ∷ xs) b = cond (eqb x b) 1 0 + occurs xs b
 unfoldable pub countsOf : List ℕ → List ℕ
 countsOf text = tab (occurs text) 0 256
 
--- the counts that are ranked
+-- how often byte b is counted: the counts that are ranked
 unfoldable pub counted : List ℕ → ℕ → ℕ
 counted counts b = getD counts b 0
 

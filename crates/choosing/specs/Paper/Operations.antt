@@ -41,7 +41,7 @@ chooseRows k counts =
     ∷ refuse 2 (length counts) (not (eqb (length counts) 256))
     ∷ []
 
--- beside a refusal: k as given, s 0, σ 0, all places 0
+-- beside a refusal: k as given, s 0, σ 0, all places 0; and the total is 0
 abbrev pub noTable : ℕ → Table
 noTable k = tableOf (evenCode k 0) []
 

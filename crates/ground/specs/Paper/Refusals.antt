@@ -27,7 +27,7 @@ abbrev pub _then_ : {A B : Type 0} → Outcome A → Outcome B → Outcome B
 accepted answer then next = next
 refused number value then next = refused number value
 
--- what is lent, or stands beside the answer: `before` if the work is refused, else `after`
+-- what is lent: `before` if the work is refused, else `after`; or what stands beside the answer, `before` being what is put beside a refusal
 abbrev pub kept : {A B : Type 0} → Outcome A → B → B → B
 kept (accepted answer) before after = after
 kept (refused number value) before after = before

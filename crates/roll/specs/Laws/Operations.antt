@@ -32,8 +32,8 @@ use Rattle.sound.specs.declared.records.Roll.{Roll}
 use Rattle.sound.specs.declared.reading.Scan.the-variants.{Whole, Bad}
 use Rattle.store.specs.Paper.Fitting.{firstOver}
 use Rattle.store.specs.Paper.Stored.{packedInto, bytesAfter, directoryAfter}
-use Rattle.roll.specs.Paper.Operations.{packSays, Packing, checkSays, Checking, unpackSays, Unpacking, makeSays, Making, searchSays, Searching, DirectoryChecked, editSays, Editing}
-use Rattle.roll.specs.Helpers.Refused.{refusedPack, refusedEdit}
+use Rattle.roll.specs.Paper.Operations.{packSays, Packing, checkSays, Checking, unpackSays, Unpacking, makeSays, Making, searchSays, Searching, editSays, Editing}
+use Rattle.roll.specs.Helpers.Refused.{DirectoryChecked, refusedPack, refusedEdit}
 use Rattle.roll.specs.Laws.Accepting.{accepted-sound, Packs, packs-accepted, Unpacks, unpacks-accepted, makes-is, searches-is, right-accepted, accepted-right}
 use Rattle.roll.specs.declared.pack.Packed.{Packed}
 use Rattle.roll.specs.declared.edit.Edited.{Edited}

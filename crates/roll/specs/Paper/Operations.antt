@@ -1,4 +1,5 @@
--- The operations, in the paper's order: the refusals of each, and its promise.
+-- The operations, in the paper's order: the refusals of each, and its promise. The rows named after an operation are its own refusals; where check's
+-- come first, what it says puts them before by `then`.
 use mathlib.Core.Path.{_≡_}
 use mathlib.Core.Bool.{not, _||_}
 use mathlib.Core.List.{List, [], _∷_, _++_}
@@ -114,6 +115,7 @@ pub record Making (r : Roll) (buf dir : List ℕ) (answer : Done) (after : List 
 abbrev pub fromEntry : Roll → List ℕ → List ℕ → ℕ → Reading
 fromEntry r buf dir place = readingFrom r buf (getD dir (place / 32) 0)
 
+-- 6: the codeword behind place mod 32 others was not read, as a bad one stands there or before it, or one would have to start at h
 abbrev pub readRows : Roll → List ℕ → List ℕ → ℕ → List Row
 readRows r buf dir place =
     refuse 1 0 (not (goodTable (r .table)))
@@ -150,7 +152,7 @@ pub record Searching (r : Roll) (buf pattern slice : List ℕ) (answer : Total) 
 
 -- ---- edit: check's, 9, 10, 3, 4, 12
 
--- a sound roll with a right directory
+-- edit's 9, asked after check's: a sound roll has a right directory
 abbrev pub directoryRows : Roll → List ℕ → List ℕ → List Row
 directoryRows r buf dir =
     let wrong : ℕ = firstWrong (directoryOf (lengthsOf r buf)) dir in
@@ -158,9 +160,6 @@ directoryRows r buf dir =
 
 unfoldable pub directorySays : Roll → List ℕ → List ℕ → Outcome (Unit {0})
 directorySays r buf dir = checkSays r buf then judged (directoryRows r buf dir) tt
-
-pub record DirectoryChecked (r : Roll) (buf dir : List ℕ) (answer : Done) : Type 0 where
-  pub says : doneSays answer ≡ directorySays r buf dir
 
 abbrev pub editRows : Roll → List ℕ → List ℕ → ℕ → ℕ → List ℕ → List Row
 editRows r buf dir start end text =

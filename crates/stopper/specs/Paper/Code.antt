@@ -37,7 +37,7 @@ unfoldable pub first : (ℕ → Bool) → ℕ → ℕ → ℕ
 first p zero from = from
 first p (suc many) from = let later : ℕ = first p many (suc from) in cond (p from) from later
 
--- the stopper's place in codeword r: its length less 1
+-- the stopper's place in codeword r: its length less 1. Each length has a codeword at least, so r places are enough to look at
 unfoldable pub place : ℕ → (ℕ → ℕ) → ℕ → ℕ
 place m s r = first (λ i. ltb r (shorter m s (suc i))) r 0
 

@@ -10,11 +10,13 @@ pub data Fault : Type 0 where
   unfinished : Fault
   beyond : Fault
 
--- what reading gives: all read, with the ranks in order; or a bad codeword, with the number of its first symbol and the ranks read before it
+-- what reading gives: all read, with the ranks in order; or a bad codeword, with why (no answer tells it), the number of its first symbol and the ranks
+-- read before it
 pub data Reading : Type 0 where
   done : List ℕ → Reading
   bad : Fault → ℕ → List ℕ → Reading
 
+-- with one more rank before
 unfoldable pub ahead : ℕ → Reading → Reading
 ahead r (done rs) = done (r ∷ rs)
 ahead r (bad f p rs) = bad f p (r ∷ rs)

@@ -66,10 +66,10 @@ pub record WordsLaid (k : ℕ) (lengths words : List ℕ) : Type 0 where
   pub places : length words ≡ 256 * longest
   pub symbols : (b : ℕ) → b < 256 → Below (2 ^ k) (wordAt lengths words b)
 
--- those of fewer symbols than `under` as numbers
-pub record Numbers (k : ℕ) (lengths words numbers : List ℕ) (under : ℕ) : Type 0 where
+-- those of fewer than 9 symbols as numbers
+pub record Numbers (k : ℕ) (lengths words numbers : List ℕ) : Type 0 where
   pub many : length numbers ≡ 256
-  pub joins : (b : ℕ) → b < 256 → getD lengths b 0 < under → Joins k (wordAt lengths words b) (getD numbers b 0)
+  pub joins : (b : ℕ) → b < 256 → getD lengths b 0 < 9 → Joins k (wordAt lengths words b) (getD numbers b 0)
 
 -- and those of the text are within the buffer from a symbol on
 pub record Laid (k : ℕ) (lengths words text buf : List ℕ) (first : ℕ) : Type 0 where

@@ -4,10 +4,9 @@ use Prim.Native.Nat.{_*_, _^_, _<_}
 use native.Mathlib.Omega.{arith}
 use borrow.Author.Needs.{needs}
 use lib.ListN.{length, getD}
-use Rattle.ground.specs.Laws.Rows.{getD-below}
 use Rattle.symbols.specs.Helpers.Gathered.{digits}
 use Rattle.store.specs.Helpers.Words.{wordAt}
-use Rattle.store.specs.Laws.Words.{lent, word-length}
+use Rattle.store.specs.Laws.Words.{word-length}
 use Rattle.store.proofs.words.add_word.Statement.{statement}
 use Rattle.store.proofs.words.add_word.Tie as tie
 
@@ -16,7 +15,7 @@ begun c = c .before .before .before .before .before .before
 
 -- the length read is the codeword's
 long : (c : tie.After-wide) → length (wordAt (begun c .args .lengths .now) (begun c .args .words .now) (begun c .args .b)) ≡ c .wide .result
-long c = let s = begun c in word-length (s .pre .0) (s .args .b) (s .pre .3) ∙ sym (c .wide .ensures .0)
+long c = let s = begun c in word-length (s .pre .0) (s .args .b) (s .pre .2) ∙ sym (c .wide .ensures .0)
 
 -- a number's digits are the codeword
 spelt : (c : tie.Then1)
@@ -26,38 +25,19 @@ spelt : (c : tie.Then1)
 spelt c =
     let w = c .before in
     let s = begun w in
-    let j = s .pre .1 .joins (s .args .b) (s .pre .3) (omega (arith, w .wide .ensures .0)) in
+    let j = s .pre .1 .joins (s .args .b) (s .pre .2) (omega (arith, w .wide .ensures .0)) in
     (rw (long w) at (j .small), rw (long w) at (j .symbols))
 
 add-requires : tie.Need-add-requires
 add-requires c κs =
     let t = c .before .before in
     let s = begun (t .before) in
-    (s .pre .0 .width, rw (long (t .before)) at (s .pre .4), omega (arith, t .if1 .taken, s .pre .2), spelt t .0)
+    (s .pre .0 .width, rw (long (t .before)) at (s .pre .3), omega (arith, t .if1 .taken), spelt t .0)
 
 returns : tie.Need-returns
 returns c =
     let u = c .before .before in
     rw (spelt (u .before .before .before) .1) at (u .add .ensures)
-
-part-add-each-end : tie.Need-part-add-each-end
-part-add-each-end c =
-    let w = c .before .before in
-    let s = begun w in
-    omega (arith, w .wide .ensures .0, getD-below (s .pre .0 .few) (omega arith) (s .args .b))
-
-add-each-requires : tie.Need-add-each-requires
-add-each-requires c κs =
-    let w = c .before .before .before in
-    let s = begun w in
-    rw (lent (s .args .lengths .now) (s .args .words .now) (s .args .b) (w .wide .ensures .0)) (s .pre .0 .width, s .pre .4, s .pre .0 .symbols (s .args .b) (s .pre .3))
-
-returns-2 : tie.Need-returns-2
-returns-2 c =
-    let u = c .before .before in
-    let w = u .before .before .before .before in
-    let s = begun w in
-    rw (lent (s .args .lengths .now) (s .args .words .now) (s .args .b) (w .wide .ensures .0)) at (u .add-each .ensures)
 
 pub add-word-spec : {M : Type 1} → statement M
 add-word-spec =
@@ -70,11 +50,6 @@ add-word-spec =
     add-requires
     (λ c. search needs)
     returns
+    (λ c κs. search needs)
     (λ c. search needs)
-    (λ c. search needs)
-    (λ c. search needs)
-    (λ c. search needs)
-    part-add-each-end
-    add-each-requires
-    (λ c. search needs)
-    returns-2)
+    (λ c. search needs))
