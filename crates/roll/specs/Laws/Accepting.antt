@@ -1,7 +1,6 @@
 -- Each operation is accepted exactly if: its refusals put in positive words.
-use mathlib.Core.Path.{_≡_, refl, sym}
+use mathlib.Core.Path.{_≡_, sym}
 use mathlib.Core.Logic.{_↔_}
-use mathlib.Core.Bool.{Bool, true, false, _||_}
 use mathlib.Core.List.{List}
 use Prim.Native.Nat.{ℕ, _-_, _≤_, _<_, _/_, _%_}
 use native.Mathlib.Nat.{le-of-eq}
@@ -12,7 +11,7 @@ use lib.ListN.{length, getD}
 use Rattle.ground.specs.Paper.Rows.{allZero}
 use Rattle.ground.specs.Paper.Refusals.{accepted}
 use Rattle.ground.specs.Laws.Refusals.{Accepted, accepted-none, accepted-parts}
-use Rattle.ground.specs.Laws.Tests.{yes-true, true-yes}
+use Rattle.ground.specs.Laws.Tests.{neither, yes-true, true-yes}
 use Rattle.stopper.specs.Paper.Table.{goodTable, characters}
 use Rattle.stopper.specs.declared.table.Table.{Table}
 use Rattle.symbols.specs.Paper.Symbols.{room}
@@ -30,10 +29,6 @@ use Rattle.store.specs.Paper.Fitting.{firstOver}
 use Rattle.store.specs.Laws.Edited.{Edits}
 use Rattle.store.specs.Laws.Fitting.{over-all, over-within}
 use Rattle.roll.specs.Paper.Operations.{packRows, packSays, checkRows, checkSays, unpackRows, unpackSays, makeRows, makeSays, fromEntry, readRows, oneRead, readSays, searchRows, searchSays, directoryRows, directorySays, editRows, editSays}
-
-neither : (a b : Bool) → (a || b) ≡ false → (a ≡ false) × (b ≡ false)
-neither true b e = let z : _≡_ {A = ℕ} 0 1 = cc in absurd (omega arith)
-neither false b e = (refl, e)
 
 -- ---- check: the roll is sound
 

@@ -186,10 +186,6 @@ module _ (c : Code) (g : T (goodCode c)) (l : List ℕ) where
   unfolding lengthFor
   for-none b e = rw e
 
-  pub row-below : (text : List ℕ) → Below (base c) (textRow c l text)
-  unfolding textRow
-  row-below text = write-below (base c) (stoppers c) (code-good c g) _
-
   -- a length of 0 is a rank past the row's end
   foreign-test : (b : ℕ) → eqb (lengthFor c l b) 0 ≡ leb (length l) (rankIn l b)
   foreign-test b =

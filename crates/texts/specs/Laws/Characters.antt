@@ -12,6 +12,7 @@ use lib.Dec.{T, eqb, ltb→lt}
 use lib.ListN.{length, take, drop, getD, length-take}
 use lib.Seq.{getD-take, length-take-le, drop-cons, drop-length}
 use Rattle.ground.specs.Helpers.Below.{Below, none, also}
+use Rattle.ground.specs.Laws.Tests.{neither}
 use Rattle.stopper.specs.Paper.Table.{has, repeats, rankIn, characters, goodTable}
 use Rattle.stopper.specs.Laws.Characters.{has-rank, mem-has, _∈_, mem-at}
 use Rattle.stopper.specs.Laws.Table.{table-few}
@@ -45,13 +46,9 @@ character-rank [] e r h = absurd (omega arith)
 character-rank (x ∷ l) e zero h = rw (eq-eqb x x refl)
 character-rank (x ∷ l) e (suc r) h =
     let k : r < length l = le-of-suc-le-suc h in
-    let p = apart (has x l) (repeats l) e in
+    let p = neither (has x l) (repeats l) e in
     let n : x ≡ getD l r 0 → ⊥ = λ q. subst T (p .0) (mem-has l x (subst (λ (y : ℕ). y ∈ l) (sym q) (mem-at l r k))) in
     rw (ne-eqb x (getD l r 0) n, character-rank l (p .1) r k)
-  where
-    apart : (a b : Bool) → (a || b) ≡ false → (a ≡ false) × (b ≡ false)
-    apart true b e = let z : _≡_ {A = ℕ} 0 1 = cc in absurd (omega arith)
-    apart false b e = (refl, e)
 
 -- ---- every character of the text is in the row
 

@@ -12,7 +12,8 @@ use Rattle.stopper.specs.Laws.Table.{table-code}
 use Rattle.symbols.specs.Paper.Symbols.{symbolsOf}
 use Rattle.symbols.specs.Laws.Rows.{room-row, symbols-even}
 use Rattle.symbols.specs.Laws.Sizes.{room-limit}
-use Rattle.store.specs.Laws.Words.{row-count, row-below}
+use Rattle.sound.specs.Laws.Texts.{text-below}
+use Rattle.store.specs.Laws.Words.{row-count}
 use Rattle.store.specs.Laws.Replacing.{packed-front}
 use Rattle.store.proofs.fresh.store_text.Statement.{statement}
 use Rattle.store.proofs.fresh.store_text.Tie as tie
@@ -57,7 +58,7 @@ returns c =
     let t = s .args .table in
     let p = s .pre .1 in (
       ap (λ (h : ℕ). record { table = t; n = length (s .args .text .now); h = h }) (p .count),
-      packed-front (p .laid .width) (row-below (t .code) (table-code t (s .pre .0)) (characters t) (s .args .text .now))
+      packed-front (p .laid .width) (text-below (t .code) (table-code t (s .pre .0)) (characters t) (s .args .text .now))
           (below-all 256 _ (λ i. w .before .before .before .slice-known .given i .fits))
           (below-all 256 _ (λ i. c .slice-known3 .given i .fits))
           (w .write-text .ensures)
