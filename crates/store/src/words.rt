@@ -13,12 +13,12 @@ ghost use mathlib.Core.Path.{_≡_};
 ghost use Prim.Native.Nat.{_*_, _+_, _≤_, _<_};
 ghost use lib.Dec.{T};
 ghost use lib.ListN.{length, take, drop};
-ghost use Rattle.ground.specs.Paper.Rows.{zeros};
+ghost use Rattle.ground.specs.Paper.Rows.{zeros, firstWhere};
 ghost use Rattle.ground.specs.Helpers.Moved.{laidFrom};
 ghost use Rattle.stopper.specs.Paper.Table.{goodCode, longest};
 ghost use Rattle.symbols.specs.Paper.Symbols.{symbolsOf};
 ghost use Rattle.symbols.specs.Helpers.Gathered.{Waiting, Added};
-ghost use Rattle.store.specs.Helpers.Words.{Spelt, goesOn, fitOf, foreignOf, wordAt, WordsLaid, Numbers, Laid, rowOf};
+ghost use Rattle.store.specs.Helpers.Words.{Spelt, goesOn, fitOf, absent, wordAt, WordsLaid, Numbers, Laid, rowOf};
 
 fn wide(x: u8) -> usize
     ensures { λ r. ⌜ (r ≡ x) × (r < 256) ⌝ }
@@ -74,7 +74,7 @@ pub fn fitting(lengths: &[u8], room: usize, text: &[u8]) -> Fit
 // The place of the first character from a place on that is not in the table, or the text's length.
 pub fn first_foreign(lengths: &[u8], text: &[u8], from: usize) -> usize
     requires { ⌜ (length (now lengths) ≡ 256) × (from ≤ length (now text)) ⌝ }
-    ensures { λ r. ⌜ r ≡ from + foreignOf (now (lengths .entry)) (drop from (now (text .entry))) ⌝ }
+    ensures { λ r. ⌜ r ≡ from + firstWhere (absent (now (lengths .entry))) (drop from (now (text .entry))) ⌝ }
 {
     let mut i = from;
     while i < text.len() {

@@ -7,7 +7,7 @@ use lib.Dec.{T, eqb}
 use lib.ListN.{replicate, drop}
 use Rattle.ground.specs.Paper.Limit.{limit}
 use Rattle.ground.specs.Paper.Refusals.{Outcome, accepted, refused}
-use Rattle.ground.specs.Paper.Rows.{tab, zeros, padded, allZero}
+use Rattle.ground.specs.Paper.Rows.{tab, zeros, padded, allZero, firstWhere}
 use Rattle.stopper.specs.Paper.Code.{codeword, place, first, shorter, opens, spell, rankOf, rankFrom, rankAt}
 use Rattle.stopper.specs.Paper.Table.{stoppers, goodWidth, goodCode, goodCharacters, goodTable, has, repeats, rankIn, lengthOf, wordOf, tableOf}
 use Rattle.stopper.specs.Paper.Reading.{readFrom, ahead, write}
@@ -170,7 +170,7 @@ cases =
 
 -- all that the cases compute with, named once
 unfoldable pub computed : Unit {0}
-unfolding limit tab zeros padded codeword place first shorter opens spell rankOf rankFrom rankAt stoppers goodWidth goodCode goodCharacters goodTable has repeats rankIn lengthOf readFrom ahead write key insert rankedFrom ranked occurs countsOf counted totalFrom total least chosen chosenTable per bytesFor room shift symbolAt symbolsOf number byteAt bytesOf firstForeign firstOver textRow readingFrom isBad ranksRead firstBad textOf allZero entries sum startAt directoryOf lengthsOf lengthsFor firstWrong stands hitsFrom hits goodPattern countSays chooseSays codewordSays characterSays packSays checkSays unpackSays makeSays readSays searchSays directorySays editSays
+unfolding limit tab zeros padded firstWhere codeword place first shorter opens spell rankOf rankFrom rankAt stoppers goodWidth goodCode goodCharacters goodTable has repeats rankIn lengthOf readFrom ahead write key insert rankedFrom ranked occurs countsOf counted totalFrom total least chosen chosenTable per bytesFor room shift symbolAt symbolsOf number byteAt bytesOf firstForeign firstOver textRow readingFrom isBad ranksRead firstBad textOf allZero entries sum startAt directoryOf lengthsOf lengthsFor firstWrong stands hitsFrom hits goodPattern countSays chooseSays codewordSays characterSays packSays checkSays unpackSays makeSays readSays searchSays directorySays editSays
 computed = tt
 
 worked : T (every cases)

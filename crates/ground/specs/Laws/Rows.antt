@@ -1,6 +1,7 @@
 -- Laws of rows of numbers.
 use mathlib.Core.Path.{_≡_, refl, sym, ap, _∙_}
 use mathlib.Core.Logic.{⊎-elim}
+use mathlib.Core.Bool.{Bool, true, false, cond}
 use mathlib.Core.List.{List, [], _∷_, _++_, map, List·Memᴰ, List·Memᴰ·head, List·Memᴰ·tail, List·Memᴰ·cases-cons, List·Memᴰ·not-nil}
 use Prim.Native.Nat.{ℕ, zero, suc, _+_, _-_, _≤_, _<_}
 use native.Mathlib.Nat.{le-trans, add-zero, zero-add, add-suc, suc-add, not-suc-le-zero, le-of-suc-le-suc, sub-zero, zero-sub, suc-sub-suc}
@@ -8,9 +9,9 @@ use native.Mathlib.Decide.{ℕ-discrete}
 use native.Mathlib.Omega.{arith}
 use mir.Facts.{and-yes, eqb-yes}
 use lib.ListN.{length, take, drop, getD, set, replicate, length-append, length-replicate, length-set, getD-replicate, List·getD-append, replicate-append-replicate}
-use lib.Seq.{take-at, ext-getD, getD-set-same, getD-set-other}
+use lib.Seq.{take-at, drop-cons, drop-length, ext-getD, getD-set-same, getD-set-other}
 use lib.Dec.{T, eqb}
-use Rattle.ground.specs.Paper.Rows.{tab, zeros, padded, allZero}
+use Rattle.ground.specs.Paper.Rows.{tab, zeros, padded, allZero, firstWhere}
 use Rattle.ground.specs.Helpers.Below.{Below, none, also}
 
 -- ---- numbers below n
@@ -184,3 +185,44 @@ zero-zeros (x ∷ l) t =
 -- zeros are below any number but 0
 pub below-zeros : (n i : ℕ) → 0 < n → Below n (zeros i)
 below-zeros n i h = below-all n (zeros i) (λ j. rw (getD-zeros i j) h)
+
+-- ---- the first number that a test picks
+
+module _ (picks : ℕ → Bool) where
+  pub first-here : (x : ℕ) (row : List ℕ) → picks x ≡ true → firstWhere picks (x ∷ row) ≡ 0
+  unfolding firstWhere
+  first-here x row e = rw e
+
+  pub first-later : (x : ℕ) (row : List ℕ) → picks x ≡ false → firstWhere picks (x ∷ row) ≡ suc (firstWhere picks row)
+  unfolding firstWhere
+  first-later x row e = rw e
+
+  pub first-none : firstWhere picks [] ≡ 0
+  unfolding firstWhere
+  first-none = refl
+
+  pub first-within : (row : List ℕ) → firstWhere picks row ≤ length row
+  unfolding firstWhere
+  first-within [] = omega arith
+  first-within (x ∷ row) = go (picks x) (first-within row)
+    where
+      go : (b : Bool) → firstWhere picks row ≤ length row → cond b 0 (suc (firstWhere picks row)) ≤ suc (length row)
+      go true h = omega arith
+      go false h = omega arith
+
+  -- from place i of a row on
+  module _ (row : List ℕ) (i : ℕ) (h : i < length row) where
+    pub first-at : picks (getD row i 0) ≡ true → firstWhere picks (drop i row) ≡ 0
+    first-at e = ap (firstWhere picks) (drop-cons row i 0 h) ∙ first-here (getD row i 0) (drop (suc i) row) e
+
+    pub first-past : picks (getD row i 0) ≡ false → firstWhere picks (drop i row) ≡ suc (firstWhere picks (drop (suc i) row))
+    first-past e = ap (firstWhere picks) (drop-cons row i 0 h) ∙ first-later (getD row i 0) (drop (suc i) row) e
+
+  pub first-end : (row : List ℕ) → firstWhere picks (drop (length row) row) ≡ 0
+  first-end row = ap (firstWhere picks) (drop-length row) ∙ first-none
+
+-- tests that agree on the numbers of a row pick the same
+pub first-same : (p q : ℕ → Bool) {n : ℕ} {row : List ℕ} → Below n row → ((x : ℕ) → x < n → p x ≡ q x) → firstWhere p row ≡ firstWhere q row
+unfolding firstWhere
+first-same p q none e = refl
+first-same p q (also {x = x} h hs) e = rw (e x h, first-same p q hs e)

@@ -18,6 +18,10 @@ pub by-test {ℓ} : {X : Type ℓ} (b : Bool) → (T b → X) → (T (not b) →
 by-test true f g = f tt
 by-test false f g = g tt
 
+pub by-value {ℓ} : {X : Type ℓ} (b : Bool) → (b ≡ true → X) → (b ≡ false → X) → X
+by-value true f g = f refl
+by-value false f g = g refl
+
 -- two tests that pass together are one
 pub same-test : (a b : Bool) → (T a → T b) → (T b → T a) → a ≡ b
 same-test true true f g = refl

@@ -1,6 +1,6 @@
 -- Rows of numbers.
 use mathlib.Core.List.{List, [], _∷_, _++_}
-use mathlib.Core.Bool.{Bool, true, _&&_}
+use mathlib.Core.Bool.{Bool, true, cond, _&&_}
 use Prim.Native.Nat.{ℕ, zero, suc, _-_}
 use lib.ListN.{length, replicate}
 use lib.Dec.{eqb}
@@ -21,3 +21,8 @@ padded n row = row ++ zeros (n - length row)
 unfoldable pub allZero : List ℕ → Bool
 allZero [] = true
 allZero (x ∷ l) = eqb x 0 && allZero l
+
+-- the place of the first number that a test picks, or the row's length
+unfoldable pub firstWhere : (ℕ → Bool) → List ℕ → ℕ
+firstWhere picks [] = 0
+firstWhere picks (x ∷ row) = let later : ℕ = suc (firstWhere picks row) in cond (picks x) 0 later

@@ -10,6 +10,8 @@ use mir.Facts.{or-yes, eqb-yes, yes-eqb}
 use lib.Dec.{T, eqb, ltb, leb·suc-suc}
 use lib.ListN.{length, drop, getD}
 use lib.Seq.{drop-cons, drop-length}
+use Rattle.ground.specs.Paper.Rows.{firstWhere}
+use Rattle.ground.specs.Laws.Rows.{first-at, first-past, first-end}
 use Rattle.stopper.specs.Paper.Table.{has, repeats, rankIn}
 
 infix 50 _∈_
@@ -24,11 +26,11 @@ mem-at (x ∷ l) (suc i) h = List·Memᴰ·tail (mem-at l i (omega arith))
 module _ (l : List ℕ) (i : ℕ) (h : i < length l) where
   pub rank-here : (b : ℕ) → getD l i 0 ≡ b → rankIn (drop i l) b ≡ 0
   unfolding rankIn
-  rank-here b e = rw (drop-cons l i 0, eq-eqb _ _ e)
+  rank-here b e = first-at (λ x. eqb x b) l i h (eq-eqb _ _ e)
 
   pub rank-next : (b : ℕ) → getD l i 0 ≢ b → rankIn (drop i l) b ≡ suc (rankIn (drop (suc i) l) b)
   unfolding rankIn
-  rank-next b e = rw (drop-cons l i 0, ne-eqb _ _ e)
+  rank-next b e = first-past (λ x. eqb x b) l i h (ne-eqb _ _ e)
 
   pub has-next : (b : ℕ) → has b (drop i l) ≡ (eqb (getD l i 0) b || has b (drop (suc i) l))
   unfolding has
@@ -41,7 +43,7 @@ module _ (l : List ℕ) (i : ℕ) (h : i < length l) where
 -- past the last place there is nothing
 pub rank-end : (l : List ℕ) (b : ℕ) → rankIn (drop (length l) l) b ≡ 0
 unfolding rankIn
-rank-end l b = rw drop-length
+rank-end l b = first-end (λ x. eqb x b) l
 
 pub has-end : (l : List ℕ) (b : ℕ) → has b (drop (length l) l) ≡ false
 unfolding has
@@ -64,7 +66,7 @@ repeats-end (x ∷ l) (suc i) e = rw (repeats-end l i e) (or-true (has x l))
 
 -- a character is in the row if its rank is below the row's length
 pub has-rank : (l : List ℕ) (b : ℕ) → has b l ≡ ltb (rankIn l b) (length l)
-unfolding has rankIn
+unfolding has rankIn firstWhere
 has-rank [] b = refl
 has-rank (x ∷ l) b = go (eqb x b) (has-rank l b)
   where

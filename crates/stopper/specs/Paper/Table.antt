@@ -1,10 +1,10 @@
 -- The table: its code, its characters, and when they are good.
-use mathlib.Core.Bool.{Bool, false, cond, not, _&&_, _||_}
+use mathlib.Core.Bool.{Bool, false, not, _&&_, _||_}
 use mathlib.Core.List.{List, [], _∷_}
-use Prim.Native.Nat.{ℕ, suc, _-_, _^_}
+use Prim.Native.Nat.{ℕ, _-_, _^_}
 use lib.Dec.{leb, eqb}
 use lib.ListN.{length, take}
-use Rattle.ground.specs.Paper.Rows.{padded}
+use Rattle.ground.specs.Paper.Rows.{padded, firstWhere}
 use Rattle.stopper.specs.Paper.Code.{codeword}
 use Rattle.stopper.specs.declared.code.Code.{Code}
 use Rattle.stopper.specs.declared.table.Table.{Table}
@@ -68,8 +68,7 @@ goodTable t = goodCode (t .code) && goodCharacters (t .sigma) (t .places)
 
 -- the rank of character b: its place in the row, or the row's length if it is not there
 unfoldable pub rankIn : List ℕ → ℕ → ℕ
-rankIn [] b = 0
-rankIn (x ∷ l) b = let later : ℕ = suc (rankIn l b) in cond (eqb x b) 0 later
+rankIn l b = firstWhere (λ x. eqb x b) l
 
 -- the table of a code and of characters in rank order, 0 past them
 abbrev pub tableOf : Code → List ℕ → Table

@@ -44,10 +44,9 @@ takenOf lengths room (b ∷ text) =
 abbrev pub fitOf : List ℕ → ℕ → List ℕ → Fit
 fitOf lengths room text = record { upto = uptoOf lengths room text; taken = takenOf lengths room text }
 
--- the place of the first character that is not in the table, or the text's length
-unfoldable pub foreignOf : List ℕ → List ℕ → ℕ
-foreignOf lengths [] = 0
-foreignOf lengths (b ∷ text) = let later : ℕ = suc (foreignOf lengths text) in cond (eqb (getD lengths b 0) 0) 0 later
+-- a character is not in the table
+abbrev pub absent : List ℕ → ℕ → Bool
+absent lengths b = eqb (getD lengths b 0) 0
 
 -- ---- a text under lengths and words
 

@@ -5,9 +5,9 @@ use Prim.Native.Nat.{ℕ, suc, _+_, _*_, _≤_, _<_}
 use native.Mathlib.Omega.{arith}
 use lib.Dec.{T}
 use lib.ListN.{length, drop, getD-replicate}
-use Rattle.ground.specs.Paper.Rows.{zeros}
+use Rattle.ground.specs.Paper.Rows.{zeros, firstWhere}
 use Rattle.ground.specs.Helpers.Below.{Below, none}
-use Rattle.ground.specs.Laws.Rows.{below-zeros, length-zeros}
+use Rattle.ground.specs.Laws.Rows.{below-zeros, length-zeros, first-within}
 use Rattle.stopper.specs.Paper.Table.{goodTable, goodCode, characters, longest}
 use Rattle.stopper.specs.Paper.Reading.{write}
 use Rattle.stopper.specs.Laws.Table.{table-code, table-few, code-width}
@@ -15,9 +15,9 @@ use Rattle.stopper.specs.declared.table.Table.{Table}
 use Rattle.texts.specs.Paper.Characters.{firstForeign}
 use Rattle.texts.specs.Laws.Characters.{characters-few}
 use Rattle.sound.specs.Paper.Roll.{textRow}
-use Rattle.store.specs.Helpers.Words.{Spelt, uptoOf, takenOf, foreignOf, wordAt, rowOf}
+use Rattle.store.specs.Helpers.Words.{Spelt, uptoOf, takenOf, absent, wordAt, rowOf}
 use Rattle.store.specs.Helpers.Measured.{Measured}
-use Rattle.store.specs.Laws.Words.{upto-le, taken-le, foreign-le, foreign-from, foreign-is, over-is, row-is, taken-is, words-laid}
+use Rattle.store.specs.Laws.Words.{upto-le, taken-le, foreign-from, foreign-is, over-is, row-is, taken-is, words-laid}
 use Rattle.store.specs.declared.measure.Extent.the-variants.{Fits, Foreign, Over}
 
 module _ (t : Table) (good : T (goodTable t)) (room : ℕ) where
@@ -26,7 +26,7 @@ module _ (t : Table) (good : T (goodTable t)) (room : ℕ) where
 
   -- an empty text, under lengths that are 0
   pub measured-none : (text : List ℕ) {lengths : List ℕ} (words : List ℕ) → length text ≡ 0 → lengths ≡ zeros 256 → length words ≡ 256 * longest → Measured t room text lengths words (Fits 0)
-  unfolding Measured firstForeign textRow write rowOf wordAt zeros
+  unfolding Measured firstForeign firstWhere textRow write rowOf wordAt zeros
   measured-none [] words e z w =
       rw z (
         record {
@@ -51,7 +51,7 @@ module _ (t : Table) (good : T (goodTable t)) (room : ℕ) where
     unfolding Measured
     measured-fits e k =
         let v : uptoOf lengths room text ≡ length text = omega (arith, u, upto-le lengths room text) in
-        let f : foreignOf lengths text ≡ length text = omega (arith, foreign-from lengths room text, foreign-le lengths text) in (
+        let f : firstWhere (absent lengths) text ≡ length text = omega (arith, foreign-from lengths room text, first-within (absent lengths) text) in (
           record {
             known = sym (foreign-is (t .code) code (characters t) lengths words s h) ∙ f;
             count = e ∙ taken-is (t .code) code (characters t) lengths words s h f room v;
@@ -62,9 +62,9 @@ module _ (t : Table) (good : T (goodTable t)) (room : ℕ) where
         )
 
     -- it stopped, and a foreign character was looked for from there on
-    module _ {v : ℕ} (e : v ≡ upto + foreignOf lengths (drop upto text)) where
-      found : v ≡ foreignOf lengths text
-      found = e ∙ ap (λ (n : ℕ). n + foreignOf lengths (drop n text)) u ∙ foreign-from lengths room text
+    module _ {v : ℕ} (e : v ≡ upto + firstWhere (absent lengths) (drop upto text)) where
+      found : v ≡ firstWhere (absent lengths) text
+      found = e ∙ ap (λ (n : ℕ). n + firstWhere (absent lengths) (drop n text)) u ∙ foreign-from lengths room text
 
       pub measured-foreign : v < length text → Measured t room text lengths words (Foreign v)
       unfolding Measured
@@ -73,5 +73,5 @@ module _ (t : Table) (good : T (goodTable t)) (room : ℕ) where
       pub measured-over : upto < length text → length text ≤ v → Measured t room text lengths words (Over upto)
       unfolding Measured
       measured-over k m =
-          let f : foreignOf lengths text ≡ length text = omega (arith, found, foreign-le lengths text) in
+          let f : firstWhere (absent lengths) text ≡ length text = omega (arith, found, first-within (absent lengths) text) in
           (sym (foreign-is (t .code) code (characters t) lengths words s h) ∙ f, u ∙ over-is (t .code) code (characters t) lengths words s h f room, k)

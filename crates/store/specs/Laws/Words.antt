@@ -1,19 +1,21 @@
 -- A text under the lengths and the words of a table.
 use mathlib.Core.Path.{_≡_, refl, sym, ap, ap₂, subst, _∙_}
 use mathlib.Core.Logic.{_≢_}
-use mathlib.Core.Bool.{Bool, true, false}
+use mathlib.Core.Bool.{true, false, not}
 use mathlib.Core.List.{List, [], _∷_, _++_, append-assoc, append-nil}
 use Prim.Native.Nat.{ℕ, suc, _+_, _-_, _*_, _^_, _≤_, _<_}
 use native.Mathlib.Nat.{zero-add}
 use native.Mathlib.Decide.{decLt}
 use native.Mathlib.Omega.{arith}
-use borrow.Author.Tests.{eq-eqb, ne-eqb, le-leb, lt-leb, lt-ltb, ltb-true, ltb-false}
+use borrow.Author.Tests.{eq-eqb, ne-eqb, lt-ltb, ltb-true}
 use mir.Facts.{and-yes}
 use lib.Dec.{T, eqb, ltb, leb, ltb→lt, leb→le}
 use lib.ListN.{length, take, drop, getD, length-append, length-drop, take-append-drop, List·getD-eq-default}
 use lib.Seq.{take-suc, drop-cons, length-take-le}
+use Rattle.ground.specs.Paper.Rows.{firstWhere}
 use Rattle.ground.specs.Helpers.Below.{Below, none, also}
-use Rattle.ground.specs.Laws.Rows.{getD-below, below-append, length-tab, tab-at, tab-below}
+use Rattle.ground.specs.Laws.Rows.{getD-below, below-append, length-tab, tab-at, tab-below, first-here, first-later, first-same}
+use Rattle.ground.specs.Laws.Tests.{by-value}
 use Rattle.stopper.specs.Paper.Reading.{write}
 use Rattle.stopper.specs.Paper.Table.{base, stoppers, goodCode, has, rankIn, wordOf, lengthOf, longest}
 use Rattle.stopper.specs.Laws.Characters.{has-rank}
@@ -25,7 +27,7 @@ use Rattle.texts.specs.Paper.Characters.{firstForeign}
 use Rattle.sound.specs.Paper.Roll.{textRow}
 use Rattle.sound.specs.Laws.Texts.{length-cons}
 use Rattle.store.specs.Paper.Fitting.{firstOver}
-use Rattle.store.specs.Helpers.Words.{lengthFor, Spelt, goesOn, uptoOf, takenOf, foreignOf, wordAt, rowOf, WordsLaid, Laid}
+use Rattle.store.specs.Helpers.Words.{lengthFor, Spelt, goesOn, uptoOf, takenOf, absent, wordAt, rowOf, WordsLaid, Laid}
 
 -- ---- a character that goes on
 
@@ -38,11 +40,6 @@ goes-parts long left e =
 goes-fits : (long left : ℕ) → 0 < long → goesOn long left ≡ leb long left
 unfolding goesOn
 goes-fits long left h = rw (lt-ltb 0 long h)
-
--- by cases on a test's value
-cases : {X : Type 0} (b : Bool) → (b ≡ true → X) → (b ≡ false → X) → X
-cases true f g = f refl
-cases false f g = g refl
 
 -- ---- lengths
 
@@ -65,19 +62,11 @@ module _ (lengths : List ℕ) where
     unfolding takenOf
     taken-stop = rw e
 
-  pub foreign-more : (b : ℕ) (text : List ℕ) → getD lengths b 0 ≢ 0 → foreignOf lengths (b ∷ text) ≡ suc (foreignOf lengths text)
-  unfolding foreignOf
-  foreign-more b text n = rw (ne-eqb _ _ n)
-
-  pub foreign-here : (b : ℕ) (text : List ℕ) → getD lengths b 0 ≡ 0 → foreignOf lengths (b ∷ text) ≡ 0
-  unfolding foreignOf
-  foreign-here b text e = rw (eq-eqb _ _ e)
-
   pub upto-le : (room : ℕ) (text : List ℕ) → uptoOf lengths room text ≤ length text
   unfolding uptoOf
   upto-le room [] = omega arith
   upto-le room (b ∷ text) =
-      cases (goesOn (getD lengths b 0) room)
+      by-value (goesOn (getD lengths b 0) room)
       (λ e. omega (arith, upto-more room b text e, upto-le (room - getD lengths b 0) text))
       (λ e. omega (arith, upto-stop room b text e))
 
@@ -85,7 +74,7 @@ module _ (lengths : List ℕ) where
   unfolding takenOf
   taken-le room [] = omega arith
   taken-le room (b ∷ text) =
-      cases (goesOn (getD lengths b 0) room)
+      by-value (goesOn (getD lengths b 0) room)
       (λ e. omega (arith, taken-more room b text e, goes-parts _ _ e, taken-le (room - getD lengths b 0) text))
       (λ e. omega (arith, taken-stop room b text e))
 
@@ -94,27 +83,19 @@ module _ (lengths : List ℕ) where
   unfolding uptoOf takenOf
   upto-taken room [] = omega arith
   upto-taken room (b ∷ text) =
-      cases (goesOn (getD lengths b 0) room)
+      by-value (goesOn (getD lengths b 0) room)
       (λ e. omega (arith, upto-more room b text e, taken-more room b text e, goes-parts _ _ e, upto-taken (room - getD lengths b 0) text))
       (λ e. omega (arith, upto-stop room b text e))
 
-  pub foreign-le : (text : List ℕ) → foreignOf lengths text ≤ length text
-  unfolding foreignOf
-  foreign-le [] = omega arith
-  foreign-le (b ∷ text) =
-      cases (eqb (getD lengths b 0) 0)
-      (λ e. rw e (omega arith))
-      (λ e. rw e (omega (arith, foreign-le text)))
-
   -- the first foreign character may be looked for from where they end
-  pub foreign-from : (room : ℕ) (text : List ℕ) → uptoOf lengths room text + foreignOf lengths (drop (uptoOf lengths room text) text) ≡ foreignOf lengths text
+  pub foreign-from : (room : ℕ) (text : List ℕ) → uptoOf lengths room text + firstWhere (absent lengths) (drop (uptoOf lengths room text) text) ≡ firstWhere (absent lengths) text
   unfolding uptoOf
   foreign-from room [] = zero-add _
   foreign-from room (b ∷ text) =
-      cases (goesOn (getD lengths b 0) room)
+      by-value (goesOn (getD lengths b 0) room)
       (λ e.
       let n : getD lengths b 0 ≢ 0 = λ z. omega (arith, goes-parts _ _ e) in
-      rw e (omega (arith, foreign-more b text n, foreign-from (room - getD lengths b 0) text)))
+      rw e (omega (arith, first-later (absent lengths) b text (ne-eqb _ _ n), foreign-from (room - getD lengths b 0) text)))
       (λ e. rw e (zero-add _))
 
 -- ---- rows
@@ -186,38 +167,32 @@ module _ (c : Code) (g : T (goodCode c)) (l : List ℕ) where
   unfolding lengthFor
   for-none b e = rw e
 
-  -- a length of 0 is a rank past the row's end
-  foreign-test : (b : ℕ) → eqb (lengthFor c l b) 0 ≡ leb (length l) (rankIn l b)
+  -- a length of 0 is that of a character that is not in the row
+  foreign-test : (b : ℕ) → eqb (lengthFor c l b) 0 ≡ not (has b l)
   foreign-test b =
-      cases (has b l)
-      (λ e.
-      let r : rankIn l b < length l = ltb-true _ _ (sym (has-rank l b) ∙ e) in
-      let n : lengthFor c l b ≢ 0 = λ z. omega (arith, for-there b e, length-pos (rankIn l b)) in
-      ne-eqb _ _ n ∙ sym (lt-leb _ _ r))
-      (λ e.
-      let r : length l ≤ rankIn l b = ltb-false _ _ (sym (has-rank l b) ∙ e) in
-      eq-eqb _ _ (for-none b e) ∙ sym (le-leb _ _ r))
+      by-value (has b l)
+      (λ e. rw e (ne-eqb (lengthFor c l b) 0 (λ z. omega (arith, for-there b e, length-pos (rankIn l b)))))
+      (λ e. rw e (eq-eqb _ _ (for-none b e)))
 
   module _ (lengths words : List ℕ) (s : Spelt c l lengths words) where
     at-length : (b : ℕ) → b < 256 → getD lengths b 0 ≡ lengthFor c l b
     at-length b h = ap (λ (x : List ℕ). getD x b 0) (s .sizes) ∙ tab-at (lengthFor c l) 256 b h
 
-    pub foreign-is : {text : List ℕ} → Below 256 text → foreignOf lengths text ≡ firstForeign l text
-    unfolding foreignOf firstForeign
-    foreign-is none = refl
-    foreign-is (also {x = b} {xs = text} h hs) = rw (at-length b h, foreign-test b, foreign-is hs)
+    pub foreign-is : {text : List ℕ} → Below 256 text → firstWhere (absent lengths) text ≡ firstForeign l text
+    unfolding firstForeign
+    foreign-is h = first-same (absent lengths) (λ b. not (has b l)) h (λ b k. ap (λ (n : ℕ). eqb n 0) (at-length b k) ∙ foreign-test b)
 
     -- a character that is not foreign is in the row
     there : (b : ℕ) → b < 256 → getD lengths b 0 ≢ 0 → has b l ≡ true
-    there b h n = cases (has b l) (λ e. e) (λ e. absurd (n (at-length b h ∙ for-none b e)))
+    there b h n = by-value (has b l) (λ e. e) (λ e. absurd (n (at-length b h ∙ for-none b e)))
 
     -- a text with no foreign character, and one that fits: its first character, and the rest
-    all-known : (b : ℕ) (text : List ℕ) → foreignOf lengths (b ∷ text) ≡ suc (length text) → (getD lengths b 0 ≢ 0) × (foreignOf lengths text ≡ length text)
+    all-known : (b : ℕ) (text : List ℕ) → firstWhere (absent lengths) (b ∷ text) ≡ suc (length text) → (getD lengths b 0 ≢ 0) × (firstWhere (absent lengths) text ≡ length text)
     all-known b text e =
-        let n : getD lengths b 0 ≢ 0 = λ z. omega (arith, foreign-here lengths b text z) in
-        (n, omega (arith, foreign-more lengths b text n))
+        let n : getD lengths b 0 ≢ 0 = λ z. omega (arith, first-here (absent lengths) b text (eq-eqb _ _ z)) in
+        (n, omega (arith, first-later (absent lengths) b text (ne-eqb _ _ n)))
 
-    pub over-is : {text : List ℕ} → Below 256 text → foreignOf lengths text ≡ length text → (room : ℕ) → uptoOf lengths room text ≡ firstOver c l room text
+    pub over-is : {text : List ℕ} → Below 256 text → firstWhere (absent lengths) text ≡ length text → (room : ℕ) → uptoOf lengths room text ≡ firstOver c l room text
     unfolding uptoOf firstOver
     over-is none e room = refl
     over-is (also {x = b} {xs = text} h hs) e room =
@@ -225,7 +200,7 @@ module _ (c : Code) (g : T (goodCode c)) (l : List ℕ) where
         let n : getD lengths b 0 ≡ lengthOf c (rankIn l b) = at-length b h ∙ for-there b (there b h (k .0)) in
         rw (n, goes-fits _ room (length-pos (rankIn l b)), over-is hs (k .1) (room - lengthOf c (rankIn l b)))
 
-    pub row-is : {text : List ℕ} → Below 256 text → foreignOf lengths text ≡ length text → rowOf lengths words text ≡ textRow c l text
+    pub row-is : {text : List ℕ} → Below 256 text → firstWhere (absent lengths) text ≡ length text → rowOf lengths words text ≡ textRow c l text
     unfolding rowOf textRow write wordAt
     row-is none e = refl
     row-is (also {x = b} {xs = text} h hs) e =
@@ -236,11 +211,11 @@ module _ (c : Code) (g : T (goodCode c)) (l : List ℕ) where
     all-fits : (room b : ℕ) (text : List ℕ) → uptoOf lengths room (b ∷ text) ≡ suc (length text)
         → (goesOn (getD lengths b 0) room ≡ true) × (uptoOf lengths (room - getD lengths b 0) text ≡ length text)
     all-fits room b text f =
-        cases (goesOn (getD lengths b 0) room)
+        by-value (goesOn (getD lengths b 0) room)
         (λ e. (e, omega (arith, upto-more lengths room b text e)))
         (λ e. absurd (omega (arith, upto-stop lengths room b text e)))
 
-    pub taken-is : {text : List ℕ} → Below 256 text → foreignOf lengths text ≡ length text → (room : ℕ) → uptoOf lengths room text ≡ length text
+    pub taken-is : {text : List ℕ} → Below 256 text → firstWhere (absent lengths) text ≡ length text → (room : ℕ) → uptoOf lengths room text ≡ length text
         → takenOf lengths room text ≡ length (textRow c l text)
     unfolding takenOf textRow write lengthOf
     taken-is none e room f = refl
@@ -255,7 +230,7 @@ module _ (c : Code) (g : T (goodCode c)) (l : List ℕ) where
     word-below : (b : ℕ) → b < 256 → Below (base c) (wordAt lengths words b)
     unfolding wordAt write
     word-below b h =
-        cases (has b l)
+        by-value (has b l)
         (λ e. rw (at-length b h, s .word b h e) (rw append-nil at (write-below (base c) (stoppers c) (code-good c g) (rankIn l b ∷ []))))
         (λ e. rw (at-length b h, for-none b e) none)
 
@@ -271,7 +246,7 @@ module _ (c : Code) (g : T (goodCode c)) (l : List ℕ) where
       where
         short : (b : ℕ) → lengthFor c l b < (suc longest)
         short b =
-            cases (has b l)
+            by-value (has b l)
             (λ e.
             let r : rankIn l b < length l = ltb-true _ _ (sym (has-rank l b) ∙ e) in
             omega (arith, for-there b e, length-small c g (rankIn l b) (omega arith)))

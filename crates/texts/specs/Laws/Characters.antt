@@ -1,18 +1,19 @@
 -- Characters and their ranks in a row; a text whose characters are all in it, and the first that is not.
 use mathlib.Core.Path.{_≡_, refl, sym, ap, ap₂, subst, _∙_}
-use mathlib.Core.Bool.{Bool, true, false, cond, _||_}
+use mathlib.Core.Bool.{Bool, true, false, cond, not, _||_}
 use mathlib.Core.List.{List, [], _∷_, _++_, map, List·Memᴰ·head, List·Memᴰ·tail}
 use Prim.Native.Nat.{ℕ, zero, suc, _≤_, _<_}
 use native.Mathlib.Nat.{le-of-suc-le-suc}
-use native.Mathlib.Decide.{decLt}
 use native.Mathlib.Omega.{arith}
-use borrow.Author.Tests.{le-leb, lt-leb, le-ltb, eq-eqb, ne-eqb}
+use borrow.Author.Tests.{le-ltb, eq-eqb, ne-eqb}
 use mir.Facts.{yes-ltb, eqb-yes}
 use lib.Dec.{T, eqb, ltb→lt}
 use lib.ListN.{length, take, drop, getD, length-take}
-use lib.Seq.{getD-take, length-take-le, drop-cons, drop-length}
+use lib.Seq.{getD-take, length-take-le}
+use Rattle.ground.specs.Paper.Rows.{firstWhere}
 use Rattle.ground.specs.Helpers.Below.{Below, none, also}
-use Rattle.ground.specs.Laws.Tests.{neither}
+use Rattle.ground.specs.Laws.Rows.{first-here, first-later, first-none, first-within, first-at, first-past, first-end}
+use Rattle.ground.specs.Laws.Tests.{by-value, yes-true, true-yes, neither}
 use Rattle.stopper.specs.Paper.Table.{has, repeats, rankIn, characters, goodTable}
 use Rattle.stopper.specs.Laws.Characters.{has-rank, mem-has, _∈_, mem-at}
 use Rattle.stopper.specs.Laws.Table.{table-few}
@@ -32,7 +33,7 @@ module _ (l : List ℕ) (b : ℕ) where
   beyond-has h = has-rank l b ∙ le-ltb _ _ h
 
 pub rank-character : (l : List ℕ) (b : ℕ) → T (has b l) → getD l (rankIn l b) 0 ≡ b
-unfolding has rankIn
+unfolding has rankIn firstWhere
 rank-character [] b t = absurd t
 rank-character (x ∷ l) b t = go (eqb x b) eqb-yes (rank-character l b) t
   where
@@ -41,7 +42,7 @@ rank-character (x ∷ l) b t = go (eqb x b) eqb-yes (rank-character l b) t
     go false here later t = later t
 
 pub character-rank : (l : List ℕ) → repeats l ≡ false → (r : ℕ) → r < length l → rankIn l (getD l r 0) ≡ r
-unfolding repeats rankIn
+unfolding repeats rankIn firstWhere
 character-rank [] e r h = absurd (omega arith)
 character-rank (x ∷ l) e zero h = rw (eq-eqb x x refl)
 character-rank (x ∷ l) e (suc r) h =
@@ -84,68 +85,57 @@ module _ {l : List ℕ} where
 -- ---- the first character that is not in the row
 
 module _ (l : List ℕ) where
-  pub foreign-here : (b : ℕ) (text : List ℕ) → length l ≤ rankIn l b → firstForeign l (b ∷ text) ≡ 0
+  pub foreign-here : (b : ℕ) (text : List ℕ) → has b l ≡ false → firstForeign l (b ∷ text) ≡ 0
   unfolding firstForeign
-  foreign-here b text h = rw (le-leb _ _ h)
+  foreign-here b text e = first-here (λ b. not (has b l)) b text (rw e)
 
-  pub foreign-later : (b : ℕ) (text : List ℕ) → rankIn l b < length l → firstForeign l (b ∷ text) ≡ suc (firstForeign l text)
+  pub foreign-later : (b : ℕ) (text : List ℕ) → T (has b l) → firstForeign l (b ∷ text) ≡ suc (firstForeign l text)
   unfolding firstForeign
-  foreign-later b text h = rw (lt-leb _ _ h)
+  foreign-later b text t = first-later (λ b. not (has b l)) b text (rw (yes-true (has b l) t))
 
   pub foreign-none : firstForeign l [] ≡ 0
   unfolding firstForeign
-  foreign-none = refl
+  foreign-none = first-none (λ b. not (has b l))
 
   pub foreign-within : (text : List ℕ) → firstForeign l text ≤ length text
-  foreign-within [] = rw foreign-none (omega arith)
-  foreign-within (b ∷ text) =
-      elim (decLt (rankIn l b) (length l)) [
-        | yes h ↦ rw (foreign-later b text h) (omega (arith, foreign-within text))
-        | no h ↦ rw (foreign-here b text (omega arith)) (omega arith)
-      ]
+  unfolding firstForeign
+  foreign-within text = first-within (λ b. not (has b l)) text
 
   -- all before it are in the table
   pub foreign-before : (text : List ℕ) → InTable l (take (firstForeign l text) text)
   foreign-before [] = rw foreign-none empty
   foreign-before (b ∷ text) =
-      elim (decLt (rankIn l b) (length l)) [
-        | yes h ↦ rw (foreign-later b text h) (char (within-has l b h) (foreign-before text))
-        | no h ↦ rw (foreign-here b text (omega arith)) empty
-      ]
+      by-value (has b l)
+      (λ e. let t = true-yes (has b l) e in rw (foreign-later b text t) (char t (foreign-before text)))
+      (λ e. rw (foreign-here b text e) empty)
 
   -- and it is not
   pub foreign-is : (text : List ℕ) → firstForeign l text < length text → has (getD text (firstForeign l text) 0) l ≡ false
   foreign-is [] h = absurd (omega arith)
   foreign-is (b ∷ text) h =
-      elim (decLt (rankIn l b) (length l)) [
-        | yes k ↦ rw (foreign-later b text k) (foreign-is text (le-of-suc-le-suc (rw (foreign-later b text k) at h)))
-        | no k ↦ rw (foreign-here b text (omega arith)) (beyond-has l b (omega arith))
-      ]
+      by-value (has b l)
+      (λ e. let f = foreign-later b text (true-yes (has b l) e) in rw f (foreign-is text (le-of-suc-le-suc (rw f at h))))
+      (λ e. rw (foreign-here b text e) e)
 
   -- no other number is so
   pub foreign-one : (text : List ℕ) (i : ℕ) → i ≤ length text → InTable l (take i text) → (i < length text → has (getD text i 0) l ≡ false)
       → i ≡ firstForeign l text
   foreign-one [] i h k n = rw foreign-none (omega arith)
-  foreign-one (b ∷ text) zero h k n =
-      elim (decLt (rankIn l b) (length l)) [
-        | yes p ↦ absurd (subst T (n (omega arith)) (within-has l b p))
-        | no p ↦ sym (foreign-here b text (omega arith))
-      ]
+  foreign-one (b ∷ text) zero h k n = sym (foreign-here b text (n (omega arith)))
   foreign-one (b ∷ text) (suc i) h (char t k) n =
-      ap suc (foreign-one text i (le-of-suc-le-suc h) k (λ p. n (omega arith))) ∙ sym (foreign-later b text (rank-within l b t))
+      ap suc (foreign-one text i (le-of-suc-le-suc h) k (λ p. n (omega arith))) ∙ sym (foreign-later b text t)
 
   -- a text is in the table exactly if it has none
   pub known-foreign : {text : List ℕ} → InTable l text → firstForeign l text ≡ length text
   known-foreign empty = foreign-none
-  known-foreign (char {b = b} {text = text} t h) = foreign-later b text (rank-within l b t) ∙ ap suc (known-foreign h)
+  known-foreign (char {b = b} {text = text} t h) = foreign-later b text t ∙ ap suc (known-foreign h)
 
   pub foreign-known : (text : List ℕ) → firstForeign l text ≡ length text → InTable l text
   foreign-known [] e = empty
   foreign-known (b ∷ text) e =
-      elim (decLt (rankIn l b) (length l)) [
-        | yes h ↦ char (within-has l b h) (foreign-known text (omega (arith, foreign-later b text h)))
-        | no h ↦ absurd (omega (arith, foreign-here b text (omega arith)))
-      ]
+      by-value (has b l)
+      (λ v. let t = true-yes (has b l) v in char t (foreign-known text (omega (arith, foreign-later b text t))))
+      (λ v. absurd (omega (arith, foreign-here b text v)))
 
 -- ---- a text and its ranks
 
@@ -180,10 +170,13 @@ places-characters t (also {x = r} h k) = ap₂ {C = List ℕ} _∷_ (sym (getD-t
 
 module _ (l p : List ℕ) (i : ℕ) (h : i < length p) where
   pub foreign-more : rankIn l (getD p i 0) < length l → firstForeign l (drop i p) ≡ suc (firstForeign l (drop (suc i) p))
-  foreign-more k = ap (firstForeign l) (drop-cons p i 0 h) ∙ foreign-later l (getD p i 0) (drop (suc i) p) k
+  unfolding firstForeign
+  foreign-more k = first-past (λ b. not (has b l)) p i h (rw (yes-true (has (getD p i 0) l) (within-has l (getD p i 0) k)))
 
   pub foreign-first : length l ≤ rankIn l (getD p i 0) → firstForeign l (drop i p) ≡ 0
-  foreign-first k = ap (firstForeign l) (drop-cons p i 0 h) ∙ foreign-here l (getD p i 0) (drop (suc i) p) k
+  unfolding firstForeign
+  foreign-first k = first-at (λ b. not (has b l)) p i h (rw (beyond-has l (getD p i 0) k))
 
 pub foreign-end : (l p : List ℕ) → firstForeign l (drop (length p) p) ≡ 0
-foreign-end l p = ap (firstForeign l) (drop-length p) ∙ foreign-none l
+unfolding firstForeign
+foreign-end l p = first-end (λ b. not (has b l)) p

@@ -1,33 +1,21 @@
 -- `store::words::first_foreign` meets its contract.
-use mathlib.Core.Path.{_≡_, refl, ap, _∙_}
+use mathlib.Core.Path.{_≡_, refl, ap}
 use mathlib.Core.Logic.{_≢_}
-use mathlib.Core.List.{List}
-use Prim.Native.Nat.{ℕ, suc, _+_, _-_, _≤_, _<_}
+use Prim.Native.Nat.{ℕ, _+_, _-_, _≤_}
 use native.Mathlib.Numerals.{add-one}
 use native.Mathlib.Omega.{arith}
 use borrow.Author.Needs.{needs}
+use borrow.Author.Tests.{eq-eqb, ne-eqb}
 use lib.ListN.{length, drop, getD}
-use lib.Seq.{drop-cons, drop-length}
-use Rattle.store.specs.Helpers.Words.{foreignOf}
-use Rattle.store.specs.Laws.Words.{foreign-more, foreign-here}
+use Rattle.ground.specs.Paper.Rows.{firstWhere}
+use Rattle.ground.specs.Laws.Rows.{first-at, first-past, first-end}
+use Rattle.store.specs.Helpers.Words.{absent}
 use Rattle.store.proofs.words.first_foreign.Statement.{statement}
 use Rattle.store.proofs.words.first_foreign.Tie as tie
 
--- at the place in hand, and past it
-module _ (lengths text : List ℕ) (i : ℕ) where
-  here : i < length text → getD lengths (getD text i 0) 0 ≡ 0 → foreignOf lengths (drop i text) ≡ 0
-  here h e = ap (foreignOf lengths) (drop-cons text i 0 h) ∙ foreign-here lengths (getD text i 0) (drop (suc i) text) e
-
-  next : i < length text → getD lengths (getD text i 0) 0 ≢ 0 → foreignOf lengths (drop i text) ≡ suc (foreignOf lengths (drop (suc i) text))
-  next h n = ap (foreignOf lengths) (drop-cons text i 0 h) ∙ foreign-more lengths (getD text i 0) (drop (suc i) text) n
-
-  past : i ≡ length text → foreignOf lengths (drop i text) ≡ 0
-  unfolding foreignOf
-  past e = rw (e, drop-length)
-
 abbrev Inv-loop : tie.InvT-loop
 Inv-loop lengths text from i₀ i =
-    (i ≤ length text) × (i + foreignOf lengths (drop i text) ≡ from + foreignOf lengths (drop from text))
+    (i ≤ length text) × (i + firstWhere (absent lengths) (drop i text) ≡ from + firstWhere (absent lengths) (drop from text))
 
 abbrev μ-loop : tie.MeasureT-loop
 μ-loop lengths text from i₀ i = length text - i
@@ -38,7 +26,7 @@ returns c =
     let l = k .before .before .before .before in
     let a = l .before .before .before .args in
     let h : getD (a .lengths .now) (getD (a .text .now) (l .loop .i) 0) 0 ≡ 0 = rw (← k .before .wide .ensures .0) (c .if1 .taken) in
-    omega (arith, here (a .lengths .now) (a .text .now) (l .loop .i) (omega arith) h, l .loop .inv .1)
+    omega (arith, first-at (absent (a .lengths .now)) (a .text .now) (l .loop .i) (omega arith) (eq-eqb _ _ h), l .loop .inv .1)
 
 loop-again : tie.Need-loop-again Inv-loop μ-loop
 loop-again c =
@@ -46,13 +34,14 @@ loop-again c =
     let l = k .before .before .before .before in
     let a = l .before .before .before .args in
     let n : getD (a .lengths .now) (getD (a .text .now) (l .loop .i) 0) 0 ≢ 0 = rw (← k .before .wide .ensures .0) (c .if1 .left) in
-    rw (add-one (l .loop .i)) (omega arith, omega (arith, next (a .lengths .now) (a .text .now) (l .loop .i) (omega arith) n, l .loop .inv .1))
+    rw (add-one (l .loop .i)) (omega arith, omega (arith, first-past (absent (a .lengths .now)) (a .text .now) (l .loop .i) (omega arith) (ne-eqb _ _ n), l .loop .inv .1))
 
 returns-2 : tie.Need-returns-2 Inv-loop μ-loop
 returns-2 c =
     let l = c .before in
     let a = l .before .before .before .args in
-    omega (arith, past (a .lengths .now) (a .text .now) (l .loop .i) (omega arith), l .loop .inv .1)
+    let e : l .loop .i ≡ length (a .text .now) = omega arith in
+    omega (arith, ap (λ (i : ℕ). firstWhere (absent (a .lengths .now)) (drop i (a .text .now))) e, first-end (absent (a .lengths .now)) (a .text .now), l .loop .inv .1)
 
 pub first-foreign-spec : {M : Type 1} → statement M
 first-foreign-spec =
