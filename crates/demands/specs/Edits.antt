@@ -21,13 +21,13 @@ use Rattle.sound.specs.Laws.Lengths.{sound-lengths}
 use Rattle.sound.specs.declared.records.Roll.{Roll}
 use Rattle.store.specs.Paper.Stored.{packedInto, bytesAfter, directoryAfter}
 use Rattle.store.specs.Laws.Edited.{Edits, textAfter, rollAfter, edit-known, edit-holds, edit-sound, edit-held, edit-text, edit-right}
 use Rattle.roll.specs.Paper.Operations.{packSays, Packing, Making, Unpacking, Searching, Editing}
 use Rattle.roll.specs.Laws.Accepting.{Packs, packs-accepted, edits-accepted, accepted-edits}
-use Rattle.roll.specs.Laws.Meaning.{packed-holds, packing-sound, unpacks-text}
+use Rattle.demands.specs.Meaning.{packed-holds, packing-sound, unpacks-text}
 use Rattle.roll.specs.Laws.Operations.{make-yes, search-yes}
-use Rattle.roll.specs.Laws.Made.{made-right}
+use Rattle.demands.specs.Made.{made-right}
 use Rattle.roll.specs.declared.pack.Packed.{Packed}
 use Rattle.roll.specs.declared.edit.Edited.{Edited}
 
 -- an edit that can be made is accepted
 pub edits-yes : {r : Roll} {buf dir : List ℕ} {start end : ℕ} {text : List ℕ} {e : Edited} {after behind : List ℕ}

@@ -33,8 +33,8 @@ use Rattle.sound.specs.Paper.Roll.{symbolsFor, recordOf, textOf, Sound}
 use Rattle.sound.specs.declared.records.Roll.{Roll}
 use Rattle.roll.specs.Paper.Operations.{packSays, Packing, Searching}
 use Rattle.roll.specs.Laws.Accepting.{accepted-packs}
-use Rattle.roll.specs.Laws.Meaning.{packing-sound}
 use Rattle.roll.specs.Laws.Operations.{search-yes}
+use Rattle.demands.specs.Meaning.{packing-sound}
 use Rattle.roll.specs.declared.pack.Packed.{Packed}
 use Rattle.writing.specs.Laws.Written.{decimal-most, hex-length, numbers-few}
 use Rattle.report.specs.Paper.Report.{bestWord, symbolsWord, hitsWord, bestLine, hitsLine, refusedLine, linesOf, ownTable, linesFor}
