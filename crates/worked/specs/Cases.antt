@@ -24,7 +24,7 @@ use Rattle.sound.specs.Paper.Roll.{textRow, symbolsFor, readingFrom, isBad, ran
 use Rattle.sound.specs.Paper.Lengths.{lengthsOf, lengthsFor}
 use Rattle.sound.specs.declared.records.Roll.{Roll}
 use Rattle.store.specs.Paper.Fitting.{firstOver}
-use Rattle.roll.specs.Paper.Operations.{packSays, packRoll, packLeaves, checkSays, unpackSays, unpackLeaves, makeSays, readSays, searchSays, searchLeaves, directorySays, editSays, editRoll, editLeaves, editMends}
+use Rattle.roll.specs.Paper.Operations.{packSays, packRoll, packLeaves, fitSays, checkSays, unpackSays, unpackLeaves, makeSays, readSays, searchSays, searchLeaves, directorySays, editSays, editRoll, editLeaves, editMends}
 
 -- ---- whether two are the same
 
@@ -170,7 +170,7 @@ cases =
 
 -- all that the cases compute with, named once
 unfoldable pub computed : Unit {0}
-unfolding limit tab zeros padded codeword place first shorter opens spell rankOf rankFrom rankAt stoppers goodWidth goodCode goodCharacters goodTable has repeats rankIn lengthOf readFrom ahead write key insert rankedFrom ranked occurs countsOf counted totalFrom total least chosen chosenTable per bytesFor room shift symbolAt symbolsOf number byteAt bytesOf firstForeign firstOver textRow readingFrom isBad ranksRead firstBad textOf allZero entries sum startAt directoryOf lengthsOf lengthsFor firstWrong stands hitsFrom hits goodPattern countSays chooseSays codewordSays characterSays packSays checkSays unpackSays makeSays readSays searchSays directorySays editSays
+unfolding limit tab zeros padded codeword place first shorter opens spell rankOf rankFrom rankAt stoppers goodWidth goodCode goodCharacters goodTable has repeats rankIn lengthOf readFrom ahead write key insert rankedFrom ranked occurs countsOf counted totalFrom total least chosen chosenTable per bytesFor room shift symbolAt symbolsOf number byteAt bytesOf firstForeign firstOver textRow readingFrom isBad ranksRead firstBad textOf allZero entries sum startAt directoryOf lengthsOf lengthsFor firstWrong stands hitsFrom hits goodPattern countSays chooseSays codewordSays characterSays packSays fitSays checkSays unpackSays makeSays readSays searchSays directorySays editSays
 computed = tt
 
 worked : T (every cases)
