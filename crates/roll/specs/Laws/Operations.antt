@@ -123,7 +123,7 @@ directory-sound {r} {buf} {dir} d e = accepted-right r buf dir (says-as (d .says
 pub edit-refused : {r : Roll} {buf dir : List ℕ} {start end : ℕ} {text : List ℕ} {e : Edited} (n v : ℕ) → editSays r buf dir start end text ≡ refused n v
     → e ≡ refusedEdit r n v → Editing r buf dir start end text e buf dir
 unfolding refusedEdit
-edit-refused n v e p = rw p (record { says = sym e; roll = rw e; leaves = rw e; mends = rw e })
+edit-refused n v e p = rw p (record { says = sym e; roll = rw e; leaves = rw e; directory = rw e })
 
 module _ {r : Roll} {buf : List ℕ} (dir : List ℕ) (start end : ℕ) (text : List ℕ) (s : Sound r buf) (right : Right r buf dir) (a : start ≤ end) (b : end ≤ r .n)
     (f : firstForeign (characters (r .table)) text ≡ length text) where
@@ -144,7 +144,7 @@ module _ {r : Roll} {buf : List ℕ} (dir : List ℕ) (start end : ℕ) (text : 
   unfolding editSays
   edit-last o = rw (right-accepted r buf dir s right, le-ltb _ _ a, le-ltb _ _ b, le-ltb _ _ (le-of-eq (sym f)), le-ltb _ _ (le-of-eq (sym o)))
 
-pub edit-yes : {r : Roll} {buf dir : List ℕ} {start end : ℕ} {text : List ℕ} {q : Roll} {after behind : List ℕ} → let new = edited (textOf r buf) start end text in
-    Accepted (editSays r buf dir start end text) → q ≡ recordOf (r .table) new → after ≡ bytesAfter r new buf → behind ≡ directoryAfter r new dir
-    → Editing r buf dir start end text (record { answer = Yes; roll = q }) after behind
-edit-yes e p q o = record { says = sym e; roll = rw e p; leaves = rw e q; mends = rw e o }
+pub edit-yes : {r : Roll} {buf dir : List ℕ} {start end : ℕ} {text : List ℕ} {q : Roll} {after dirAfter : List ℕ} → let new = edited (textOf r buf) start end text in
+    Accepted (editSays r buf dir start end text) → q ≡ recordOf (r .table) new → after ≡ bytesAfter r new buf → dirAfter ≡ directoryAfter r new dir
+    → Editing r buf dir start end text (record { answer = Yes; roll = q }) after dirAfter
+edit-yes e p q o = record { says = sym e; roll = rw e p; leaves = rw e q; directory = rw e o }

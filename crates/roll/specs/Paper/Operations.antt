@@ -190,11 +190,11 @@ editRoll r buf dir start end text = kept (editSays r buf dir start end text) r (
 abbrev pub editLeaves : Roll → List ℕ → List ℕ → ℕ → ℕ → List ℕ → List ℕ
 editLeaves r buf dir start end text = kept (editSays r buf dir start end text) buf (bytesAfter r (edited (textOf r buf) start end text) buf)
 
-abbrev pub editMends : Roll → List ℕ → List ℕ → ℕ → ℕ → List ℕ → List ℕ
-editMends r buf dir start end text = kept (editSays r buf dir start end text) dir (directoryAfter r (edited (textOf r buf) start end text) dir)
+abbrev pub editDirectory : Roll → List ℕ → List ℕ → ℕ → ℕ → List ℕ → List ℕ
+editDirectory r buf dir start end text = kept (editSays r buf dir start end text) dir (directoryAfter r (edited (textOf r buf) start end text) dir)
 
-pub record Editing (r : Roll) (buf dir : List ℕ) (start end : ℕ) (text : List ℕ) (e : Edited) (after behind : List ℕ) : Type 0 where
+pub record Editing (r : Roll) (buf dir : List ℕ) (start end : ℕ) (text : List ℕ) (e : Edited) (after dirAfter : List ℕ) : Type 0 where
   pub says : doneSays (e .answer) ≡ editSays r buf dir start end text
   pub roll : e .roll ≡ editRoll r buf dir start end text
   pub leaves : after ≡ editLeaves r buf dir start end text
-  pub mends : behind ≡ editMends r buf dir start end text
+  pub directory : dirAfter ≡ editDirectory r buf dir start end text

@@ -42,7 +42,7 @@ asked c = fitted (placed (entered c))
 abbrev begun : tie.After-pass-over → tie.Start
 begun c = start (asked c)
 
--- what is asked first leaves
+-- what `fits` leaves
 fits : (c : tie.After-enum-told) → let a = start c .args in Accepted (fitSays (a .roll) (a .buf .now))
 fits c = says-as (c .before .before .fits2 .ensures .says) (c .enum-told .given .1)
 
