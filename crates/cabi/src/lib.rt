@@ -18,7 +18,7 @@ ghost use mathlib.Core.Path.{_≡_};
 ghost use Rattle.ground.specs.Paper.Refusals.{accepted, _then_, kept};
 ghost use Rattle.stopper.specs.Paper.Operations.{codewordSays, codewordGiven, characterSays};
 ghost use Rattle.choosing.specs.Paper.Operations.{countSays, countLeaves, chooseSays, chooseTable, chooseTotal};
-ghost use Rattle.roll.specs.Paper.Operations.{packSays, packRoll, packLeaves, checkSays, unpackSays, unpackLeaves, makeSays, makeLeaves, readSays, searchSays, searchLeaves, editSays, editRoll, editLeaves, editMends};
+ghost use Rattle.roll.specs.Paper.Operations.{packSays, packRoll, packLeaves, checkSays, unpackSays, unpackLeaves, makeSays, makeLeaves, readSays, searchSays, searchLeaves, editSays, editRoll, editLeaves, editDirectory};
 ghost use Rattle.cabi.specs.Paper.Taken.{Told, tableAt, rollAt};
 
 #[no_mangle]
@@ -282,7 +282,7 @@ pub extern "C" fn monterculo_edit(
 ) -> u32
     ensures told { λ r. ⌜ Told (editSays (rollAt k s sigma (now (places .entry)) (now (n .entry)) (now (h .entry))) (now (buf .entry)) (now (dir .entry)) start end (now (text .entry)) then accepted 0) r (now (value .exit)) ⌝ }
     ensures buf { λ _. ⌜ now (buf .exit) ≡ editLeaves (rollAt k s sigma (now (places .entry)) (now (n .entry)) (now (h .entry))) (now (buf .entry)) (now (dir .entry)) start end (now (text .entry)) ⌝ }
-    ensures dir { λ _. ⌜ now (dir .exit) ≡ editMends (rollAt k s sigma (now (places .entry)) (now (n .entry)) (now (h .entry))) (now (buf .entry)) (now (dir .entry)) start end (now (text .entry)) ⌝ }
+    ensures dir { λ _. ⌜ now (dir .exit) ≡ editDirectory (rollAt k s sigma (now (places .entry)) (now (n .entry)) (now (h .entry))) (now (buf .entry)) (now (dir .entry)) start end (now (text .entry)) ⌝ }
     ensures n { λ _. ⌜ now (n .exit) ≡ editRoll (rollAt k s sigma (now (places .entry)) (now (n .entry)) (now (h .entry))) (now (buf .entry)) (now (dir .entry)) start end (now (text .entry)) .n ⌝ }
     ensures h { λ _. ⌜ now (h .exit) ≡ editRoll (rollAt k s sigma (now (places .entry)) (now (n .entry)) (now (h .entry))) (now (buf .entry)) (now (dir .entry)) start end (now (text .entry)) .h ⌝ }
 {

@@ -30,20 +30,20 @@ use Rattle.roll.specs.declared.pack.Packed.{Packed}
 use Rattle.roll.specs.declared.edit.Edited.{Edited}
 
 -- an edit that can be made is accepted
-pub edits-yes : {r : Roll} {buf dir : List ℕ} {start end : ℕ} {text : List ℕ} {e : Edited} {after behind : List ℕ}
-    → Editing r buf dir start end text e after behind → Edits r buf dir start end text → e .answer ≡ Yes
+pub edits-yes : {r : Roll} {buf dir : List ℕ} {start end : ℕ} {text : List ℕ} {e : Edited} {after dirAfter : List ℕ}
+    → Editing r buf dir start end text e after dirAfter → Edits r buf dir start end text → e .answer ≡ Yes
 edits-yes {r} {buf} {dir} {start} {end} {text} {e} p u = done-one (e .answer) Yes (p .says ∙ edits-accepted r buf dir start end text u)
 
 -- an edit that is accepted leaves the edited text's record, bytes and directory
-pub editing-yes : {r : Roll} {buf dir : List ℕ} {start end : ℕ} {text : List ℕ} {e : Edited} {after behind : List ℕ}
-    → Editing r buf dir start end text e after behind → e .answer ≡ Yes
+pub editing-yes : {r : Roll} {buf dir : List ℕ} {start end : ℕ} {text : List ℕ} {e : Edited} {after dirAfter : List ℕ}
+    → Editing r buf dir start end text e after dirAfter → e .answer ≡ Yes
     → Edits r buf dir start end text
     × (e .roll ≡ rollAfter r buf start end text)
     × (after ≡ bytesAfter r (textAfter r buf start end text) buf)
-    × (behind ≡ directoryAfter r (textAfter r buf start end text) dir)
+    × (dirAfter ≡ directoryAfter r (textAfter r buf start end text) dir)
 editing-yes {r} {buf} {dir} {start} {end} {text} p y =
     let e = says-as (p .says) y in
-    (accepted-edits r buf dir start end text e, p .roll ∙ accepted-leaves e _ _, p .leaves ∙ accepted-leaves e _ _, p .mends ∙ accepted-leaves e _ _)
+    (accepted-edits r buf dir start end text e, p .roll ∙ accepted-leaves e _ _, p .leaves ∙ accepted-leaves e _ _, p .directory ∙ accepted-leaves e _ _)
 
 module _ {r : Roll} {buf dir : List ℕ} {start end : ℕ} {text : List ℕ} (long : length (r .table .places) ≡ 256) (u : Edits r buf dir start end text) where
   abbrev E : List ℕ

@@ -62,5 +62,5 @@ pub edit-tight : (κs : Lfts 3) (a : Dens κs edit-kinds.ps) (r₁ r₂ : resT e
 edit-tight κs a r₁ r₂ s₁ s₂ p q = (
   ap₂ {C = Edited} (λ (x : Done) (y : Roll). record { answer = x; roll = y }) (done-one (r₁ .answer) (r₂ .answer) (p .says ∙ sym (q .says))) (p .roll ∙ sym (q .roll)),
   p .leaves ∙ sym (q .leaves),
-  p .mends ∙ sym (q .mends),
+  p .directory ∙ sym (q .directory),
 )

@@ -1,11 +1,10 @@
 // Checking a roll. Sound means that all checks pass.
+use crate::fits::fits;
 use ground::answers::Done;
 use sound::reading::Scan;
 use sound::reading::read_all;
 use sound::records::Roll;
-use stopper::table::good_table;
 use symbols::run::all_zero;
-use symbols::size::room_of;
 use symbols::size::unused;
 ghost use Prim.Native.Nat.{_+_};
 ghost use Rattle.roll.specs.Paper.Operations.{Checking};
@@ -13,16 +12,14 @@ ghost use Rattle.roll.specs.Paper.Operations.{Checking};
 pub fn check(roll: Roll, buf: &[u8]) -> Done
     ensures { λ r. ⌜ Checking roll (now (buf .entry)) r ⌝ }
 {
+    let fitting = fits(roll, buf);
+    let Done::Yes = fitting else {
+        return fitting;
+    };
     let table = roll.table;
-    if !good_table(table) {
-        return Done::Refused(1, 0);
-    }
     let code = table.code;
     let k = code.k;
     let h = roll.h as usize;
-    if room_of(k, buf.len()) < h {
-        return Done::Refused(5, h as u64);
-    }
     let sigma = table.sigma as u32;
     let read = read_all(code, sigma, buf, h);
     match read {

@@ -2,6 +2,7 @@
 // Each operation is its refusals, in the paper's order, and then a helper of the crates below: `sound`, `find` or `store`.
 pub mod check;
 pub mod edit;
+mod fits;
 pub mod make_directory;
 pub mod pack;
 pub mod read_one;

@@ -1,28 +1,25 @@
 // Reading one character.
+use crate::fits::fits;
 use ground::answers::Answer;
+use ground::answers::Done;
 use sound::reading::Found;
 use sound::reading::Passed;
 use sound::reading::codeword_at;
 use sound::reading::pass_over;
 use sound::records::Roll;
-use stopper::table::good_table;
-use symbols::size::room_of;
 ghost use Rattle.roll.specs.Paper.Operations.{ReadingOne};
 
 // It does not check the whole roll: it goes by the entry for place div 32, and judges the codewords from there on.
 pub fn read_one(roll: Roll, buf: &[u8], dir: &[u32], place: usize) -> Answer
     ensures { λ r. ⌜ ReadingOne roll (now (buf .entry)) (now (dir .entry)) place r ⌝ }
 {
+    let fitting = fits(roll, buf);
+    if let Done::Refused(number, value) = fitting {
+        return Answer::Refused(number, value);
+    }
     let table = roll.table;
-    if !good_table(table) {
-        return Answer::Refused(1, 0);
-    }
     let code = table.code;
-    let k = code.k;
     let h = roll.h as usize;
-    if room_of(k, buf.len()) < h {
-        return Answer::Refused(5, h as u64);
-    }
     if roll.n as usize <= place {
         return Answer::Refused(10, 0);
     }

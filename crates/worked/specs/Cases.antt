@@ -24,7 +24,7 @@ use Rattle.sound.specs.Paper.Roll.{textRow, symbolsFor, readingFrom, isBad, ran
 use Rattle.sound.specs.Paper.Lengths.{lengthsOf, lengthsFor}
 use Rattle.sound.specs.declared.records.Roll.{Roll}
 use Rattle.store.specs.Paper.Fitting.{firstOver}
-use Rattle.roll.specs.Paper.Operations.{packSays, packRoll, packLeaves, checkSays, unpackSays, unpackLeaves, makeSays, readSays, searchSays, searchLeaves, directorySays, editSays, editRoll, editLeaves, editMends}
+use Rattle.roll.specs.Paper.Operations.{packSays, packRoll, packLeaves, fitSays, checkSays, unpackSays, unpackLeaves, makeSays, readSays, searchSays, searchLeaves, directorySays, editSays, editRoll, editLeaves, editDirectory}
 
 -- ---- whether two are the same
 
@@ -88,11 +88,11 @@ right (finds r buf pattern slice o after) = sameTotal (searchSays r buf pattern)
 right (inside r buf pattern q) =
     stands (symbolsFor (r .table) pattern) (drop q (symbolsOf (r .table .code .k) buf))
     && not (has q (map (startAt (lengthsOf r buf)) (hits pattern (textOf r buf))))
-right (edits r buf dir start end text o r′ after behind) =
+right (edits r buf dir start end text o r′ after dirAfter) =
     sameOutcome (editSays r buf dir start end text) o
     && sameRoll (editRoll r buf dir start end text) r′
     && same (editLeaves r buf dir start end text) after
-    && same (editMends r buf dir start end text) behind
+    && same (editDirectory r buf dir start end text) dirAfter
 
 every : List Case → Bool
 every [] = true
@@ -170,7 +170,7 @@ cases =
 
 -- all that the cases compute with, named once
 unfoldable pub computed : Unit {0}
-unfolding limit tab zeros padded firstWhere codeword place first shorter opens spell rankOf rankFrom rankAt stoppers goodWidth goodCode goodCharacters goodTable has repeats rankIn lengthOf readFrom ahead write key insert rankedFrom ranked occurs countsOf counted totalFrom total least chosen chosenTable per bytesFor room shift symbolAt symbolsOf number byteAt bytesOf firstForeign firstOver textRow readingFrom isBad ranksRead firstBad textOf allZero entries sum startAt directoryOf lengthsOf lengthsFor firstWrong stands hitsFrom hits goodPattern countSays chooseSays codewordSays characterSays packSays checkSays unpackSays makeSays readSays searchSays directorySays editSays
+unfolding limit tab zeros padded firstWhere codeword place first shorter opens spell rankOf rankFrom rankAt stoppers goodWidth goodCode goodCharacters goodTable has repeats rankIn lengthOf readFrom ahead write key insert rankedFrom ranked occurs countsOf counted totalFrom total least chosen chosenTable per bytesFor room shift symbolAt symbolsOf number byteAt bytesOf firstForeign firstOver textRow readingFrom isBad ranksRead firstBad textOf allZero entries sum startAt directoryOf lengthsOf lengthsFor firstWrong stands hitsFrom hits goodPattern countSays chooseSays codewordSays characterSays packSays fitSays checkSays unpackSays makeSays readSays searchSays directorySays editSays
 computed = tt
 
 worked : T (every cases)

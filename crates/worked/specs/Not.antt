@@ -111,48 +111,48 @@ at : {l m : List ℕ} (i : ℕ) → l ≡ m → getD l i 0 ≡ getD m i 0
 at i e = ap (λ (l : List ℕ). getD l i 0) e
 
 -- an edit that refuses everything: dd in place of c fits
-pub edit-not-refusing : {e : Edited} {after behind : List ℕ} {n v : ℕ} → Editing packed packedAbra (0 ∷ []) 4 5 (100 ∷ 100 ∷ []) e after behind → e .answer ≡ Refused n v → ⊥
+pub edit-not-refusing : {e : Edited} {after dirAfter : List ℕ} {n v : ℕ} → Editing packed packedAbra (0 ∷ []) 4 5 (100 ∷ 100 ∷ []) e after dirAfter → e .answer ≡ Refused n v → ⊥
 unfolding abra packedAbra computed
 edit-not-refusing p e = apart (sym (p .says) ∙ ap doneSays e)
 
 -- the buffer left as it was, whatever is answered: dd in place of c
-pub edit-not-untouched : {e : Edited} {behind : List ℕ} → Editing packed packedAbra (0 ∷ []) 4 5 (100 ∷ 100 ∷ []) e packedAbra behind → ⊥
+pub edit-not-untouched : {e : Edited} {dirAfter : List ℕ} → Editing packed packedAbra (0 ∷ []) 4 5 (100 ∷ 100 ∷ []) e packedAbra dirAfter → ⊥
 unfolding abra packedAbra computed
 edit-not-untouched p = let e = at 1 (p .leaves) in omega arith
 
 -- the record left as it was: there are 12 characters then
-pub edit-not-record : {e : Edited} {after behind : List ℕ} → Editing packed packedAbra (0 ∷ []) 4 5 (100 ∷ 100 ∷ []) e after behind → e .roll ≡ packed → ⊥
+pub edit-not-record : {e : Edited} {after dirAfter : List ℕ} → Editing packed packedAbra (0 ∷ []) 4 5 (100 ∷ 100 ∷ []) e after dirAfter → e .roll ≡ packed → ⊥
 unfolding abra packedAbra computed
 edit-not-record p q = let e = ap (λ (r : Roll). r .n) (sym q ∙ p .roll) in omega arith
 
 -- the same outcome for every edit: dd in place of c, and cad dropped, leave other bytes
-pub edit-not-constant : {e : Edited} {after behind : List ℕ} → Editing packed packedAbra (0 ∷ []) 4 5 (100 ∷ 100 ∷ []) e after behind
-    → Editing packed packedAbra (0 ∷ []) 4 7 [] e after behind → ⊥
+pub edit-not-constant : {e : Edited} {after dirAfter : List ℕ} → Editing packed packedAbra (0 ∷ []) 4 5 (100 ∷ 100 ∷ []) e after dirAfter
+    → Editing packed packedAbra (0 ∷ []) 4 7 [] e after dirAfter → ⊥
 unfolding abra packedAbra computed
 edit-not-constant p q = let e = at 1 (sym (p .leaves) ∙ q .leaves) in omega arith
 
 -- the tail moved by a whole byte where the length changes by one symbol: a put before all, and the old byte 0 is byte 1
-pub edit-not-bytes : {e : Edited} {x : ℕ} {rest behind : List ℕ} → Editing packed packedAbra (0 ∷ []) 0 0 (97 ∷ []) e (x ∷ 24 ∷ rest) behind → ⊥
+pub edit-not-bytes : {e : Edited} {x : ℕ} {rest dirAfter : List ℕ} → Editing packed packedAbra (0 ∷ []) 0 0 (97 ∷ []) e (x ∷ 24 ∷ rest) dirAfter → ⊥
 unfolding abra packedAbra computed
 edit-not-bytes p = let e = at 1 (p .leaves) in omega arith
 
 -- digits left behind the new end: cad dropped, and byte 2 is 70 as before
-pub edit-not-left : {e : Edited} {x y : ℕ} {rest behind : List ℕ} → Editing packed packedAbra (0 ∷ []) 4 7 [] e (x ∷ y ∷ 70 ∷ rest) behind → ⊥
+pub edit-not-left : {e : Edited} {x y : ℕ} {rest dirAfter : List ℕ} → Editing packed packedAbra (0 ∷ []) 4 7 [] e (x ∷ y ∷ 70 ∷ rest) dirAfter → ⊥
 unfolding abra packedAbra computed
 edit-not-left p = let e = at 2 (p .leaves) in omega arith
 
 -- the directory left as it was: with a in place of c, character 32 starts at symbol 32
 pub edit-not-directory : {e : Edited} {after : List ℕ} → Editing longer packedLonger (0 ∷ 33 ∷ []) 0 1 (97 ∷ []) e after (0 ∷ 33 ∷ []) → ⊥
 unfolding abra computed
-edit-not-directory p = let e = at 1 (p .mends) in omega arith
+edit-not-directory p = let e = at 1 (p .directory) in omega arith
 
 -- an entry left that is used no longer: with c dropped, 32 characters have one
 pub edit-not-entry : {e : Edited} {after : List ℕ} → Editing longer packedLonger (0 ∷ 33 ∷ []) 0 1 [] e after (0 ∷ 33 ∷ []) → ⊥
 unfolding abra computed
-edit-not-entry p = let e = at 1 (p .mends) in omega arith
+edit-not-entry p = let e = at 1 (p .directory) in omega arith
 
 -- the byte before the run written with a zero: c starts in byte 1, and byte 0 stays
-pub edit-not-before : {e : Edited} {rest behind : List ℕ} → Editing packed packedAbra (0 ∷ []) 4 5 (100 ∷ 100 ∷ []) e (0 ∷ rest) behind → ⊥
+pub edit-not-before : {e : Edited} {rest dirAfter : List ℕ} → Editing packed packedAbra (0 ∷ []) 4 5 (100 ∷ 100 ∷ []) e (0 ∷ rest) dirAfter → ⊥
 unfolding abra packedAbra computed
 edit-not-before p = let e = first-of (p .leaves) in omega arith
 
@@ -160,14 +160,14 @@ number-of : {n m v w : ℕ} → _≡_ {A = Outcome (Unit {0})} (refused n v) (re
 number-of e = cc
 
 -- 12 asked before 4: 32 times a fill 8 bytes and one entry, and one more has neither room nor an entry
-pub edit-not-12-first : {e : Edited} {after behind : List ℕ} {v : ℕ}
-    → Editing (rolled abra 32 32) (replicate 8 0) (0 ∷ []) 32 32 (97 ∷ []) e after behind → e .answer ≡ Refused 12 v → ⊥
+pub edit-not-12-first : {e : Edited} {after dirAfter : List ℕ} {v : ℕ}
+    → Editing (rolled abra 32 32) (replicate 8 0) (0 ∷ []) 32 32 (97 ∷ []) e after dirAfter → e .answer ≡ Refused 12 v → ⊥
 unfolding abra computed
 edit-not-12-first p q = let e = number-of (sym (ap doneSays q) ∙ p .says) in omega arith
 
 -- 12 not asked: with a byte more there is room, and still no entry
-pub edit-not-unlisted : {e : Edited} {after behind : List ℕ}
-    → Editing (rolled abra 32 32) (replicate 9 0) (0 ∷ []) 32 32 (97 ∷ []) e after behind → e .answer ≡ Yes → ⊥
+pub edit-not-unlisted : {e : Edited} {after dirAfter : List ℕ}
+    → Editing (rolled abra 32 32) (replicate 9 0) (0 ∷ []) 32 32 (97 ∷ []) e after dirAfter → e .answer ≡ Yes → ⊥
 unfolding abra computed
 edit-not-unlisted p q = apart (sym (ap doneSays q) ∙ p .says)
 
@@ -175,7 +175,7 @@ value-of : {n m v w : ℕ} → _≡_ {A = Outcome (Unit {0})} (refused n v) (ref
 value-of e = cc
 
 -- 4 with a number in the new text, and not in the edited one: it is 32
-pub edit-not-piece : {e : Edited} {after behind : List ℕ}
-    → Editing (rolled abra 32 32) (replicate 8 0) (0 ∷ []) 32 32 (97 ∷ []) e after behind → e .answer ≡ Refused 4 0 → ⊥
+pub edit-not-piece : {e : Edited} {after dirAfter : List ℕ}
+    → Editing (rolled abra 32 32) (replicate 8 0) (0 ∷ []) 32 32 (97 ∷ []) e after dirAfter → e .answer ≡ Refused 4 0 → ⊥
 unfolding abra computed
 edit-not-piece p q = let e = value-of (sym (ap doneSays q) ∙ p .says) in omega arith

@@ -9,7 +9,7 @@ returns : tie.Need-returns
 returns c =
     let w = c .before .before .before .before .before .before .before in
     let p = rw (w .before .before .before .roll-of .ensures) at (w .edit .ensures) in
-    (rw (← p .says) (c .told .ensures), (p .leaves, (p .mends, (ap (λ (x : Roll). x .n) (p .roll), ap (λ (x : Roll). x .h) (p .roll)))))
+    (rw (← p .says) (c .told .ensures), (p .leaves, (p .directory, (ap (λ (x : Roll). x .n) (p .roll), ap (λ (x : Roll). x .h) (p .roll)))))
 
 pub monterculo-edit-spec : {M : Type 1} → statement M
 monterculo-edit-spec =

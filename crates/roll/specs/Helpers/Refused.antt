@@ -1,4 +1,4 @@
--- What stands beside the refusals of packing and of editing; and a roll checked with its directory.
+-- What stands beside the refusals of packing and of editing; a roll whose table and h are asked, and one checked with its directory.
 use mathlib.Core.Path.{_≡_}
 use mathlib.Core.List.{List}
 use Prim.Native.Nat.{ℕ}
@@ -7,7 +7,7 @@ use Rattle.ground.specs.declared.answers.Done.{Done}
 use Rattle.ground.specs.declared.answers.Done.the-variants.{Refused}
 use Rattle.stopper.specs.declared.table.Table.{Table}
 use Rattle.sound.specs.declared.records.Roll.{Roll}
-use Rattle.roll.specs.Paper.Operations.{noRoll, directorySays}
+use Rattle.roll.specs.Paper.Operations.{noRoll, fitSays, directorySays}
 use Rattle.roll.specs.declared.pack.Packed.{Packed}
 use Rattle.roll.specs.declared.edit.Edited.{Edited}
 
@@ -16,6 +16,9 @@ refusedPack t number value = record { answer = Refused number value; roll = noRo
 
 unfoldable pub refusedEdit : Roll → ℕ → ℕ → Edited
 refusedEdit r number value = record { answer = Refused number value; roll = r }
+
+pub record Fitting (r : Roll) (buf : List ℕ) (answer : Done) : Type 0 where
+  pub says : doneSays answer ≡ fitSays r buf
 
 pub record DirectoryChecked (r : Roll) (buf dir : List ℕ) (answer : Done) : Type 0 where
   pub says : doneSays answer ≡ directorySays r buf dir

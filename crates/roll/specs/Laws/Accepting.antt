@@ -28,28 +28,32 @@ use Rattle.sound.specs.declared.records.Roll.{Roll}
 use Rattle.store.specs.Paper.Fitting.{firstOver}
 use Rattle.store.specs.Laws.Edited.{Edits}
 use Rattle.store.specs.Laws.Fitting.{over-all, over-within}
-use Rattle.roll.specs.Paper.Operations.{packRows, packSays, checkRows, checkSays, unpackRows, unpackSays, makeRows, makeSays, fromEntry, readRows, oneRead, readSays, searchRows, searchSays, directoryRows, directorySays, editRows, editSays}
+use Rattle.roll.specs.Paper.Operations.{packRows, packSays, fitRows, fitSays, checkRows, checkSays, unpackRows, unpackSays, makeRows, makeSays, fromEntry, readRows, oneRead, readSays, searchRows, searchSays, directoryRows, directorySays, editRows, editSays}
+
+-- ---- what check and read one both ask first: the table is good, and h is within the room
+
+pub fits-is : (r : Roll) (buf : List ℕ) → (T (goodTable (r .table)) × (r .h ≤ room (r .table .code .k) (length buf))) ↔ Accepted (fitSays r buf)
+unfolding fitSays
+fits-is r buf = (
+  λ p. rw (yes-true (goodTable (r .table)) (p .0), le-ltb _ _ (p .1)),
+  λ e. let (a, (b, z)) = accepted-none (fitRows r buf) tt e in (true-yes _ (not-false (goodTable (r .table)) a), ltb-false _ _ b),
+)
 
 -- ---- check: the roll is sound
 
 pub sound-accepted : {r : Roll} {buf : List ℕ} → Sound r buf → Accepted (checkSays r buf)
 unfolding checkSays
-sound-accepted {r} {buf} s =
-    simp (
-      yes-true (goodTable (r .table)) (s .table),
-      le-ltb _ _ (s .fits),
-      s .reads,
-      eq-eqb _ _ (s .count),
-      yes-true (allZero (unusedOf r buf)) (s .unused),
-    )
+sound-accepted {r} {buf} s = simp (fits-is r buf .0 (s .table, s .fits), s .reads, eq-eqb _ _ (s .count), yes-true (allZero (unusedOf r buf)) (s .unused))
 
 pub accepted-sound : (r : Roll) (buf : List ℕ) → Accepted (checkSays r buf) → Sound r buf
 unfolding checkSays
 accepted-sound r buf e =
-    let (a, (b, (c, (d, (f, z))))) = accepted-none (checkRows r buf) tt e in
+    let (a, b) = accepted-parts (fitSays r buf) e in
+    let (good, fits) = fits-is r buf .1 a in
+    let (c, (d, (f, z))) = accepted-none (checkRows r buf) tt b in
     record {
-      table = true-yes _ (not-false (goodTable (r .table)) a);
-      fits = ltb-false _ _ b;
+      table = good;
+      fits = fits;
       reads = c;
       count = eqb-true _ _ (not-false (eqb (length (ranksRead (reading r buf))) (r .n)) d);
       unused = true-yes _ (not-false (allZero (unusedOf r buf)) f);
@@ -144,13 +148,15 @@ pub record ReadsOne (r : Roll) (buf dir : List ℕ) (place : ℕ) : Type 0 where
 pub reads-is : (r : Roll) (buf dir : List ℕ) (place : ℕ) → ReadsOne r buf dir place ↔ (readSays r buf dir place ≡ accepted (oneRead r buf dir place))
 unfolding readSays
 reads-is r buf dir place = (
-  λ p. rw (yes-true (goodTable (r .table)) (p .good), le-ltb _ _ (p .fits), lt-leb _ _ (p .inside), lt-leb _ _ (p .held), lt-leb _ _ (p .below), lt-leb _ _ (p .reached)),
+  λ p. rw (fits-is r buf .0 (p .good, p .fits), lt-leb _ _ (p .inside), lt-leb _ _ (p .held), lt-leb _ _ (p .below), lt-leb _ _ (p .reached)),
   λ e.
-      let (a, (b, (c, (d, (f, z))))) = accepted-none (readRows r buf dir place) (oneRead r buf dir place) e in
+      let (a, b) = accepted-parts (fitSays r buf) e in
+      let (good, fits) = fits-is r buf .1 a in
+      let (c, (d, (f, z))) = accepted-none (readRows r buf dir place) (oneRead r buf dir place) b in
       let g = neither (leb (length dir) (place / 32)) (leb (r .h) (getD dir (place / 32) 0)) d in
       record {
-        good = true-yes _ (not-false (goodTable (r .table)) a);
-        fits = ltb-false _ _ b;
+        good = good;
+        fits = fits;
         inside = leb-false _ _ c;
         held = leb-false _ _ (g .0);
         below = leb-false _ _ (g .1);

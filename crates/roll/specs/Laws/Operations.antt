@@ -17,7 +17,7 @@ use Rattle.ground.specs.Laws.Refusals.{Accepted}
 use Rattle.ground.specs.declared.answers.Done.{Done}
 use Rattle.ground.specs.declared.answers.Done.the-variants.{Yes, Refused}
 use Rattle.ground.specs.declared.answers.Total.the-variants.{Of, Refused as total-refused}
-use Rattle.stopper.specs.Paper.Table.{goodTable, characters}
+use Rattle.stopper.specs.Paper.Table.{characters}
 use Rattle.stopper.specs.Paper.Reading.{Reading, done, bad}
 use Rattle.stopper.specs.declared.table.Table.{Table}
 use Rattle.symbols.specs.Paper.Symbols.{room}
@@ -27,14 +27,15 @@ use Rattle.texts.specs.Paper.Edited.{edited}
 use Rattle.texts.specs.Paper.Hits.{hits, goodPattern, listed}
 use Rattle.sound.specs.Paper.Roll.{reading, isBad, firstBad, ranksRead, textOf, unusedOf, symbolsFor, recordOf, Sound}
 use Rattle.sound.specs.Paper.Lengths.{lengthsOf, Right}
-use Rattle.sound.specs.Helpers.Codewords.{scanned}
+use Rattle.sound.specs.Helpers.Codewords.{Reads, scanned}
+use Rattle.sound.specs.Laws.Sound.{table-reads}
 use Rattle.sound.specs.declared.records.Roll.{Roll}
 use Rattle.sound.specs.declared.reading.Scan.the-variants.{Whole, Bad}
 use Rattle.store.specs.Paper.Fitting.{firstOver}
 use Rattle.store.specs.Paper.Stored.{packedInto, bytesAfter, directoryAfter}
-use Rattle.roll.specs.Paper.Operations.{packSays, Packing, checkSays, Checking, unpackSays, Unpacking, makeSays, Making, searchSays, Searching, editSays, Editing}
+use Rattle.roll.specs.Paper.Operations.{packSays, Packing, fitSays, checkSays, Checking, unpackSays, Unpacking, makeSays, Making, searchSays, Searching, editSays, Editing}
 use Rattle.roll.specs.Helpers.Refused.{DirectoryChecked, refusedPack, refusedEdit}
-use Rattle.roll.specs.Laws.Accepting.{accepted-sound, Packs, packs-accepted, Unpacks, unpacks-accepted, makes-is, searches-is, right-accepted, accepted-right}
+use Rattle.roll.specs.Laws.Accepting.{fits-is, accepted-sound, Packs, packs-accepted, Unpacks, unpacks-accepted, makes-is, searches-is, right-accepted, accepted-right}
 use Rattle.roll.specs.declared.pack.Packed.{Packed}
 use Rattle.roll.specs.declared.edit.Edited.{Edited}
 
@@ -49,6 +50,11 @@ module _ {t : Table} {text buf : List ℕ} where
       → Packing t text buf (record { answer = Yes; roll = q }) after
   pack-yes u p q = let e = packs-accepted t text buf u in record { says = sym e; roll = rw e p; leaves = rw e q }
 
+-- ---- what check and read one both ask first
+
+pub fits-reads : (r : Roll) (buf : List ℕ) → Accepted (fitSays r buf) → (p : ℕ) → p ≤ r .h → Reads (r .table .code) (r .table .sigma) buf (r .h) p
+fits-reads r buf a = let (good, fits) = fits-is r buf .1 a in table-reads r buf good fits
+
 -- ---- check
 
 -- what a scan says of the reading
@@ -62,19 +68,19 @@ unfolding scanned isBad firstBad
 scan-bad h (done rs) e = let z : _≡_ {A = ℕ} 0 1 = cc in absurd (omega arith)
 scan-bad h (bad f p rs) e = (refl, cc)
 
-module _ (r : Roll) (buf : List ℕ) (g : goodTable (r .table) ≡ true) (h : r .h ≤ room (r .table .code .k) (length buf)) where
+module _ (r : Roll) (buf : List ℕ) (a : Accepted (fitSays r buf)) where
   pub check-6 : {p : ℕ} → Bad p ≡ scanned (reading r buf) → checkSays r buf ≡ refused 6 p
   unfolding checkSays
-  check-6 e = let f = scan-bad (r .h) (reading r buf) e in rw (g, le-ltb _ _ h, f .0, f .1)
+  check-6 e = let f = scan-bad (r .h) (reading r buf) e in rw (a, f .0, f .1)
 
   module _ {n : ℕ} (e : Whole n ≡ scanned (reading r buf)) where
     pub check-7 : n ≢ r .n → checkSays r buf ≡ refused 7 n
     unfolding checkSays
-    check-7 d = let f = scan-whole (reading r buf) e in rw (g, le-ltb _ _ h, f .0, f .1, ne-eqb _ _ d)
+    check-7 d = let f = scan-whole (reading r buf) e in rw (a, f .0, f .1, ne-eqb _ _ d)
 
     pub check-last : n ≡ r .n → checkSays r buf ≡ judged (refuse 8 0 (not (allZero (unusedOf r buf))) ∷ []) tt
     unfolding checkSays
-    check-last d = let f = scan-whole (reading r buf) e in rw (g, le-ltb _ _ h, f .0, f .1, eq-eqb _ _ d)
+    check-last d = let f = scan-whole (reading r buf) e in rw (a, f .0, f .1, eq-eqb _ _ d)
 
 pub check-sound : {r : Roll} {buf : List ℕ} {a : Done} → Checking r buf a → a ≡ Yes → Sound r buf
 check-sound {r} {buf} c e = accepted-sound r buf (says-as (c .says) e)
@@ -117,7 +123,7 @@ directory-sound {r} {buf} {dir} d e = accepted-right r buf dir (says-as (d .says
 pub edit-refused : {r : Roll} {buf dir : List ℕ} {start end : ℕ} {text : List ℕ} {e : Edited} (n v : ℕ) → editSays r buf dir start end text ≡ refused n v
     → e ≡ refusedEdit r n v → Editing r buf dir start end text e buf dir
 unfolding refusedEdit
-edit-refused n v e p = rw p (record { says = sym e; roll = rw e; leaves = rw e; mends = rw e })
+edit-refused n v e p = rw p (record { says = sym e; roll = rw e; leaves = rw e; directory = rw e })
 
 module _ {r : Roll} {buf : List ℕ} (dir : List ℕ) (start end : ℕ) (text : List ℕ) (s : Sound r buf) (right : Right r buf dir) (a : start ≤ end) (b : end ≤ r .n)
     (f : firstForeign (characters (r .table)) text ≡ length text) where
@@ -138,7 +144,7 @@ module _ {r : Roll} {buf : List ℕ} (dir : List ℕ) (start end : ℕ) (text : 
   unfolding editSays
   edit-last o = rw (right-accepted r buf dir s right, le-ltb _ _ a, le-ltb _ _ b, le-ltb _ _ (le-of-eq (sym f)), le-ltb _ _ (le-of-eq (sym o)))
 
-pub edit-yes : {r : Roll} {buf dir : List ℕ} {start end : ℕ} {text : List ℕ} {q : Roll} {after behind : List ℕ} → let new = edited (textOf r buf) start end text in
-    Accepted (editSays r buf dir start end text) → q ≡ recordOf (r .table) new → after ≡ bytesAfter r new buf → behind ≡ directoryAfter r new dir
-    → Editing r buf dir start end text (record { answer = Yes; roll = q }) after behind
-edit-yes e p q o = record { says = sym e; roll = rw e p; leaves = rw e q; mends = rw e o }
+pub edit-yes : {r : Roll} {buf dir : List ℕ} {start end : ℕ} {text : List ℕ} {q : Roll} {after dirAfter : List ℕ} → let new = edited (textOf r buf) start end text in
+    Accepted (editSays r buf dir start end text) → q ≡ recordOf (r .table) new → after ≡ bytesAfter r new buf → dirAfter ≡ directoryAfter r new dir
+    → Editing r buf dir start end text (record { answer = Yes; roll = q }) after dirAfter
+edit-yes e p q o = record { says = sym e; roll = rw e p; leaves = rw e q; directory = rw e o }

@@ -1,5 +1,5 @@
 -- The operations, in the paper's order: the refusals of each, and its promise. The rows named after an operation are its own refusals; where check's
--- come first, what it says puts them before by `then`.
+-- come first, or those that check and read one share, what it says puts them before by `then`.
 use mathlib.Core.Path.{_≡_}
 use mathlib.Core.Bool.{not, _||_}
 use mathlib.Core.List.{List, [], _∷_, _++_}
@@ -59,19 +59,28 @@ pub record Packing (t : Table) (text buf : List ℕ) (r : Packed) (after : List 
   pub roll : r .roll ≡ packRoll t text buf
   pub leaves : after ≡ packLeaves t text buf
 
+-- ---- what check and read one both ask first: 1, 5
+
+abbrev pub fitRows : Roll → List ℕ → List Row
+fitRows r buf =
+    refuse 1 0 (not (goodTable (r .table)))
+    ∷ refuse 5 (r .h) (ltb (room (r .table .code .k) (length buf)) (r .h))
+    ∷ []
+
+unfoldable pub fitSays : Roll → List ℕ → Outcome (Unit {0})
+fitSays r buf = judged (fitRows r buf) tt
+
 -- ---- check: 1, 5, 6, 7, 8
 
 abbrev pub checkRows : Roll → List ℕ → List Row
 checkRows r buf =
-    refuse 1 0 (not (goodTable (r .table)))
-    ∷ refuse 5 (r .h) (ltb (room (r .table .code .k) (length buf)) (r .h))
-    ∷ refuse 6 (firstBad (r .h) (reading r buf)) (isBad (reading r buf))
+    refuse 6 (firstBad (r .h) (reading r buf)) (isBad (reading r buf))
     ∷ refuse 7 (length (ranksRead (reading r buf))) (not (eqb (length (ranksRead (reading r buf))) (r .n)))
     ∷ refuse 8 0 (not (allZero (unusedOf r buf)))
     ∷ []
 
 unfoldable pub checkSays : Roll → List ℕ → Outcome (Unit {0})
-checkSays r buf = judged (checkRows r buf) tt
+checkSays r buf = fitSays r buf then judged (checkRows r buf) tt
 
 pub record Checking (r : Roll) (buf : List ℕ) (answer : Done) : Type 0 where
   pub says : doneSays answer ≡ checkSays r buf
@@ -118,9 +127,7 @@ fromEntry r buf dir place = readingFrom r buf (getD dir (place / 32) 0)
 -- 6: the codeword behind place mod 32 others was not read, as a bad one stands there or before it, or one would have to start at h
 abbrev pub readRows : Roll → List ℕ → List ℕ → ℕ → List Row
 readRows r buf dir place =
-    refuse 1 0 (not (goodTable (r .table)))
-    ∷ refuse 5 (r .h) (ltb (room (r .table .code .k) (length buf)) (r .h))
-    ∷ refuse 10 0 (leb (r .n) place)
+    refuse 10 0 (leb (r .n) place)
     ∷ refuse 9 (place / 32) (leb (length dir) (place / 32) || leb (r .h) (getD dir (place / 32) 0))
     ∷ refuse 6 (firstBad (r .h) (fromEntry r buf dir place)) (leb (length (ranksRead (fromEntry r buf dir place))) (place % 32))
     ∷ []
@@ -130,7 +137,7 @@ abbrev pub oneRead : Roll → List ℕ → List ℕ → ℕ → ℕ
 oneRead r buf dir place = getD (r .table .places) (getD (ranksRead (fromEntry r buf dir place)) (place % 32) 0) 0
 
 unfoldable pub readSays : Roll → List ℕ → List ℕ → ℕ → Outcome ℕ
-readSays r buf dir place = judged (readRows r buf dir place) (oneRead r buf dir place)
+readSays r buf dir place = fitSays r buf then judged (readRows r buf dir place) (oneRead r buf dir place)
 
 pub record ReadingOne (r : Roll) (buf dir : List ℕ) (place : ℕ) (answer : Answer) : Type 0 where
   pub says : answerSays answer ≡ readSays r buf dir place
@@ -183,11 +190,11 @@ editRoll r buf dir start end text = kept (editSays r buf dir start end text) r (
 abbrev pub editLeaves : Roll → List ℕ → List ℕ → ℕ → ℕ → List ℕ → List ℕ
 editLeaves r buf dir start end text = kept (editSays r buf dir start end text) buf (bytesAfter r (edited (textOf r buf) start end text) buf)
 
-abbrev pub editMends : Roll → List ℕ → List ℕ → ℕ → ℕ → List ℕ → List ℕ
-editMends r buf dir start end text = kept (editSays r buf dir start end text) dir (directoryAfter r (edited (textOf r buf) start end text) dir)
+abbrev pub editDirectory : Roll → List ℕ → List ℕ → ℕ → ℕ → List ℕ → List ℕ
+editDirectory r buf dir start end text = kept (editSays r buf dir start end text) dir (directoryAfter r (edited (textOf r buf) start end text) dir)
 
-pub record Editing (r : Roll) (buf dir : List ℕ) (start end : ℕ) (text : List ℕ) (e : Edited) (after behind : List ℕ) : Type 0 where
+pub record Editing (r : Roll) (buf dir : List ℕ) (start end : ℕ) (text : List ℕ) (e : Edited) (after dirAfter : List ℕ) : Type 0 where
   pub says : doneSays (e .answer) ≡ editSays r buf dir start end text
   pub roll : e .roll ≡ editRoll r buf dir start end text
   pub leaves : after ≡ editLeaves r buf dir start end text
-  pub mends : behind ≡ editMends r buf dir start end text
+  pub directory : dirAfter ≡ editDirectory r buf dir start end text

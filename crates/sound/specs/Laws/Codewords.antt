@@ -17,7 +17,7 @@ use Rattle.stopper.specs.Laws.Table.{code-good}
 use Rattle.stopper.specs.Laws.Reading.{first-whole, first-broken, first-codeword, write-append, drop-write}
 use Rattle.stopper.specs.declared.code.Code.{Code}
 use Rattle.texts.specs.Paper.Directory.{sum, startAt}
-use Rattle.sound.specs.Paper.Roll.{readRow, ranksRead, firstBad}
+use Rattle.sound.specs.Paper.Roll.{rowReading, ranksRead, firstBad}
 use Rattle.sound.specs.Helpers.Codewords.{foundIn, foundAt, passStep, passedFrom}
 use Rattle.sound.specs.Laws.Reading.{ranks-ahead, bad-ahead}
 use Rattle.sound.specs.declared.reading.Found.{Found}
@@ -42,7 +42,7 @@ pub record Stands (c : Code) (σ : ℕ) (row : List ℕ) (k p q : ℕ) : Type 0 
   pub rank : k < σ
   pub some : p < q
   pub upto : q ≤ length row
-  pub reads : readRow c σ row p ≡ ahead k (readRow c σ row q)
+  pub reads : rowReading c σ row p ≡ ahead k (rowReading c σ row q)
 
 module _ (c : Code) (σ : ℕ) (row : List ℕ) (p : ℕ) where
   pub word-found : {k n : ℕ} → firstWord (base c) (stoppers c) σ (drop p row) ≡ whole k n → Word k (p + n) ≡ foundAt c σ row p
@@ -63,7 +63,7 @@ module _ (c : Code) (g : T (goodCode c)) (σ : ℕ) (row : List ℕ) where
       rw (f .2)
       (record { rank = w .0; some = omega (arith, w .1); upto = omega (arith, w .2, length-drop p row); reads = rw drop-drop at (w .3) })
 
-  pub found-bad : {p : ℕ} → Bad ≡ foundAt c σ row p → p < length row → (f : Fault) × (readRow c σ row p ≡ bad f p [])
+  pub found-bad : {p : ℕ} → Bad ≡ foundAt c σ row p → p < length row → (f : Fault) × (rowReading c σ row p ≡ bad f p [])
   unfolding foundAt
   found-bad {p} e h =
       let (f, b) = none-in p (firstWord (base c) (stoppers c) σ (drop p row)) e in
@@ -73,7 +73,7 @@ module _ (c : Code) (g : T (goodCode c)) (σ : ℕ) (row : List ℕ) where
 
   -- after `count` codewords from symbol p on, a reading is over: no more ranks, and a bad codeword at symbol q or the row's end there
   abbrev Over : ℕ → ℕ → ℕ → Type 0
-  Over p count q = (drop count (ranksRead (readRow c σ row p)) ≡ []) × (firstBad (length row) (readRow c σ row p) ≡ q)
+  Over p count q = (drop count (ranksRead (rowReading c σ row p)) ≡ []) × (firstBad (length row) (rowReading c σ row p) ≡ q)
 
   found-over : {p : ℕ} → Bad ≡ foundAt c σ row p → p ≤ length row → Over p 0 p
   unfolding readFrom ranksRead firstBad
@@ -86,8 +86,8 @@ module _ (c : Code) (g : T (goodCode c)) (σ : ℕ) (row : List ℕ) where
   -- or it goes on at symbol q
   unfoldable Went : ℕ → ℕ → Passed → Type 0
   Went p count (At q) =
-      (q ≤ length row) × (drop count (ranksRead (readRow c σ row p)) ≡ ranksRead (readRow c σ row q))
-      × (firstBad (length row) (readRow c σ row p) ≡ firstBad (length row) (readRow c σ row q))
+      (q ≤ length row) × (drop count (ranksRead (rowReading c σ row p)) ≡ ranksRead (rowReading c σ row q))
+      × (firstBad (length row) (rowReading c σ row p) ≡ firstBad (length row) (rowReading c σ row q))
   Went p count (passed-bad q) = Over p count q
 
   went-ahead : {k p q : ℕ} (count : ℕ) (v : Passed) → Stands c σ row k p q → Went q count v → Went p (suc count) v
@@ -122,11 +122,11 @@ module _ (c : Code) (g : T (goodCode c)) (σ : ℕ) (row : List ℕ) where
       unfolding Went
       passed-none f = let (u, a, b) = passed-at in let (x, y) = found-over f u in (a ∙ x, b ∙ y)
 
-      pub passed-word : {k next : ℕ} → Word k next ≡ foundAt c σ row q → (count < length (ranksRead (readRow c σ row p))) × (getD (ranksRead (readRow c σ row p)) count 0 ≡ k)
+      pub passed-word : {k next : ℕ} → Word k next ≡ foundAt c σ row q → (count < length (ranksRead (rowReading c σ row p))) × (getD (ranksRead (rowReading c σ row p)) count 0 ≡ k)
       unfolding Went
       passed-word {k} f =
           let (u, a, b) = passed-at in
-          let rs = ranksRead (readRow c σ row p) in
+          let rs = ranksRead (rowReading c σ row p) in
           let r = a ∙ ap ranksRead (found-word f u .reads) ∙ ranks-ahead k _ in
           (omega (arith, sym (length-drop count rs) ∙ ap length r), rw add-zero at (sym (getD-drop count rs 0 0)) ∙ ap (λ (l : List ℕ). getD l 0 0) r)
 

@@ -19,7 +19,7 @@ use Rattle.symbols.specs.Laws.Sizes.{bytesFor-enough}
 use Rattle.symbols.specs.Laws.Rows.{room-row, symbols-below, ends-inside, symbols-append, symbols-take}
 use Rattle.symbols.specs.Laws.Packing.{bytes-below, symbols-bytes, symbols-one}
 use Rattle.texts.specs.Laws.Characters.{InTable, ranks-below, characters-back, ranks-back, ranks-known, characters-few, characters-length, places-characters}
-use Rattle.sound.specs.Paper.Roll.{textRow, symbolsFor, recordOf, rowUpto, readRow, readingFrom, reading, ranksRead, textOf, unusedOf, Sound}
+use Rattle.sound.specs.Paper.Roll.{textRow, symbolsFor, recordOf, rowUpto, rowReading, readingFrom, reading, ranksRead, textOf, unusedOf, Sound}
 use Rattle.sound.specs.Helpers.Held.{Held}
 use Rattle.sound.specs.Laws.Texts.{text-below}
 use Rattle.sound.specs.Laws.Reading.{done-whole, done-ranks}
@@ -83,7 +83,7 @@ module _ {r : Roll} {buf text : List ℕ} (p : Holds r buf text) where
   pub holds-reading : reading r buf ≡ done (map (rankIn (characters (r .table))) text)
   unfolding readingFrom textRow
   holds-reading =
-      ap (λ (row : List ℕ). readRow (r .table .code) (r .table .sigma) row 0) holds-row
+      ap (λ (row : List ℕ). rowReading (r .table .code) (r .table .sigma) row 0) holds-row
       ∙ read-write (base (r .table .code)) (stoppers (r .table .code)) (code-good (r .table .code) good-code) (r .table .sigma) 0 ranks-small
 
   -- so the roll is sound, and its text is the text

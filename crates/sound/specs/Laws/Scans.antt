@@ -6,7 +6,7 @@ use native.Mathlib.Omega.{arith}
 use lib.ListN.{length, drop-of-length-le}
 use Rattle.stopper.specs.Paper.Reading.{Fault, Reading, done, bad, ahead, readFrom}
 use Rattle.stopper.specs.declared.code.Code.{Code}
-use Rattle.sound.specs.Paper.Roll.{readRow}
+use Rattle.sound.specs.Paper.Roll.{rowReading}
 use Rattle.sound.specs.Helpers.Codewords.{foundAt, passedFrom, scanned}
 use Rattle.sound.specs.Laws.Codewords.{Stands}
 use Rattle.sound.specs.declared.reading.Found.the-variants.{Word, Bad as none-found}
@@ -21,7 +21,7 @@ plus count (Bad p) = Bad p
 
 -- all codewords, of which `count` stand before symbol p
 unfoldable pub scanFrom : Code → ℕ → List ℕ → ℕ → ℕ → Scan
-scanFrom c σ row p count = plus count (scanned (readRow c σ row p))
+scanFrom c σ row p count = plus count (scanned (rowReading c σ row p))
 
 plus-ahead : (n r : ℕ) (o : Reading) → plus n (scanned (ahead r o)) ≡ plus (n + 1) (scanned o)
 unfolding plus scanned ahead
@@ -34,7 +34,7 @@ plus-none (Whole n) = ap {B = Scan} (λ (k : ℕ). Whole k) (omega arith)
 plus-none (Bad p) = refl
 
 module _ (c : Code) (σ : ℕ) (row : List ℕ) where
-  pub scan-first : scanned (readRow c σ row 0) ≡ scanFrom c σ row 0 0
+  pub scan-first : scanned (rowReading c σ row 0) ≡ scanFrom c σ row 0 0
   unfolding scanFrom
   scan-first = plus-none _
 
@@ -42,7 +42,7 @@ module _ (c : Code) (σ : ℕ) (row : List ℕ) where
   unfolding scanFrom
   scan-word count s = rw (s .reads) (plus-ahead count _ _)
 
-  pub scan-bad : {f : Fault} {p : ℕ} (count : ℕ) → readRow c σ row p ≡ bad f p [] → scanFrom c σ row p count ≡ Bad p
+  pub scan-bad : {f : Fault} {p : ℕ} (count : ℕ) → rowReading c σ row p ≡ bad f p [] → scanFrom c σ row p count ≡ Bad p
   unfolding scanFrom scanned plus
   scan-bad count e = rw e
 

@@ -34,12 +34,12 @@ abbrev pub rowUpto : Code → ℕ → List ℕ → List ℕ
 rowUpto c h buf = take h (symbolsOf (c .k) buf)
 
 -- what reading a row as codewords from symbol p on gives
-abbrev pub readRow : Code → ℕ → List ℕ → ℕ → Reading
-readRow c σ row p = readFrom (base c) (stoppers c) σ p 0 0 (drop p row)
+abbrev pub rowReading : Code → ℕ → List ℕ → ℕ → Reading
+rowReading c σ row p = readFrom (base c) (stoppers c) σ p 0 0 (drop p row)
 
 -- a roll read from symbol p on, and from its first
 unfoldable pub readingFrom : Roll → List ℕ → ℕ → Reading
-readingFrom r buf p = readRow (r .table .code) (r .table .sigma) (rowUpto (r .table .code) (r .h) buf) p
+readingFrom r buf p = rowReading (r .table .code) (r .table .sigma) (rowUpto (r .table .code) (r .h) buf) p
 
 abbrev pub reading : Roll → List ℕ → Reading
 reading r buf = readingFrom r buf 0

@@ -68,8 +68,8 @@ module _ {r : Roll} {buf dir : List ℕ} {start end : ℕ} {text : List ℕ} (lo
   abbrev after : List ℕ
   after = bytesAfter r E buf
 
-  abbrev behind : List ℕ
-  behind = directoryAfter r E dir
+  abbrev dirAfter : List ℕ
+  dirAfter = directoryAfter r E dir
 
   held : Held r buf
   held = record { sound = u .sound; places = long }
@@ -115,7 +115,7 @@ module _ {r : Roll} {buf dir : List ℕ} {start end : ℕ} {text : List ℕ} (lo
   pub edit-text : textOf q after ≡ E
   edit-text = holds-text edit-holds
 
-  pub edit-right : Right q after behind
+  pub edit-right : Right q after dirAfter
   edit-right =
       place-front (entries (r .n)) (directoryOf (lengthsFor (r .table) E)) dir entries-size
       ∙ ap directoryOf (sym (sound-lengths edit-held ∙ ap (lengthsFor (r .table)) edit-text))
@@ -124,14 +124,14 @@ module _ {r : Roll} {buf dir : List ℕ} {start end : ℕ} {text : List ℕ} (lo
   pub edit-cleared : run after (bytesFor k (q .h)) (bytesFor k (r .h)) ≡ zeros (bytesFor k (r .h) - bytesFor k (q .h))
   edit-cleared = place-cleared (bytesFor k (r .h)) (bytesOf k row) buf bytes-size
 
-  pub edit-cleared-directory : run behind (entries (q .n)) (entries (r .n)) ≡ zeros (entries (r .n) - entries (q .n))
+  pub edit-cleared-directory : run dirAfter (entries (q .n)) (entries (r .n)) ≡ zeros (entries (r .n) - entries (q .n))
   edit-cleared-directory = place-cleared (entries (r .n)) (directoryOf (lengthsFor (r .table) E)) dir entries-size
 
   -- past the greater of old and new all is unchanged
   pub edit-kept : let m = bytesFor k (q .h) + (bytesFor k (r .h) - bytesFor k (q .h)) in drop m after ≡ drop m buf
   edit-kept = place-kept (bytesFor k (r .h)) (bytesOf k row) buf bytes-size
 
-  pub edit-kept-directory : let m = entries (q .n) + (entries (r .n) - entries (q .n)) in drop m behind ≡ drop m dir
+  pub edit-kept-directory : let m = entries (q .n) + (entries (r .n) - entries (q .n)) in drop m dirAfter ≡ drop m dir
   edit-kept-directory = place-kept (entries (r .n)) (directoryOf (lengthsFor (r .table) E)) dir entries-size
 
   -- ---- which bytes can differ

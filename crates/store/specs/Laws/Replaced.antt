@@ -253,9 +253,9 @@ module _ {r : Roll} {lengths words buf dir : List ℕ} {x : Run} {text : List �
         ⊎-elim (λ s. mended-all (u ∙ s) e) (λ s. mended-run (s .1) (s .2) (u ∙ s .0) e) which
 
   -- and those that are no longer used are cleared
-  pub directory-after : {n n′ : ℕ} {mid behind : List ℕ} → mid ≡ directoryOf L′ ++ drop (entries (length L′)) dir
-      → n′ ≡ entries (x .start + length text + (r .n - x .end)) → n ≡ entries (r .n) → behind ≡ over mid n′ (zeros (n - n′)) (n′ + (n - n′))
-      → behind ≡ directoryAfter r E dir
+  pub directory-after : {n n′ : ℕ} {mid dirAfter : List ℕ} → mid ≡ directoryOf L′ ++ drop (entries (length L′)) dir
+      → n′ ≡ entries (x .start + length text + (r .n - x .end)) → n ≡ entries (r .n) → dirAfter ≡ over mid n′ (zeros (n - n′)) (n′ + (n - n′))
+      → dirAfter ≡ directoryAfter r E dir
   directory-after {n} {n′} {mid} m a b e =
       e
       ∙ ap (λ (d : List ℕ). over d n′ (zeros (n - n′)) (n′ + (n - n′))) m

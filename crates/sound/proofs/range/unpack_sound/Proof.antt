@@ -15,7 +15,7 @@ use Rattle.stopper.specs.Paper.Table.{lengthOf}
 use Rattle.stopper.specs.Laws.Table.{table-few}
 use Rattle.stopper.specs.declared.code.Code.{Code}
 use Rattle.texts.specs.Paper.Directory.{startAt}
-use Rattle.sound.specs.Paper.Roll.{rowUpto, readRow, readingFrom, ranksRead, textOf}
+use Rattle.sound.specs.Paper.Roll.{rowUpto, rowReading, readingFrom, ranksRead, textOf}
 use Rattle.sound.specs.Paper.Lengths.{lengthsOf}
 use Rattle.sound.specs.Helpers.Codewords.{foundAt}
 use Rattle.sound.specs.Laws.Sound.{sound-reads, sound-below, sound-found, sound-start}
@@ -26,7 +26,7 @@ use Rattle.sound.proofs.range.unpack_sound.Tie as tie
 
 -- the ranks that are read, and their characters
 abbrev ranks : Code → ℕ → List ℕ → ℕ → List ℕ
-ranks code sigma buf h = ranksRead (readRow code sigma (rowUpto code h buf) 0)
+ranks code sigma buf h = ranksRead (rowReading code sigma (rowUpto code h buf) 0)
 
 abbrev characters : List ℕ → List ℕ → List ℕ
 characters places rs = map (λ rank. getD places rank 0) rs

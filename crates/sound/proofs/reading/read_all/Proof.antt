@@ -7,7 +7,7 @@ use borrow.Author.Needs.{needs}
 use lib.ListN.{length}
 use lib.Seq.{length-take-le}
 use Rattle.symbols.specs.Paper.Symbols.{symbolsOf}
-use Rattle.sound.specs.Paper.Roll.{rowUpto, readRow}
+use Rattle.sound.specs.Paper.Roll.{rowUpto, rowReading}
 use Rattle.sound.specs.Helpers.Codewords.{scanned}
 use Rattle.sound.specs.Laws.Codewords.{Stands, found-word, found-bad}
 use Rattle.sound.specs.Laws.Scans.{scanFrom, scan-first, scan-word, scan-bad, scan-end}
@@ -16,7 +16,7 @@ use Rattle.sound.proofs.reading.read_all.Tie as tie
 
 abbrev Inv-loop : tie.InvT-loop
 Inv-loop code sigma buf h p₀ count₀ p count =
-    (p ≤ h) × (count ≤ p) × (scanned (readRow code sigma (rowUpto code h buf) 0) ≡ scanFrom code sigma (rowUpto code h buf) p count)
+    (p ≤ h) × (count ≤ p) × (scanned (rowReading code sigma (rowUpto code h buf) 0) ≡ scanFrom code sigma (rowUpto code h buf) p count)
 
 abbrev μ-loop : tie.MeasureT-loop
 μ-loop code sigma buf h p₀ count₀ p count = h - p
