@@ -16,7 +16,8 @@ use Rattle.ground.specs.declared.answers.Done.the-variants.{Yes}
 use Rattle.stopper.specs.Paper.Table.{characters}
 use Rattle.stopper.specs.Laws.Table.{code-width, table-code}
 use Rattle.stopper.specs.declared.table.Table.{Table}
-use Rattle.symbols.specs.Paper.Symbols.{Width, bytesFor, room, symbolsOf, bytesOf}
+use Rattle.symbols.specs.Paper.Symbols.{bytesFor, room, symbolsOf, bytesOf}
+use Rattle.symbols.specs.Helpers.Widths.{Width}
 use Rattle.symbols.specs.Laws.Sizes.{room-bytes}
 use Rattle.symbols.specs.Laws.Packing.{bytes-length}
 use Rattle.texts.specs.Laws.Characters.{InTable}

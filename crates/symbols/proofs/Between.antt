@@ -5,7 +5,8 @@ use Prim.Native.Nat.{ℕ, _*_, _/_, _≤_, _<_}
 use native.Mathlib.Nat.{le-of-lt, div-mul-le-self, mul-le-mul-right, le-of-mul-le-mul-right}
 use native.Mathlib.Omega.{arith}
 use lib.ListN.{length}
-use Rattle.symbols.specs.Paper.Symbols.{Width, per, bytesFor, symbolsOf}
+use Rattle.symbols.specs.Paper.Symbols.{per, bytesFor, symbolsOf}
+use Rattle.symbols.specs.Helpers.Widths.{Width}
 use Rattle.symbols.specs.Laws.Width.{per-pos}
 use Rattle.symbols.specs.Laws.Sizes.{bytesFor-enough}
 use Rattle.symbols.specs.Laws.Rows.{symbols-length}

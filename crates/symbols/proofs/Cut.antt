@@ -4,7 +4,8 @@ use Prim.Native.Nat.{ℕ, suc, _+_, _*_, _-_, _/_, _%_, _^_, _≤_, _<_}
 use native.Mathlib.Nat.{mod-lt, mul-add}
 use native.Mathlib.Omega.{arith}
 use lib.Pow.{pow-pos, split, high, low, shr-lt, shr-shr, field, mod-mod-pow}
-use Rattle.symbols.specs.Paper.Symbols.{Width, per, shift}
+use Rattle.symbols.specs.Paper.Symbols.{per, shift}
+use Rattle.symbols.specs.Helpers.Widths.{Width}
 use Rattle.symbols.specs.Helpers.Bits.{cutOut, laidIn, joined}
 use Rattle.symbols.specs.Laws.Width.{fills, ends-within}
 

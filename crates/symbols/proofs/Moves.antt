@@ -7,7 +7,8 @@ use lib.ListN.{length, set}
 use Rattle.ground.specs.Paper.Runs.{over, run}
 use Rattle.ground.specs.Helpers.Moved.{movedUp, movedDown}
 use Rattle.ground.specs.Laws.Runs.{set-over}
-use Rattle.symbols.specs.Paper.Symbols.{Width, per, symbolsOf}
+use Rattle.symbols.specs.Paper.Symbols.{per, symbolsOf}
+use Rattle.symbols.specs.Helpers.Widths.{Width}
 use Rattle.symbols.specs.Laws.Whole.{symbols-over}
 
 module _ {k : ℕ} (w : Width k) (bs : List ℕ) where

@@ -8,7 +8,8 @@ use native.Mathlib.Decide.{ℕ-discrete, decLt}
 use native.Mathlib.Omega.{arith}
 use lib.ListN.{length, getD, set, length-set}
 use lib.Seq.{ext-getD, getD-set-same, getD-set-other}
-use Rattle.symbols.specs.Paper.Symbols.{Width, per, shift, symbolAt, symbolsOf}
+use Rattle.symbols.specs.Paper.Symbols.{per, shift, symbolAt, symbolsOf}
+use Rattle.symbols.specs.Helpers.Widths.{Width}
 use Rattle.symbols.specs.Helpers.Bits.{cutOut, laidIn}
 use Rattle.symbols.specs.Laws.Width.{per-pos, ends-within}
 use Rattle.symbols.specs.Laws.Rows.{symbols-length, symbols-at, byte-within}

@@ -9,7 +9,8 @@ use lib.ListN.{length, drop, getD}
 use lib.Seq.{ext-getD, getD-take, getD-drop}
 use Rattle.ground.specs.Paper.Runs.{run}
 use Rattle.ground.specs.Laws.Runs.{run-length}
-use Rattle.symbols.specs.Paper.Symbols.{Width, per, shift, symbolsOf}
+use Rattle.symbols.specs.Paper.Symbols.{per, shift, symbolsOf}
+use Rattle.symbols.specs.Helpers.Widths.{Width}
 use Rattle.symbols.specs.Helpers.Bits.{cutOut, joined}
 use Rattle.symbols.specs.Laws.Rows.{symbols-length, symbols-in}
 use Rattle.symbols.proofs.Cut.{from-first, from-second}

@@ -1,3 +1,4 @@
 -- What helpers ask and answer. No promise of an operation speaks of it.
+pub mod Widths
 pub mod Bits
 pub mod Gathered

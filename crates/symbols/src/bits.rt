@@ -1,7 +1,8 @@
 // Where symbol i of k bits stands, and a symbol cut out of a byte or laid into it.
 ghost use mathlib.Core.Path.{_≡_};
 ghost use Prim.Native.Nat.{_+_, _/_, _%_, _^_, _≤_, _<_};
-ghost use Rattle.symbols.specs.Paper.Symbols.{Width, per, shift};
+ghost use Rattle.symbols.specs.Paper.Symbols.{per, shift};
+ghost use Rattle.symbols.specs.Helpers.Widths.{Width};
 ghost use Rattle.symbols.specs.Helpers.Bits.{cutOut, laidIn, joined};
 
 // Symbols in a byte: 4 or 2.

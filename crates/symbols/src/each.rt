@@ -4,7 +4,8 @@ ghost use mathlib.Core.Path.{_≡_};
 ghost use Prim.Native.Nat.{_+_, _^_, _≤_, _<_};
 ghost use lib.ListN.{length};
 ghost use Rattle.ground.specs.Helpers.Moved.{cleared, movedUp, movedDown};
-ghost use Rattle.symbols.specs.Paper.Symbols.{Width, symbolsOf};
+ghost use Rattle.symbols.specs.Paper.Symbols.{symbolsOf};
+ghost use Rattle.symbols.specs.Helpers.Widths.{Width};
 
 pub fn clear(k: u8, buf: &mut [u8], from: usize, to: usize)
     requires { ⌜ (Width k) × (from ≤ to) × (to ≤ length (symbolsOf k (now buf))) ⌝ }

@@ -7,7 +7,8 @@ ghost use Prim.Native.Nat.{_+_, _*_, _/_, _%_, _^_, _≤_, _<_};
 ghost use lib.ListN.{length, take};
 ghost use Rattle.ground.specs.Paper.Runs.{over};
 ghost use Rattle.ground.specs.Helpers.Below.{Below};
-ghost use Rattle.symbols.specs.Paper.Symbols.{Width, per, symbolsOf};
+ghost use Rattle.symbols.specs.Paper.Symbols.{per, symbolsOf};
+ghost use Rattle.symbols.specs.Helpers.Widths.{Width};
 ghost use Rattle.symbols.specs.Helpers.Gathered.{digits, Joins, gathered, upTo, Waiting, Added};
 
 // So many symbols wait for byte `next`, as the lowest bits of a number.

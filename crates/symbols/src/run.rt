@@ -11,7 +11,8 @@ ghost use Rattle.ground.specs.Helpers.Bound.{limitBound};
 ghost use Rattle.ground.specs.Paper.Runs.{run};
 ghost use Rattle.ground.specs.Paper.Rows.{allZero};
 ghost use Rattle.ground.specs.Helpers.Moved.{cleared, movedUp, movedDown};
-ghost use Rattle.symbols.specs.Paper.Symbols.{Width, per, bytesFor, symbolsOf};
+ghost use Rattle.symbols.specs.Paper.Symbols.{per, bytesFor, symbolsOf};
+ghost use Rattle.symbols.specs.Helpers.Widths.{Width};
 
 pub fn clear(k: u8, buf: &mut [u8], from: usize, to: usize)
     requires { ⌜ (Width k) × (from ≤ to) × (to ≤ length (symbolsOf k (now buf))) ⌝ }

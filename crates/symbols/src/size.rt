@@ -3,7 +3,8 @@ use crate::bits;
 use ground;
 ghost use mathlib.Core.Path.{_≡_};
 ghost use Prim.Native.Nat.{_-_, _*_};
-ghost use Rattle.symbols.specs.Paper.Symbols.{Width, per, bytesFor, room};
+ghost use Rattle.symbols.specs.Paper.Symbols.{per, bytesFor, room};
+ghost use Rattle.symbols.specs.Helpers.Widths.{Width};
 
 pub fn bytes_for(k: u8, h: usize) -> usize
     requires { ⌜ Width k ⌝ }

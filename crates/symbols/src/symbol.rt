@@ -3,7 +3,8 @@ use crate::bits;
 ghost use mathlib.Core.Path.{_≡_};
 ghost use Prim.Native.Nat.{_^_, _<_};
 ghost use lib.ListN.{length, getD, set};
-ghost use Rattle.symbols.specs.Paper.Symbols.{Width, symbolsOf};
+ghost use Rattle.symbols.specs.Paper.Symbols.{symbolsOf};
+ghost use Rattle.symbols.specs.Helpers.Widths.{Width};
 
 pub fn get(k: u8, buf: &[u8], i: usize) -> u8
     requires { ⌜ (Width k) × (i < length (symbolsOf k (now buf))) ⌝ }

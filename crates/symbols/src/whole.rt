@@ -7,7 +7,8 @@ ghost use Prim.Native.Nat.{_+_, _-_, _*_, _≤_, _<_};
 ghost use lib.ListN.{length};
 ghost use Rattle.ground.specs.Paper.Runs.{run};
 ghost use Rattle.ground.specs.Helpers.Moved.{cleared, movedUp, movedDown};
-ghost use Rattle.symbols.specs.Paper.Symbols.{Width, per, symbolsOf};
+ghost use Rattle.symbols.specs.Paper.Symbols.{per, symbolsOf};
+ghost use Rattle.symbols.specs.Helpers.Widths.{Width};
 
 // The byte that the symbols make from symbol `place` of byte j on.
 pub fn window(k: u8, buf: &[u8], j: usize, place: u8) -> u8

@@ -24,7 +24,8 @@ use Rattle.choosing.specs.Paper.Choosing.{countsOf, chosenTable, chosen}
 use Rattle.choosing.specs.Paper.Operations.{Counting, chooseTable, Choosing}
 use Rattle.choosing.specs.Laws.Accepting.{counts-is, chooses-is}
 use Rattle.choosing.specs.declared.choose.Choice.{Choice}
-use Rattle.symbols.specs.Paper.Symbols.{Width, bytesFor, bytesOf}
+use Rattle.symbols.specs.Paper.Symbols.{bytesFor, bytesOf}
+use Rattle.symbols.specs.Helpers.Widths.{Width}
 use Rattle.symbols.specs.Laws.Sizes.{room-bytes}
 use Rattle.symbols.specs.Laws.Packing.{bytes-length}
 use Rattle.texts.specs.Paper.Hits.{hits, goodPattern, listed}

@@ -14,7 +14,8 @@ use Rattle.stopper.specs.Paper.Table.{base, stoppers, goodCode, goodTable, char
 use Rattle.stopper.specs.Paper.Reading.{done, write}
 use Rattle.stopper.specs.Laws.Table.{code-good, code-width, table-code, table-apart}
 use Rattle.stopper.specs.Laws.Reading.{read-write}
-use Rattle.symbols.specs.Paper.Symbols.{Width, per, bytesFor, room, symbolsOf, bytesOf}
+use Rattle.symbols.specs.Paper.Symbols.{per, bytesFor, room, symbolsOf, bytesOf}
+use Rattle.symbols.specs.Helpers.Widths.{Width}
 use Rattle.symbols.specs.Laws.Sizes.{bytesFor-enough}
 use Rattle.symbols.specs.Laws.Rows.{room-row, symbols-below, ends-inside, symbols-append, symbols-take}
 use Rattle.symbols.specs.Laws.Packing.{bytes-below, symbols-bytes, symbols-one}

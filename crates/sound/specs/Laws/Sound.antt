@@ -13,7 +13,8 @@ use Rattle.stopper.specs.Paper.Table.{base, stoppers, goodCode, goodTable}
 use Rattle.stopper.specs.Paper.Reading.{write}
 use Rattle.stopper.specs.Laws.Table.{table-code, table-few, code-good, code-width}
 use Rattle.stopper.specs.Laws.Reading.{write-read}
-use Rattle.symbols.specs.Paper.Symbols.{Width, room, symbolsOf}
+use Rattle.symbols.specs.Paper.Symbols.{room, symbolsOf}
+use Rattle.symbols.specs.Helpers.Widths.{Width}
 use Rattle.symbols.specs.Laws.Sizes.{room-limit}
 use Rattle.symbols.specs.Laws.Rows.{symbols-below, room-row}
 use Rattle.texts.specs.Paper.Directory.{startAt}

@@ -13,7 +13,8 @@ use Rattle.ground.specs.Laws.Rows.{length-tab, tab-at}
 use Rattle.stopper.specs.Paper.Table.{stoppers, goodCode}
 use Rattle.stopper.specs.Laws.Table.{one-number, code-width}
 use Rattle.stopper.specs.declared.code.Code.{Code}
-use Rattle.symbols.specs.Paper.Symbols.{Width, per, symbolsOf}
+use Rattle.symbols.specs.Paper.Symbols.{per, symbolsOf}
+use Rattle.symbols.specs.Helpers.Widths.{Width}
 use Rattle.symbols.specs.Laws.Rows.{symbols-length, symbols-append, symbols-drop, byte-within}
 use Rattle.sound.specs.Helpers.Ends.{stops, endOf, symbolsFrom, Ending, endFrom, stopsByByte}
 use Rattle.sound.specs.Laws.Ends.{stops-stop, stops-more, end-stop, end-more, stops-inside}

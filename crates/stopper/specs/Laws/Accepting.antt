@@ -11,7 +11,7 @@ use Rattle.ground.specs.Paper.Refusals.{accepted}
 use Rattle.ground.specs.Laws.Refusals.{Accepted, accepted-none}
 use Rattle.ground.specs.Laws.Tests.{yes-true, true-yes}
 use Rattle.stopper.specs.Paper.Table.{has, characters, goodTable, longest}
-use Rattle.stopper.specs.Paper.Operations.{codewordRows, codewordSays, isOne, symbols, characterRows, characterAt, characterSays}
+use Rattle.stopper.specs.Paper.Operations.{codewordRows, codewordSays, isOne, wordIn, characterRows, characterAt, characterSays}
 use Rattle.stopper.specs.declared.table.Table.{Table}
 use Rattle.stopper.specs.declared.codeword_of.Codeword.{Codeword}
 
@@ -25,13 +25,13 @@ codes-is t b = (
 
 -- character of a codeword: the table is good, and at most 86 symbols are one codeword of a rank below σ
 pub decodes-is : (t : Table) (w : Codeword)
-    → (T (goodTable t) × (w .length ≤ longest) × T (isOne (t .code) (t .sigma) (symbols w))) ↔ (characterSays t w ≡ accepted (characterAt t (symbols w)))
+    → (T (goodTable t) × (w .length ≤ longest) × T (isOne (t .code) (t .sigma) (wordIn w))) ↔ (characterSays t w ≡ accepted (characterAt t (wordIn w)))
 unfolding characterSays
 decodes-is t w = (
-  λ p. rw (yes-true (goodTable t) (p .0), le-leb _ _ (p .1), yes-true (isOne (t .code) (t .sigma) (symbols w)) (p .2)),
+  λ p. rw (yes-true (goodTable t) (p .0), le-leb _ _ (p .1), yes-true (isOne (t .code) (t .sigma) (wordIn w)) (p .2)),
   λ e.
-      let one = isOne (t .code) (t .sigma) (symbols w) in
-      let (a, (b, z)) = accepted-none (characterRows t w) (characterAt t (symbols w)) e in
+      let one = isOne (t .code) (t .sigma) (wordIn w) in
+      let (a, (b, z)) = accepted-none (characterRows t w) (characterAt t (wordIn w)) e in
       let (c, d) = and-yes (leb (w .length) longest) one (true-yes _ (not-false (leb (w .length) longest && one) b)) in
       (true-yes _ (not-false (goodTable t) a), leb→le _ _ c, d),
 )

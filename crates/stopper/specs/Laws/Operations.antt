@@ -15,7 +15,7 @@ use Rattle.ground.specs.Laws.Rows.{padded-over}
 use Rattle.ground.specs.declared.answers.Done.the-variants.{Yes}
 use Rattle.stopper.specs.Paper.Code.{isWord, rankOf}
 use Rattle.stopper.specs.Paper.Table.{base, stoppers, characters, goodTable, rankIn, wordOf, lengthOf, longest}
-use Rattle.stopper.specs.Paper.Operations.{codewordSays, Coding, isOne, symbols, characterSays}
+use Rattle.stopper.specs.Paper.Operations.{codewordSays, Coding, isOne, wordIn, characterSays}
 use Rattle.stopper.specs.Helpers.Answers.{refusedCoded, rankedAs}
 use Rattle.stopper.specs.declared.code.Code.{Code}
 use Rattle.stopper.specs.declared.table.Table.{Table}
@@ -64,12 +64,12 @@ rank-below c σ w {k} e =
     omega (arith, f .1)
 
 module _ (t : Table) (w : Codeword) (g : goodTable t ≡ true) (h : w .length ≤ longest) where
-  pub character-none : Nothing ≡ rankedAs (t .code) (t .sigma) (symbols w) → characterSays t w ≡ refused 6 0
+  pub character-none : Nothing ≡ rankedAs (t .code) (t .sigma) (wordIn w) → characterSays t w ≡ refused 6 0
   unfolding characterSays
   character-none e = rw (g, le-leb _ _ h, rank-none _ _ _ e)
 
-  pub character-read : {k : ℕ} → At k ≡ rankedAs (t .code) (t .sigma) (symbols w) → characterSays t w ≡ accepted (getD (t .places) k 0)
+  pub character-read : {k : ℕ} → At k ≡ rankedAs (t .code) (t .sigma) (wordIn w) → characterSays t w ≡ accepted (getD (t .places) k 0)
   unfolding characterSays
   character-read e =
-      let f = rank-found (t .code) (t .sigma) (symbols w) e in
+      let f = rank-found (t .code) (t .sigma) (wordIn w) e in
       rw (g, le-leb _ _ h, f .0, f .1)

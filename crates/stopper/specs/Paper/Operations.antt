@@ -43,13 +43,13 @@ unfoldable pub isOne : Code → ℕ → List ℕ → Bool
 isOne c σ w = isWord (base c) (stoppers c) 0 w && ltb (rankOf (base c) (stoppers c) w) σ
 
 -- the bytes up to the length
-abbrev pub symbols : Codeword → List ℕ
-symbols w = take (w .length) (w .symbols)
+abbrev pub wordIn : Codeword → List ℕ
+wordIn w = take (w .length) (w .symbols)
 
 abbrev pub characterRows : Table → Codeword → List Row
 characterRows t w =
     refuse 1 0 (not (goodTable t))
-    ∷ refuse 6 0 (not (leb (w .length) longest && isOne (t .code) (t .sigma) (symbols w)))
+    ∷ refuse 6 0 (not (leb (w .length) longest && isOne (t .code) (t .sigma) (wordIn w)))
     ∷ []
 
 -- the character at its rank
@@ -57,7 +57,7 @@ abbrev pub characterAt : Table → List ℕ → ℕ
 characterAt t w = getD (t .places) (rankOf (base (t .code)) (stoppers (t .code)) w) 0
 
 unfoldable pub characterSays : Table → Codeword → Outcome ℕ
-characterSays t w = judged (characterRows t w) (characterAt t (symbols w))
+characterSays t w = judged (characterRows t w) (characterAt t (wordIn w))
 
 pub record Decoding (t : Table) (w : Codeword) (answer : Answer) : Type 0 where
   pub says : answerSays answer ≡ characterSays t w

@@ -9,7 +9,8 @@ use Rattle.ground.specs.Paper.Rows.{tab}
 use Rattle.ground.specs.Helpers.Below.{Below}
 use Rattle.stopper.specs.Paper.Table.{has, rankIn, wordOf, lengthOf, longest}
 use Rattle.stopper.specs.declared.code.Code.{Code}
-use Rattle.symbols.specs.Paper.Symbols.{Width, symbolsOf}
+use Rattle.symbols.specs.Paper.Symbols.{symbolsOf}
+use Rattle.symbols.specs.Helpers.Widths.{Width}
 use Rattle.symbols.specs.Helpers.Gathered.{Joins}
 use Rattle.store.specs.declared.words.Fit.{Fit}
 

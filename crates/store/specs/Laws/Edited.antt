@@ -11,7 +11,8 @@ use Rattle.ground.specs.Paper.Runs.{over, run, inPlace}
 use Rattle.ground.specs.Helpers.Below.{Below}
 use Rattle.ground.specs.Laws.Runs.{over-none, place-front, place-cleared, place-kept, place-length}
 use Rattle.stopper.specs.Paper.Table.{characters}
-use Rattle.symbols.specs.Paper.Symbols.{Width, per, bytesFor, room, symbolsOf, bytesOf}
+use Rattle.symbols.specs.Paper.Symbols.{per, bytesFor, room, symbolsOf, bytesOf}
+use Rattle.symbols.specs.Helpers.Widths.{Width}
 use Rattle.symbols.specs.Laws.Sizes.{room-bytes}
 use Rattle.symbols.specs.Laws.Rows.{room-row}
 use Rattle.symbols.specs.Laws.Packing.{bytes-length}

@@ -13,7 +13,8 @@ use Rattle.ground.specs.Helpers.Below.{Below}
 use Rattle.ground.specs.Helpers.Moved.{cleared, movedUp, movedDown, laidFrom}
 use Rattle.ground.specs.Laws.Rows.{below-append, below-take, below-drop, zeros-append, below-zeros}
 use Rattle.ground.specs.Laws.Runs.{over-length, drop-past, over-before, run-length, run-slice, cleared-none, clean-run, none-run, cleared-behind, split-from}
-use Rattle.symbols.specs.Paper.Symbols.{Width, per, bytesFor, symbolsOf, bytesOf}
+use Rattle.symbols.specs.Paper.Symbols.{per, bytesFor, symbolsOf, bytesOf}
+use Rattle.symbols.specs.Helpers.Widths.{Width}
 use Rattle.symbols.specs.Laws.Rows.{symbols-length, symbols-below, symbols-append, symbols-take, symbols-drop, ends-inside}
 use Rattle.symbols.specs.Laws.Whole.{symbols-zeros}
 use Rattle.symbols.specs.Laws.Sizes.{bytesFor-enough, bytesFor-mono, bytesFor-full}

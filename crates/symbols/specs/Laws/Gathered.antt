@@ -11,7 +11,8 @@ use lib.Pow.{pow-pos, pow-add, shr-shr}
 use lib.Seq.{take-add, take-at, take-append-le, take-suc-set, drop-cons, drop-drop}
 use Rattle.ground.specs.Paper.Rows.{tab}
 use Rattle.ground.specs.Paper.Runs.{over}
-use Rattle.symbols.specs.Paper.Symbols.{Width, per, shift, symbolAt, symbolsOf}
+use Rattle.symbols.specs.Paper.Symbols.{per, shift, symbolAt, symbolsOf}
+use Rattle.symbols.specs.Helpers.Widths.{Width}
 use Rattle.symbols.specs.Helpers.Gathered.{digits, gathered, upTo, Added}
 use Rattle.symbols.specs.Laws.Packing.{pow-mul}
 use Rattle.symbols.specs.Laws.Rows.{symbols-length, symbols-append, symbols-take, symbols-drop}

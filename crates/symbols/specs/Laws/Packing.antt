@@ -14,7 +14,8 @@ use Rattle.ground.specs.Paper.Runs.{over}
 use Rattle.ground.specs.Helpers.Below.{Below}
 use Rattle.ground.specs.Helpers.Moved.{cleared}
 use Rattle.ground.specs.Laws.Rows.{length-tab, tab-at, tab-below, getD-below, getD-zeros-after, length-zeros, below-append, below-drop}
-use Rattle.symbols.specs.Paper.Symbols.{Width, per, bytesFor, shift, symbolAt, symbolsOf, number, byteAt, bytesOf}
+use Rattle.symbols.specs.Paper.Symbols.{per, bytesFor, shift, symbolAt, symbolsOf, number, byteAt, bytesOf}
+use Rattle.symbols.specs.Helpers.Widths.{Width}
 use Rattle.symbols.specs.Laws.Width.{fills, per-pos}
 use Rattle.symbols.specs.Laws.Sizes.{bytesFor-enough, bytesFor-full}
 use Rattle.symbols.specs.Laws.Rows.{symbols-length, symbols-at, symbols-in, symbols-append, symbols-drop}

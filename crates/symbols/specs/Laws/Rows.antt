@@ -12,7 +12,8 @@ use lib.Seq.{ext-getD, getD-append-add, take-at, drop-at, take-all, length-take-
 use Rattle.ground.specs.Paper.Rows.{tab}
 use Rattle.ground.specs.Helpers.Below.{Below}
 use Rattle.ground.specs.Laws.Rows.{length-tab, tab-at, tab-below}
-use Rattle.symbols.specs.Paper.Symbols.{Width, per, bytesFor, room, shift, symbolAt, symbolsOf}
+use Rattle.symbols.specs.Paper.Symbols.{per, bytesFor, room, shift, symbolAt, symbolsOf}
+use Rattle.symbols.specs.Helpers.Widths.{Width}
 use Rattle.symbols.specs.Laws.Width.{per-pos}
 use Rattle.symbols.specs.Laws.Sizes.{bytesFor-within, room-within}
 

@@ -6,7 +6,8 @@ use native.Mathlib.Omega.{arith}
 use lib.Dec.{leb, leb→le, nleb→lt}
 use Rattle.ground.specs.Paper.Limit.{limit}
 use Rattle.ground.specs.Laws.Tests.{cond-yes, cond-no, by-test}
-use Rattle.symbols.specs.Paper.Symbols.{Width, per, bytesFor, room}
+use Rattle.symbols.specs.Paper.Symbols.{per, bytesFor, room}
+use Rattle.symbols.specs.Helpers.Widths.{Width}
 use Rattle.symbols.specs.Laws.Width.{per-pos}
 
 module _ {k : ℕ} (w : Width k) where

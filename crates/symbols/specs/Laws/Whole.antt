@@ -9,7 +9,8 @@ use Rattle.ground.specs.Paper.Rows.{zeros}
 use Rattle.ground.specs.Paper.Runs.{over}
 use Rattle.ground.specs.Helpers.Moved.{cleared}
 use Rattle.ground.specs.Laws.Rows.{length-zeros, getD-zeros}
-use Rattle.symbols.specs.Paper.Symbols.{Width, per, symbolAt, symbolsOf}
+use Rattle.symbols.specs.Paper.Symbols.{per, symbolAt, symbolsOf}
+use Rattle.symbols.specs.Helpers.Widths.{Width}
 use Rattle.symbols.specs.Laws.Rows.{symbols-length, symbols-at, symbols-append, symbols-take, symbols-drop}
 
 module _ {k : ℕ} (w : Width k) where

@@ -4,7 +4,8 @@ use mathlib.Core.Logic.{⊎-elim}
 use Prim.Native.Nat.{ℕ, suc, _+_, _*_, _/_, _≤_, _<_}
 use native.Mathlib.Nat.{mul-le-mul-left}
 use native.Mathlib.Omega.{arith}
-use Rattle.symbols.specs.Paper.Symbols.{Width, per, shift}
+use Rattle.symbols.specs.Paper.Symbols.{per, shift}
+use Rattle.symbols.specs.Helpers.Widths.{Width}
 
 -- by cases, with the width put in
 pub by-width {ℓ} : (P : ℕ → Type ℓ) {k : ℕ} → Width k → P 2 → P 4 → P k

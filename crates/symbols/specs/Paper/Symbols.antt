@@ -1,7 +1,5 @@
 -- Base symbols of k bits in bytes: symbol 0 fills the highest bits of byte 0, and so on down; unused symbols of the last byte
 -- are 0; the room of a buffer is the smaller of the limit and its bytes times 8/k.
-use mathlib.Core.Path.{_≡_}
-use mathlib.Core.Logic.{_⊎_}
 use mathlib.Core.Bool.{cond}
 use mathlib.Core.List.{List}
 use Prim.Native.Nat.{ℕ, zero, suc, _+_, _-_, _*_, _/_, _%_, _^_}
@@ -9,10 +7,6 @@ use lib.Dec.{leb}
 use lib.ListN.{length, getD}
 use Rattle.ground.specs.Paper.Limit.{limit}
 use Rattle.ground.specs.Paper.Rows.{tab}
-
--- the widths that there are
-abbrev pub Width : ℕ → Type 0
-Width k = (k ≡ 2) ⊎ (k ≡ 4)
 
 -- symbols in a byte
 unfoldable pub per : ℕ → ℕ

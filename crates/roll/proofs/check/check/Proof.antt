@@ -9,7 +9,8 @@ use Rattle.ground.specs.Paper.Rows.{allZero}
 use Rattle.ground.specs.Laws.Answers.{says-as}
 use Rattle.ground.specs.Laws.Refusals.{Accepted}
 use Rattle.stopper.specs.Laws.Table.{code-width}
-use Rattle.symbols.specs.Paper.Symbols.{Width, per, bytesFor, symbolsOf}
+use Rattle.symbols.specs.Paper.Symbols.{per, bytesFor, symbolsOf}
+use Rattle.symbols.specs.Helpers.Widths.{Width}
 use Rattle.symbols.specs.Laws.Width.{per-few}
 use Rattle.symbols.specs.Laws.Sizes.{bytesFor-enough, bytesFor-least}
 use Rattle.symbols.specs.Laws.Rows.{ends-inside}

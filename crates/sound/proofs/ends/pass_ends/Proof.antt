@@ -8,7 +8,8 @@ use borrow.Author.Needs.{needs}
 use lib.ListN.{length, getD}
 use Rattle.stopper.specs.Paper.Table.{stoppers}
 use Rattle.stopper.specs.Laws.Table.{code-width}
-use Rattle.symbols.specs.Paper.Symbols.{Width, per, symbolsOf}
+use Rattle.symbols.specs.Paper.Symbols.{per, symbolsOf}
+use Rattle.symbols.specs.Helpers.Widths.{Width}
 use Rattle.symbols.specs.Laws.Width.{per-pos}
 use Rattle.symbols.specs.Laws.Rows.{byte-within}
 use Rattle.sound.specs.Helpers.Ends.{stops, endFrom}

@@ -11,7 +11,8 @@ use lib.ListN.{length, drop, getD, drop-of-length-le}
 use lib.Seq.{drop-cons}
 use Rattle.stopper.specs.Paper.Table.{stoppers}
 use Rattle.stopper.specs.Laws.Table.{code-width}
-use Rattle.symbols.specs.Paper.Symbols.{Width, symbolsOf}
+use Rattle.symbols.specs.Paper.Symbols.{symbolsOf}
+use Rattle.symbols.specs.Helpers.Widths.{Width}
 use Rattle.symbols.specs.Laws.Width.{per-few}
 use Rattle.sound.specs.Helpers.Ends.{stops}
 use Rattle.sound.specs.Laws.Ends.{stops-stop}

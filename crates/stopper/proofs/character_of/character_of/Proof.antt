@@ -5,7 +5,7 @@ use native.Mathlib.Omega.{arith}
 use borrow.Author.Needs.{needs}
 use borrow.Author.Tests.{lt-leb, not-true, not-false}
 use Rattle.stopper.specs.Paper.Table.{goodTable}
-use Rattle.stopper.specs.Paper.Operations.{symbols, characterSays}
+use Rattle.stopper.specs.Paper.Operations.{wordIn, characterSays}
 use Rattle.stopper.specs.Laws.Table.{is-good, table-code, table-few}
 use Rattle.stopper.specs.Laws.Operations.{rank-below, character-none, character-read}
 use Rattle.stopper.proofs.character_of.character_of.Statement.{statement}
@@ -35,7 +35,7 @@ array-read-t16 c =
     let e = r .before .before .before .before .before in
     let a = e .before .before .before .args in
     let g = is-good (a .table) (good (e .before)) in
-    omega (arith, table-few (a .table) g, rank-below (a .table .code) (a .table .sigma) (symbols (a .word)) (sym (c .before .found .given .1) ∙ r .rank-of-word .ensures))
+    omega (arith, table-few (a .table) g, rank-below (a .table .code) (a .table .sigma) (wordIn (a .word)) (sym (c .before .found .given .1) ∙ r .rank-of-word .ensures))
 
 returns-3 : tie.Need-returns-3
 returns-3 c =
