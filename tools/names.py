@@ -1,5 +1,5 @@
 #!/usr/bin/env python3
-"""Every name that the pages cite exists.
+"""Every name that the pages cite exists, and every place that they link to.
 
 Read are README.md and docs/*.md (not docs/landings/, which is history), outside blocks of code. Held to the tree:
   `crate`/Path: `a`, `b`     a and b are declared in crates/crate/specs/Path.antt, or proofs/Path.antt, or (Path = src/..) in that file of code
@@ -9,11 +9,15 @@ Read are README.md and docs/*.md (not docs/landings/, which is history), outside
   `crate::module::item`      item is declared in that module of the code; also `crate::module`, `crate::item` of its lib.rt, `module::item`
   `crates/..`, `docs/..`     a path of the repository
   `a`                        any other single word: it stands somewhere in the tree as a whole word
-A name that is not there is printed with its page and line, and the exit status is 1.
+In these and in docs/landings/ too:
+  [words](path#anchor)       a path of the repository, from the page's folder on, and a heading of that page as GitHub names it; no link to another host is tried
+A name or place that is not there is printed with its page and line, and the exit status is 1.
 """
 import pathlib
 import re
 import sys
+import unicodedata
+import urllib.parse
 
 ROOT = pathlib.Path(__file__).resolve().parent.parent
 WORD = re.compile(r"[^\s(){}\[\];,.\"'|:<>=&!*#/`@+]+")
@@ -98,12 +102,58 @@ def hold(page, number, line):
             miss(page, number, f"`{span}` is nowhere")
 
 
-for page in [ROOT / "README.md", *sorted((ROOT / "docs").glob("*.md"))]:
+def prose(page):
+    """The lines of a page that are no code, with their numbers."""
     code = False
     for number, line in enumerate(page.read_text(encoding="utf-8").split("\n"), 1):
         if line.startswith("```"):
             code = not code
-        if not code and not line.startswith("    "):
-            hold(page.relative_to(ROOT), number, line)
-print("\n".join(missing) if missing else "every name that the pages cite exists")
+        elif not code and not line.startswith("    "):
+            yield number, line
+
+
+def anchor_of(heading):
+    """GitHub's anchor of a heading: what is shown of it, in lower case, without punctuation, a hyphen for each space."""
+    shown = re.sub(r"!\[[^\]]*\]\([^)]*\)", "", heading)
+    shown = re.sub(r"\[([^\]]*)\]\([^)]*\)", r"\1", shown).strip().lower()
+    kept = (c for c in shown if c in " -" or unicodedata.category(c)[0] in "LM" or unicodedata.category(c) in ("Nd", "Nl", "Pc"))
+    return "".join(kept).replace(" ", "-")
+
+
+def anchors(page, known={}):
+    if page not in known:
+        known[page] = found = set()
+        for _, line in prose(page):
+            heading = re.fullmatch(r" {0,3}#{1,6}\s+(.*?)(?:\s+#+)?\s*", line)
+            if heading:
+                name = first = anchor_of(heading[1])
+                again = 0
+                while name in found:
+                    again += 1
+                    name = f"{first}-{again}"
+                found.add(name)
+    return known[page]
+
+
+def hold_links(page, number, line):
+    bare = re.sub(r"`[^`]*`", "``", line)
+    for link in re.findall(r"\]\(<?([^)>\s]*)", bare) + re.findall(r"^ {0,3}\[[^\]]+\]:\s*<?([^>\s]+)", bare):
+        if re.match(r"[a-zA-Z][a-zA-Z0-9+.-]*:|//", link):
+            continue
+        path, _, anchor = urllib.parse.unquote(link).partition("#")
+        place = (page.parent / path).resolve() if path else page
+        if not place.exists() or ROOT not in (place, *place.parents):
+            miss(page.relative_to(ROOT), number, f"the link {link} leads nowhere")
+        elif anchor and (place.suffix != ".md" or anchor not in anchors(place)):
+            miss(page.relative_to(ROOT), number, f"the link {link} names no heading of {place.relative_to(ROOT)}")
+
+
+pages = [ROOT / "README.md", *sorted((ROOT / "docs").glob("*.md"))]
+for page in pages:
+    for number, line in prose(page):
+        hold(page.relative_to(ROOT), number, line)
+for page in pages + sorted((ROOT / "docs" / "landings").glob("*.md")):
+    for number, line in prose(page):
+        hold_links(page, number, line)
+print("\n".join(missing) if missing else "every name that the pages cite exists, and every place that they link to")
 sys.exit(1 if missing else 0)
