@@ -1,297 +1,165 @@
 // The operations for callers in C and Rust: the door that boxes come in by.
 //
-// Each function takes its arguments apart and calls the operation. It answers the refusal's number, 0 for accepted work; `value` takes the
-// refusal's value, or the number that is answered. What else is lent changes only if the work is accepted. A table is k, s, sigma and a
-// pointer to 256 places; a roll is a table with n and h.
+// Tables, codewords and rolls come in and are answered by value, and nothing is written but what is lent: a record that grows changes no
+// signature. Beside them stand the refusal's number, 0 for accepted work, and the refusal's value or what is answered.
 
 mod taken;
 
-use ground::answers::Done;
-use ground::answers::Total;
-use stopper::code::LONGEST;
+use sound::records::Roll;
 use stopper::codeword_of::Codeword;
+use stopper::table::Table;
+use taken::Chosen;
+use taken::Coded;
+use taken::Rolled;
+use taken::Told;
+use taken::done;
 use taken::read;
-use taken::roll_of;
-use taken::table_of;
-use taken::told;
+use taken::totalled;
 ghost use mathlib.Core.Path.{_≡_};
-ghost use Rattle.ground.specs.Paper.Refusals.{accepted, _then_, kept};
+ghost use Rattle.ground.specs.Paper.Refusals.{accepted, _then_};
 ghost use Rattle.stopper.specs.Paper.Operations.{codewordSays, codewordGiven, characterSays};
 ghost use Rattle.choosing.specs.Paper.Operations.{countSays, countLeaves, chooseSays, chooseTable, chooseTotal};
 ghost use Rattle.roll.specs.Paper.Operations.{packSays, packRoll, packLeaves, checkSays, unpackSays, unpackLeaves, makeSays, makeLeaves, readSays, searchSays, searchLeaves, editSays, editRoll, editLeaves, editMends};
-ghost use Rattle.cabi.specs.Paper.Taken.{Told, tableAt, rollAt};
+ghost use Rattle.cabi.specs.Paper.Taken.{told};
 
 #[no_mangle]
-pub extern "C" fn monterculo_count(text: &[u8], counts: &mut [u32], value: &mut u64) -> u32
-    ensures told { λ r. ⌜ Told (countSays (now (text .entry)) (now (counts .entry)) then accepted 0) r (now (value .exit)) ⌝ }
+pub extern "C" fn monterculo_count(text: &[u8], counts: &mut [u32]) -> Told
+    ensures told { λ r. ⌜ r ≡ told (countSays (now (text .entry)) (now (counts .entry)) then accepted 0) ⌝ }
     ensures counts { λ _. ⌜ now (counts .exit) ≡ countLeaves (now (text .entry)) (now (counts .entry)) ⌝ }
 {
     let answer = choosing::count::count(text, counts);
-    told(answer, 0, value)
+    done(answer, 0)
 }
 
-// The table's k is the one given; `value` takes the total.
+// Its value is the total.
 #[no_mangle]
-pub extern "C" fn monterculo_choose(
-    k: u8,
-    counts: &[u32],
-    s: &mut u8,
-    sigma: &mut u16,
-    places: &mut [u8; 256],
-    value: &mut u64,
-) -> u32
-    ensures told { λ r. ⌜ Told (chooseSays k (now (counts .entry)) then accepted (chooseTotal k (now (counts .entry)))) r (now (value .exit)) ⌝ }
-    ensures s { λ _. ⌜ now (s .exit) ≡ kept (chooseSays k (now (counts .entry))) (now (s .entry)) (chooseTable k (now (counts .entry)) .code .s) ⌝ }
-    ensures sigma { λ _. ⌜ now (sigma .exit) ≡ kept (chooseSays k (now (counts .entry))) (now (sigma .entry)) (chooseTable k (now (counts .entry)) .sigma) ⌝ }
-    ensures places { λ _. ⌜ now (places .exit) ≡ kept (chooseSays k (now (counts .entry))) (now (places .entry)) (chooseTable k (now (counts .entry)) .places) ⌝ }
+pub extern "C" fn monterculo_choose(k: u8, counts: &[u32]) -> Chosen
+    ensures told { λ r. ⌜ r .answer ≡ told (chooseSays k (now (counts .entry)) then accepted (chooseTotal k (now (counts .entry)))) ⌝ }
+    ensures table { λ r. ⌜ r .table ≡ chooseTable k (now (counts .entry)) ⌝ }
 {
     let choice = choosing::choose::choose(k, counts);
-    let answer = choice.answer;
     let table = choice.table;
-    let code = table.code;
-    let held = table.places;
-    match answer {
-        Done::Yes => {
-            *s = code.s;
-            *sigma = table.sigma;
-            *places = held;
-            *value = choice.total;
-            0
-        }
-        Done::Refused(number, refused) => {
-            *value = refused;
-            number as u32
-        }
+    let answer = choice.answer;
+    Chosen {
+        answer: done(answer, choice.total),
+        table,
     }
 }
 
-// `value` takes the length.
 #[no_mangle]
-pub extern "C" fn monterculo_codeword_of(
-    k: u8,
-    s: u8,
-    sigma: u16,
-    places: &[u8; 256],
-    character: u8,
-    word: &mut [u8; LONGEST],
-    value: &mut u64,
-) -> u32
-    ensures told { λ r. ⌜ Told (codewordSays (tableAt k s sigma (now (places .entry))) character then accepted (codewordGiven (tableAt k s sigma (now (places .entry))) character .length)) r (now (value .exit)) ⌝ }
-    ensures word { λ _. ⌜ now (word .exit) ≡ kept (codewordSays (tableAt k s sigma (now (places .entry))) character) (now (word .entry)) (codewordGiven (tableAt k s sigma (now (places .entry))) character .symbols) ⌝ }
+pub extern "C" fn monterculo_codeword_of(table: Table, character: u8) -> Coded
+    ensures told { λ r. ⌜ r .answer ≡ told (codewordSays table character then accepted 0) ⌝ }
+    ensures word { λ r. ⌜ r .word ≡ codewordGiven table character ⌝ }
 {
-    let table = table_of(k, s, sigma, places);
     let coded = stopper::codeword_of::codeword_of(table, character);
+    let word = coded.word;
     let answer = coded.answer;
-    let found = coded.word;
-    let symbols = found.symbols;
-    match answer {
-        Done::Yes => {
-            *word = symbols;
-            *value = found.length as u64;
-            0
-        }
-        Done::Refused(number, refused) => {
-            *value = refused;
-            number as u32
-        }
+    Coded {
+        answer: done(answer, 0),
+        word,
     }
 }
 
-// `value` takes the character.
+// Its value is the character.
 #[no_mangle]
-pub extern "C" fn monterculo_character_of(
-    k: u8,
-    s: u8,
-    sigma: u16,
-    places: &[u8; 256],
-    length: usize,
-    word: &[u8; LONGEST],
-    value: &mut u64,
-) -> u32
-    ensures { λ r. ⌜ Told (characterSays (tableAt k s sigma (now (places .entry))) (record { length = length; symbols = now (word .entry) })) r (now (value .exit)) ⌝ }
+pub extern "C" fn monterculo_character_of(table: Table, word: Codeword) -> Told
+    ensures { λ r. ⌜ r ≡ told (characterSays table word) ⌝ }
 {
-    let table = table_of(k, s, sigma, places);
-    let symbols = *word;
-    let answer = stopper::character_of::character_of(table, Codeword { length, symbols });
-    read(answer, value)
+    let answer = stopper::character_of::character_of(table, word);
+    read(answer)
 }
 
 #[no_mangle]
-pub extern "C" fn monterculo_check(
-    k: u8,
-    s: u8,
-    sigma: u16,
-    places: &[u8; 256],
-    n: u32,
-    h: u32,
-    buf: &[u8],
-    value: &mut u64,
-) -> u32
-    ensures { λ r. ⌜ Told (checkSays (rollAt k s sigma (now (places .entry)) n h) (now (buf .entry)) then accepted 0) r (now (value .exit)) ⌝ }
+pub extern "C" fn monterculo_pack(table: Table, text: &[u8], buf: &mut [u8]) -> Rolled
+    ensures told { λ r. ⌜ r .answer ≡ told (packSays table (now (text .entry)) (now (buf .entry)) then accepted 0) ⌝ }
+    ensures roll { λ r. ⌜ r .roll ≡ packRoll table (now (text .entry)) (now (buf .entry)) ⌝ }
+    ensures buf { λ _. ⌜ now (buf .exit) ≡ packLeaves table (now (text .entry)) (now (buf .entry)) ⌝ }
 {
-    let roll = roll_of(k, s, sigma, places, n, h);
+    let packed = roll::pack::pack(table, text, buf);
+    let roll = packed.roll;
+    let answer = packed.answer;
+    Rolled {
+        answer: done(answer, 0),
+        roll,
+    }
+}
+
+#[no_mangle]
+pub extern "C" fn monterculo_check(roll: Roll, buf: &[u8]) -> Told
+    ensures { λ r. ⌜ r ≡ told (checkSays roll (now (buf .entry)) then accepted 0) ⌝ }
+{
     let answer = roll::check::check(roll, buf);
-    told(answer, 0, value)
+    done(answer, 0)
 }
 
 #[no_mangle]
 pub extern "C" fn monterculo_unpack(
-    k: u8,
-    s: u8,
-    sigma: u16,
-    places: &[u8; 256],
-    n: u32,
-    h: u32,
+    roll: Roll,
     buf: &[u8],
     start: usize,
     end: usize,
     out: &mut [u8],
-    value: &mut u64,
-) -> u32
-    ensures told { λ r. ⌜ Told (unpackSays (rollAt k s sigma (now (places .entry)) n h) (now (buf .entry)) start end (now (out .entry)) then accepted 0) r (now (value .exit)) ⌝ }
-    ensures out { λ _. ⌜ now (out .exit) ≡ unpackLeaves (rollAt k s sigma (now (places .entry)) n h) (now (buf .entry)) start end (now (out .entry)) ⌝ }
+) -> Told
+    ensures told { λ r. ⌜ r ≡ told (unpackSays roll (now (buf .entry)) start end (now (out .entry)) then accepted 0) ⌝ }
+    ensures out { λ _. ⌜ now (out .exit) ≡ unpackLeaves roll (now (buf .entry)) start end (now (out .entry)) ⌝ }
 {
-    let roll = roll_of(k, s, sigma, places, n, h);
     let answer = roll::unpack::unpack(roll, buf, start, end, out);
-    told(answer, 0, value)
-}
-
-// The record's table is the one given; n and h take its numbers.
-#[no_mangle]
-pub extern "C" fn monterculo_pack(
-    k: u8,
-    s: u8,
-    sigma: u16,
-    places: &[u8; 256],
-    text: &[u8],
-    buf: &mut [u8],
-    n: &mut u32,
-    h: &mut u32,
-    value: &mut u64,
-) -> u32
-    ensures told { λ r. ⌜ Told (packSays (tableAt k s sigma (now (places .entry))) (now (text .entry)) (now (buf .entry)) then accepted 0) r (now (value .exit)) ⌝ }
-    ensures buf { λ _. ⌜ now (buf .exit) ≡ packLeaves (tableAt k s sigma (now (places .entry))) (now (text .entry)) (now (buf .entry)) ⌝ }
-    ensures n { λ _. ⌜ now (n .exit) ≡ kept (packSays (tableAt k s sigma (now (places .entry))) (now (text .entry)) (now (buf .entry))) (now (n .entry)) (packRoll (tableAt k s sigma (now (places .entry))) (now (text .entry)) (now (buf .entry)) .n) ⌝ }
-    ensures h { λ _. ⌜ now (h .exit) ≡ kept (packSays (tableAt k s sigma (now (places .entry))) (now (text .entry)) (now (buf .entry))) (now (h .entry)) (packRoll (tableAt k s sigma (now (places .entry))) (now (text .entry)) (now (buf .entry)) .h) ⌝ }
-{
-    let table = table_of(k, s, sigma, places);
-    let packed = roll::pack::pack(table, text, buf);
-    let answer = packed.answer;
-    let roll = packed.roll;
-    match answer {
-        Done::Yes => {
-            *n = roll.n;
-            *h = roll.h;
-            *value = 0;
-            0
-        }
-        Done::Refused(number, refused) => {
-            *value = refused;
-            number as u32
-        }
-    }
+    done(answer, 0)
 }
 
 #[no_mangle]
-pub extern "C" fn monterculo_make_directory(
-    k: u8,
-    s: u8,
-    sigma: u16,
-    places: &[u8; 256],
-    n: u32,
-    h: u32,
-    buf: &[u8],
-    dir: &mut [u32],
-    value: &mut u64,
-) -> u32
-    ensures told { λ r. ⌜ Told (makeSays (rollAt k s sigma (now (places .entry)) n h) (now (buf .entry)) (now (dir .entry)) then accepted 0) r (now (value .exit)) ⌝ }
-    ensures dir { λ _. ⌜ now (dir .exit) ≡ makeLeaves (rollAt k s sigma (now (places .entry)) n h) (now (buf .entry)) (now (dir .entry)) ⌝ }
+pub extern "C" fn monterculo_make_directory(roll: Roll, buf: &[u8], dir: &mut [u32]) -> Told
+    ensures told { λ r. ⌜ r ≡ told (makeSays roll (now (buf .entry)) (now (dir .entry)) then accepted 0) ⌝ }
+    ensures dir { λ _. ⌜ now (dir .exit) ≡ makeLeaves roll (now (buf .entry)) (now (dir .entry)) ⌝ }
 {
-    let roll = roll_of(k, s, sigma, places, n, h);
     let answer = roll::make_directory::make_directory(roll, buf, dir);
-    told(answer, 0, value)
+    done(answer, 0)
 }
 
-// `value` takes the character.
+// Its value is the character.
 #[no_mangle]
-pub extern "C" fn monterculo_read_one(
-    k: u8,
-    s: u8,
-    sigma: u16,
-    places: &[u8; 256],
-    n: u32,
-    h: u32,
-    buf: &[u8],
-    dir: &[u32],
-    place: usize,
-    value: &mut u64,
-) -> u32
-    ensures { λ r. ⌜ Told (readSays (rollAt k s sigma (now (places .entry)) n h) (now (buf .entry)) (now (dir .entry)) place) r (now (value .exit)) ⌝ }
+pub extern "C" fn monterculo_read_one(roll: Roll, buf: &[u8], dir: &[u32], place: usize) -> Told
+    ensures { λ r. ⌜ r ≡ told (readSays roll (now (buf .entry)) (now (dir .entry)) place) ⌝ }
 {
-    let roll = roll_of(k, s, sigma, places, n, h);
     let answer = roll::read_one::read_one(roll, buf, dir, place);
-    read(answer, value)
+    read(answer)
 }
 
-// `value` takes the total.
+// Its value is the total.
 #[no_mangle]
 pub extern "C" fn monterculo_search(
-    k: u8,
-    s: u8,
-    sigma: u16,
-    places: &[u8; 256],
-    n: u32,
-    h: u32,
+    roll: Roll,
     buf: &[u8],
     pattern: &[u8],
     slice: &mut [u32],
-    value: &mut u64,
-) -> u32
-    ensures told { λ r. ⌜ Told (searchSays (rollAt k s sigma (now (places .entry)) n h) (now (buf .entry)) (now (pattern .entry))) r (now (value .exit)) ⌝ }
-    ensures slice { λ _. ⌜ now (slice .exit) ≡ searchLeaves (rollAt k s sigma (now (places .entry)) n h) (now (buf .entry)) (now (pattern .entry)) (now (slice .entry)) ⌝ }
+) -> Told
+    ensures told { λ r. ⌜ r ≡ told (searchSays roll (now (buf .entry)) (now (pattern .entry))) ⌝ }
+    ensures slice { λ _. ⌜ now (slice .exit) ≡ searchLeaves roll (now (buf .entry)) (now (pattern .entry)) (now (slice .entry)) ⌝ }
 {
-    let roll = roll_of(k, s, sigma, places, n, h);
     let answer = roll::search::search(roll, buf, pattern, slice);
-    match answer {
-        Total::Of(total) => {
-            *value = total as u64;
-            0
-        }
-        Total::Refused(number, refused) => {
-            *value = refused;
-            number as u32
-        }
-    }
+    totalled(answer)
 }
 
-// The record's table is the one given; n and h are its numbers, and take those of the edited roll.
+// A refused edit answers the roll that came in.
 #[no_mangle]
 pub extern "C" fn monterculo_edit(
-    k: u8,
-    s: u8,
-    sigma: u16,
-    places: &[u8; 256],
-    n: &mut u32,
-    h: &mut u32,
+    roll: Roll,
     buf: &mut [u8],
     dir: &mut [u32],
     start: usize,
     end: usize,
     text: &[u8],
-    value: &mut u64,
-) -> u32
-    ensures told { λ r. ⌜ Told (editSays (rollAt k s sigma (now (places .entry)) (now (n .entry)) (now (h .entry))) (now (buf .entry)) (now (dir .entry)) start end (now (text .entry)) then accepted 0) r (now (value .exit)) ⌝ }
-    ensures buf { λ _. ⌜ now (buf .exit) ≡ editLeaves (rollAt k s sigma (now (places .entry)) (now (n .entry)) (now (h .entry))) (now (buf .entry)) (now (dir .entry)) start end (now (text .entry)) ⌝ }
-    ensures dir { λ _. ⌜ now (dir .exit) ≡ editMends (rollAt k s sigma (now (places .entry)) (now (n .entry)) (now (h .entry))) (now (buf .entry)) (now (dir .entry)) start end (now (text .entry)) ⌝ }
-    ensures n { λ _. ⌜ now (n .exit) ≡ editRoll (rollAt k s sigma (now (places .entry)) (now (n .entry)) (now (h .entry))) (now (buf .entry)) (now (dir .entry)) start end (now (text .entry)) .n ⌝ }
-    ensures h { λ _. ⌜ now (h .exit) ≡ editRoll (rollAt k s sigma (now (places .entry)) (now (n .entry)) (now (h .entry))) (now (buf .entry)) (now (dir .entry)) start end (now (text .entry)) .h ⌝ }
+) -> Rolled
+    ensures told { λ r. ⌜ r .answer ≡ told (editSays roll (now (buf .entry)) (now (dir .entry)) start end (now (text .entry)) then accepted 0) ⌝ }
+    ensures roll { λ r. ⌜ r .roll ≡ editRoll roll (now (buf .entry)) (now (dir .entry)) start end (now (text .entry)) ⌝ }
+    ensures buf { λ _. ⌜ now (buf .exit) ≡ editLeaves roll (now (buf .entry)) (now (dir .entry)) start end (now (text .entry)) ⌝ }
+    ensures dir { λ _. ⌜ now (dir .exit) ≡ editMends roll (now (buf .entry)) (now (dir .entry)) start end (now (text .entry)) ⌝ }
 {
-    let roll = roll_of(k, s, sigma, places, *n, *h);
     let edited = roll::edit::edit(roll, buf, dir, start, end, text);
+    let roll = edited.roll;
     let answer = edited.answer;
-    let record = edited.roll;
-    // A refused edit answers the record that came in.
-    *n = record.n;
-    *h = record.h;
-    told(answer, 0, value)
+    Rolled {
+        answer: done(answer, 0),
+        roll,
+    }
 }

@@ -1,60 +1,81 @@
-// Arguments taken together, and answers taken apart.
+// Answers as C takes them: numbers beside each other, an enum being none.
 use ground::answers::Answer;
 use ground::answers::Done;
+use ground::answers::Total;
 use sound::records::Roll;
-use stopper::code::even_code;
+use stopper::codeword_of::Codeword;
 use stopper::table::Table;
 ghost use mathlib.Core.Path.{_≡_};
 ghost use Rattle.ground.specs.Paper.Refusals.{accepted, _then_};
-ghost use Rattle.ground.specs.Paper.Answers.{doneSays, answerSays};
-ghost use Rattle.cabi.specs.Paper.Taken.{Told, tableAt, rollAt};
+ghost use Rattle.ground.specs.Paper.Answers.{doneSays, answerSays, totalSays};
+ghost use Rattle.cabi.specs.Paper.Taken.{told};
 
-pub fn table_of(k: u8, s: u8, sigma: u16, places: &[u8; 256]) -> Table
-    ensures { λ r. ⌜ r ≡ tableAt k s sigma (now (places .entry)) ⌝ }
+#[repr(C)]
+pub struct Told {
+    pub number: u32,
+    pub value: u64,
+}
+
+#[repr(C)]
+pub struct Chosen {
+    pub answer: Told,
+    pub table: Table,
+}
+
+#[repr(C)]
+pub struct Coded {
+    pub answer: Told,
+    pub word: Codeword,
+}
+
+// A roll packed or edited.
+#[repr(C)]
+pub struct Rolled {
+    pub answer: Told,
+    pub roll: Roll,
+}
+
+pub fn done(answer: Done, answered: u64) -> Told
+    ensures { λ r. ⌜ r ≡ told (doneSays answer then accepted answered) ⌝ }
 {
-    let held = *places;
-    Table {
-        code: even_code(k, s),
-        sigma,
-        places: held,
+    match answer {
+        Done::Yes => Told {
+            number: 0,
+            value: answered,
+        },
+        Done::Refused(number, value) => Told {
+            number: number as u32,
+            value,
+        },
     }
 }
 
-pub fn roll_of(k: u8, s: u8, sigma: u16, places: &[u8; 256], n: u32, h: u32) -> Roll
-    ensures { λ r. ⌜ r ≡ rollAt k s sigma (now (places .entry)) n h ⌝ }
-{
-    let table = table_of(k, s, sigma, places);
-    Roll { table, n, h }
-}
-
-// The answer's number; `value` takes the refusal's value or what is answered.
-pub fn told(answer: Done, answered: u64, value: &mut u64) -> u32
-    ensures { λ r. ⌜ Told (doneSays answer then accepted answered) r (now (value .exit)) ⌝ }
+pub fn read(answer: Answer) -> Told
+    ensures { λ r. ⌜ r ≡ told (answerSays answer) ⌝ }
 {
     match answer {
-        Done::Yes => {
-            *value = answered;
-            0
-        }
-        Done::Refused(number, refused) => {
-            *value = refused;
-            number as u32
-        }
+        Answer::Read(character) => Told {
+            number: 0,
+            value: character as u64,
+        },
+        Answer::Refused(number, value) => Told {
+            number: number as u32,
+            value,
+        },
     }
 }
 
-// The same of a character.
-pub fn read(answer: Answer, value: &mut u64) -> u32
-    ensures { λ r. ⌜ Told (answerSays answer) r (now (value .exit)) ⌝ }
+pub fn totalled(answer: Total) -> Told
+    ensures { λ r. ⌜ r ≡ told (totalSays answer) ⌝ }
 {
     match answer {
-        Answer::Read(character) => {
-            *value = character as u64;
-            0
-        }
-        Answer::Refused(number, refused) => {
-            *value = refused;
-            number as u32
-        }
+        Total::Of(total) => Told {
+            number: 0,
+            value: total as u64,
+        },
+        Total::Refused(number, value) => Told {
+            number: number as u32,
+            value,
+        },
     }
 }

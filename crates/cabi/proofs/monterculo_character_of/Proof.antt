@@ -5,10 +5,8 @@ use Rattle.cabi.proofs.monterculo_character_of.Tie as tie
 
 returns : tie.Need-returns
 returns c =
-    let w = c .before .before in
-    let p = rw (w .before .before .table-of .ensures) at (w .character-of .ensures) in
+    let p = c .before .character-of .ensures in
     rw (← p .says) (c .read .ensures)
 
 pub monterculo-character-of-spec : {M : Type 1} → statement M
-monterculo-character-of-spec =
-    tie.close (tie.spec (λ c κs. search needs) (λ c κs. search needs) (λ c κs. search needs) returns)
+monterculo-character-of-spec = tie.close (tie.spec (λ c κs. search needs) (λ c κs. search needs) returns)

@@ -5,9 +5,8 @@ use Rattle.cabi.proofs.monterculo_check.Tie as tie
 
 returns : tie.Need-returns
 returns c =
-    let w = c .before .before in
-    let p = rw (w .before .roll-of .ensures) at (w .check .ensures) in
-    rw (← p .says) (c .told .ensures)
+    let p = c .before .check .ensures in
+    rw (← p .says) (c .done .ensures)
 
 pub monterculo-check-spec : {M : Type 1} → statement M
-monterculo-check-spec = tie.close (tie.spec (λ c κs. search needs) (λ c κs. search needs) (λ c κs. search needs) returns)
+monterculo-check-spec = tie.close (tie.spec (λ c κs. search needs) (λ c κs. search needs) returns)

@@ -5,10 +5,8 @@ use Rattle.cabi.proofs.monterculo_make_directory.Tie as tie
 
 returns : tie.Need-returns
 returns c =
-    let w = c .before .before .before .before in
-    let p = rw (w .before .before .roll-of .ensures) at (w .make-directory .ensures) in
-    (rw (← p .says) (c .told .ensures), p .leaves)
+    let p = c .before .before .before .make-directory .ensures in
+    (rw (← p .says) (c .done .ensures), p .leaves)
 
 pub monterculo-make-directory-spec : {M : Type 1} → statement M
-monterculo-make-directory-spec =
-    tie.close (tie.spec (λ c κs. search needs) (λ c κs. search needs) (λ c κs. search needs) (λ c. search needs) returns)
+monterculo-make-directory-spec = tie.close (tie.spec (λ c κs. search needs) (λ c κs. search needs) (λ c. search needs) returns)

@@ -5,10 +5,8 @@ use Rattle.cabi.proofs.monterculo_read_one.Tie as tie
 
 returns : tie.Need-returns
 returns c =
-    let w = c .before .before in
-    let p = rw (w .before .roll-of .ensures) at (w .read-one .ensures) in
+    let p = c .before .read-one .ensures in
     rw (← p .says) (c .read .ensures)
 
 pub monterculo-read-one-spec : {M : Type 1} → statement M
-monterculo-read-one-spec =
-    tie.close (tie.spec (λ c κs. search needs) (λ c κs. search needs) (λ c κs. search needs) returns)
+monterculo-read-one-spec = tie.close (tie.spec (λ c κs. search needs) (λ c κs. search needs) returns)
