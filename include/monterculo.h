@@ -1,5 +1,5 @@
 /* Monterculo: a text packed in a stopper code, searched and edited where it lies. For C99 and C++ on x86-64; a program
- * links libcabi.a, which needs the C library and nothing else.
+ * links libmonterculo.a, which needs the C library and nothing else.
  *
  * A text is bytes; one byte is one character. A roll is a text packed as base symbols of k bits, k = 2 or 4.
  *

@@ -10,12 +10,12 @@ fn main() {
         Ok(dir) if !dir.is_empty() => dir,
         _ => return,
     };
-    let archive = Path::new(&dir).join("libcabi.a");
+    let archive = Path::new(&dir).join("libmonterculo.a");
     if !archive.is_file() {
         panic!("MONTERCULO_ARCHIVE_DIR is set, but there is no {}", archive.display());
     }
     println!("cargo:rerun-if-changed={}", archive.display());
     println!("cargo:rustc-link-search=native={}", dir);
-    println!("cargo:rustc-link-lib=static=cabi");
+    println!("cargo:rustc-link-lib=static=monterculo");
     println!("cargo:rustc-cfg=monterculo_archive");
 }
