@@ -12,14 +12,11 @@ fn stop(missing: &str) -> ! {
 fn main() {
     println!("cargo:rerun-if-changed=build.rs");
     println!("cargo:rerun-if-env-changed=MONTERCULO_ARCHIVE_DIR");
-    println!("cargo:rerun-if-env-changed=MONTERCULO_ARCHIVE_MACHINE");
     let machine = env::var("CARGO_CFG_TARGET_ARCH").unwrap_or_default();
-    // Another only where `rust/native` has compiled the archive again, to time it.
-    let of_archive = env::var("MONTERCULO_ARCHIVE_MACHINE").unwrap_or_else(|_| "x86_64".to_string());
-    if machine != of_archive {
+    if machine != "x86_64" {
         stop(&format!(
-            "the archive holds {} code, and this build is for {}: give cargo a --target of its machine",
-            of_archive, machine
+            "the archive holds x86-64 code, and this build is for {}: give cargo an x86-64 --target",
+            machine
         ));
     }
     let dir = match env::var("MONTERCULO_ARCHIVE_DIR") {

@@ -110,60 +110,70 @@ extern "C" {
 }
 
 /// Writes each byte's count into the 256 counts. Refused: 2, 4.
+#[inline]
 pub fn count(text: &[u8], counts: &mut [u32]) -> Answer {
     // SAFETY: as above; text is read, counts are written.
     unsafe { monterculo_count(text.as_ptr(), text.len(), counts.as_mut_ptr(), counts.len()) }
 }
 
 /// The table of width k with the fewest symbols for these counts. Refused: 1, 2.
+#[inline]
 pub fn choose(k: u8, counts: &[u32]) -> Chosen {
     // SAFETY: as above; counts are read.
     unsafe { monterculo_choose(k, counts.as_ptr(), counts.len()) }
 }
 
 /// The codeword of a character. Refused: 1, 3.
+#[inline]
 pub fn codeword_of(table: Table, character: u8) -> Coded {
     // SAFETY: nothing is lent.
     unsafe { monterculo_codeword_of(table, character) }
 }
 
 /// The character of a codeword, its value. Refused: 1, 6.
+#[inline]
 pub fn character_of(table: Table, word: Codeword) -> Answer {
     // SAFETY: nothing is lent; a length over 86 is refused like other numbers.
     unsafe { monterculo_character_of(table, word) }
 }
 
 /// Packs a text into the buffer. Refused: 1, 3, 4.
+#[inline]
 pub fn pack(table: Table, text: &[u8], buf: &mut [u8]) -> Rolled {
     // SAFETY: as above; text is read, buf is written.
     unsafe { monterculo_pack(table, text.as_ptr(), text.len(), buf.as_mut_ptr(), buf.len()) }
 }
 
 /// Checks that a roll is sound. Refused: 1, 5, 6, 7, 8.
+#[inline]
 pub fn check(roll: Roll, buf: &[u8]) -> Answer {
     // SAFETY: as above; buf is read.
     unsafe { monterculo_check(roll, buf.as_ptr(), buf.len()) }
 }
 
 /// Unpacks the characters from start up to end. Refused: check's, 10, 13.
+#[inline]
 pub fn unpack(roll: Roll, buf: &[u8], start: usize, end: usize, out: &mut [u8]) -> Answer {
     // SAFETY: as above; buf is read, out is written.
     unsafe { monterculo_unpack(roll, buf.as_ptr(), buf.len(), start, end, out.as_mut_ptr(), out.len()) }
 }
 
 /// Writes the directory. Refused: check's, 12.
+#[inline]
 pub fn make_directory(roll: Roll, buf: &[u8], directory: &mut [u32]) -> Answer {
     // SAFETY: as above; buf is read, the directory is written.
     unsafe { monterculo_make_directory(roll, buf.as_ptr(), buf.len(), directory.as_mut_ptr(), directory.len()) }
 }
 
 /// The character at a place, its value. Refused: 1, 5, 10, 9, 6.
+#[inline]
 pub fn read_one(roll: Roll, buf: &[u8], directory: &[u32], place: usize) -> Answer {
     // SAFETY: as above; buf and the directory are read.
     unsafe { monterculo_read_one(roll, buf.as_ptr(), buf.len(), directory.as_ptr(), directory.len(), place) }
 }
 
 /// Writes the first hits; its value is their total. Refused: check's, 11.
+#[inline]
 pub fn search(roll: Roll, buf: &[u8], pattern: &[u8], hits: &mut [u32]) -> Answer {
     // SAFETY: as above; buf and pattern are read, hits are written.
     unsafe {
@@ -172,6 +182,7 @@ pub fn search(roll: Roll, buf: &[u8], pattern: &[u8], hits: &mut [u32]) -> Answe
 }
 
 /// Replaces the characters from start up to end by a text. Refused: check's, 9, 10, 3, 4, 12.
+#[inline]
 pub fn edit(roll: Roll, buf: &mut [u8], directory: &mut [u32], start: usize, end: usize, text: &[u8]) -> Rolled {
     // SAFETY: as above; text is read, buf and the directory are written.
     unsafe {

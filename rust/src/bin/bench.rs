@@ -9,7 +9,8 @@ use std::fs;
 use std::process::exit;
 use std::time::Instant;
 
-use monterculo_reference::library::{roll_of, Archive, Library};
+use monterculo::sys;
+use monterculo_reference::library::roll_of;
 use monterculo_reference::plain;
 use monterculo_reference::reference::{self, Roll, Table, LIMIT, STRIDE};
 
@@ -326,7 +327,7 @@ fn sum_entries(entries: &[u32]) -> u64 {
     sum(entries.iter().map(|&entry| u64::from(entry)))
 }
 
-fn measure(case: &Case, archive: &dyn Library) -> Vec<Row> {
+fn measure(case: &Case) -> Vec<Row> {
     let (roll, text, buf, directory) = (&case.roll, &case.text, &case.buf, &case.directory);
     let (record, n) = (roll_of(roll), roll.n);
     let mut rows = Vec::new();
@@ -335,7 +336,7 @@ fn measure(case: &Case, archive: &dyn Library) -> Vec<Row> {
     let times = medians([
         &mut || {
             ours.fill(FILL);
-            let (time, packed) = timed(|| archive.pack(record.table, text, &mut ours));
+            let (time, packed) = timed(|| sys::pack(record.table, text, &mut ours));
             (time, (packed.answer.number, packed.roll.n, packed.roll.h, sum_bytes(&ours)))
         },
         &mut || {
@@ -349,7 +350,7 @@ fn measure(case: &Case, archive: &dyn Library) -> Vec<Row> {
     rows.push(Row::new("pack", times));
 
     let [ours, theirs, tuned] = medians([
-        &mut || timed(|| archive.check(record, buf).number),
+        &mut || timed(|| sys::check(record, buf).number),
         &mut || timed(|| number_of(&plain::check(roll, buf))),
         &mut || timed(|| number_of(&plain::check_straight(roll, buf))),
     ]);
@@ -359,7 +360,7 @@ fn measure(case: &Case, archive: &dyn Library) -> Vec<Row> {
     let times = medians([
         &mut || {
             ours.fill(FILL);
-            let (time, number) = timed(|| archive.unpack(record, buf, 0, n as usize, &mut ours).number);
+            let (time, number) = timed(|| sys::unpack(record, buf, 0, n as usize, &mut ours).number);
             (time, (number, sum_bytes(&ours)))
         },
         &mut || {
@@ -381,7 +382,7 @@ fn measure(case: &Case, archive: &dyn Library) -> Vec<Row> {
     let times = medians([
         &mut || {
             ours.fill(9);
-            let (time, number) = timed(|| archive.make_directory(record, buf, &mut ours).number);
+            let (time, number) = timed(|| sys::make_directory(record, buf, &mut ours).number);
             (time, (number, sum_entries(&ours)))
         },
         &mut || {
@@ -395,7 +396,7 @@ fn measure(case: &Case, archive: &dyn Library) -> Vec<Row> {
     let mut rng = Rng(3);
     let to_read: Vec<usize> = (0..PLACES).map(|_| rng.below(text.len())).collect();
     let times = medians([
-        &mut || timed(|| sum(to_read.iter().map(|&place| archive.read_one(record, buf, directory, place).value))),
+        &mut || timed(|| sum(to_read.iter().map(|&place| sys::read_one(record, buf, directory, place).value))),
         &mut || {
             timed(|| {
                 sum(to_read
@@ -418,7 +419,7 @@ fn measure(case: &Case, archive: &dyn Library) -> Vec<Row> {
         let checked = |(time, number): (f64, u32)| (time, (number, found.1, found.2));
         let [ours, theirs, tuned, unpacked, our_check, their_check, tuned_check] = medians([
             &mut || {
-                let (time, answer) = timed(|| archive.search(record, buf, pattern, &mut ours));
+                let (time, answer) = timed(|| sys::search(record, buf, pattern, &mut ours));
                 (time, (answer.number, answer.value, sum_entries(&ours[..answer.value as usize])))
             },
             &mut || {
@@ -433,7 +434,7 @@ fn measure(case: &Case, archive: &dyn Library) -> Vec<Row> {
                 let (time, hits) = timed(|| plain::search_text(text, pattern, &mut unpacked));
                 (time, seen(hits.expect("a good pattern"), &unpacked))
             },
-            &mut || checked(timed(|| archive.check(record, buf).number)),
+            &mut || checked(timed(|| sys::check(record, buf).number)),
             &mut || checked(timed(|| number_of(&plain::check(roll, buf)))),
             &mut || checked(timed(|| number_of(&plain::check_straight(roll, buf)))),
         ]);
@@ -462,7 +463,7 @@ fn measure(case: &Case, archive: &dyn Library) -> Vec<Row> {
             &mut || {
                 ours.copy_from_slice(buf);
                 our_entries.copy_from_slice(directory);
-                let (time, edited) = timed(|| archive.edit(record, &mut ours, &mut our_entries, start, end, &new));
+                let (time, edited) = timed(|| sys::edit(record, &mut ours, &mut our_entries, start, end, &new));
                 let (number, after) = (edited.answer.number, edited.roll);
                 (time, (number, after.n, after.h, sum_bytes(&ours), sum_entries(&our_entries)))
             },
@@ -642,7 +643,7 @@ fn main() {
     );
     let mut rows = Vec::new();
     for case in &cases {
-        let measured = measure(case, &Archive);
+        let measured = measure(case);
         println!("{}", table_of(case, &measured));
         rows.push(measured);
     }
