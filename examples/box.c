@@ -1,5 +1,5 @@
-/* A notice box. It packs a small member roll, finds a pan where the roll lies, corrects that member's telephone number
- * and reads it back. Everything lies in fixed buffers, and every answer is looked at. */
+/* A notice box. It packs a small members' file, finds a pan where the roll lies, reads that member's line, corrects the
+ * telephone number in it and saves the roll. Everything lies in fixed buffers, and every answer is looked at. */
 #include <inttypes.h>
 #include <stdio.h>
 #include <stdlib.h>
@@ -18,72 +18,101 @@ static const uint8_t pan[] = "pan 12 ";
 static const uint8_t foreign[] = "+445550186";
 static const uint8_t corrected[] = "0445550186";
 
-/* The box: a table, the roll's two counts, its symbols and its directory. */
-static const uint8_t k = 2;
-static uint8_t s, places[MONTERCULO_PLACES];
-static uint16_t sigma;
-static uint32_t n, h;
+/* The box: the record of the roll, its symbols and its directory, with room for longer numbers. */
+static struct monterculo_roll roll;
 static uint8_t buf[128];
 static uint32_t dir[4];
 
-/* What the last call answered beside its number. */
-static uint64_t value;
-
-/* Looks at an answer's number: it must be the one expected. */
-static void expect(uint32_t expected, uint32_t number, const char *step)
+/* Looks at an answer's number, which must be the one expected, and gives its value. */
+static uint64_t expect(uint32_t expected, struct monterculo_answer answer, const char *step)
 {
-    if (number == expected)
-        return;
-    printf("%s: answered %" PRIu32 " with value %" PRIu64 "\n", step, number, value);
-    exit(EXIT_FAILURE);
+    if (answer.number != expected) {
+        printf("%s: answered %" PRIu32 " (%s) with value %" PRIu64 "\n", step, answer.number,
+               monterculo_text(answer.number), answer.value);
+        exit(EXIT_FAILURE);
+    }
+    return answer.value;
 }
 
 static void print_range(size_t start, size_t end)
 {
     uint8_t out[128];
-    expect(0, monterculo_unpack(k, s, sigma, places, n, h, buf, sizeof buf, start, end, out, sizeof out, &value),
-           "unpack");
+    expect(0, monterculo_unpack(roll, buf, sizeof buf, start, end, out, sizeof out), "unpack");
     fwrite(out, 1, end - start, stdout);
 }
 
 static void print_roll(void)
 {
     size_t i;
-    printf("the roll: %" PRIu32 " characters in %" PRIu32 " symbols, %zu bytes; its directory:", n, h,
-           MONTERCULO_BYTES(h, k));
-    for (i = 0; i < MONTERCULO_ENTRIES(n); i++)
+    printf("the roll: %" PRIu32 " characters in %" PRIu32 " symbols, %zu bytes; its directory:", roll.n, roll.h,
+           MONTERCULO_BYTES(roll.h, roll.table.k));
+    for (i = 0; i < MONTERCULO_ENTRIES(roll.n); i++)
         printf(" %" PRIu32, dir[i]);
     printf("\n");
-    print_range(0, n);
+    print_range(0, roll.n);
 }
 
 /* The character at a place, by the directory. */
 static uint64_t character(size_t place)
 {
-    expect(0, monterculo_read_one(k, s, sigma, places, n, h, buf, sizeof buf, dir, ROOM(dir), place, &value),
-           "read one");
-    return value;
+    return expect(0, monterculo_read_one(roll, buf, sizeof buf, dir, ROOM(dir), place), "read one");
+}
+
+/* A checksum over a part of what is saved (FNV-1a), as the check finds no fault that leaves the form whole. */
+static uint32_t sum(uint32_t sum, const void *part, size_t length)
+{
+    const uint8_t *byte = (const uint8_t *)part;
+    size_t i;
+    for (i = 0; i < length; i++)
+        sum = (sum ^ byte[i]) * 16777619;
+    return sum;
+}
+
+static uint32_t sum_of_box(void)
+{
+    return sum(sum(sum(2166136261u, &roll, sizeof roll), buf, sizeof buf), dir, sizeof dir);
+}
+
+/* Record, buffer, directory and their checksum, saved together; and read back. */
+static void save(FILE *file)
+{
+    uint32_t kept = sum_of_box();
+    if (fwrite(&roll, sizeof roll, 1, file) + fwrite(buf, sizeof buf, 1, file) + fwrite(dir, sizeof dir, 1, file) +
+            fwrite(&kept, sizeof kept, 1, file) != 4)
+        exit(EXIT_FAILURE);
+}
+
+static int load(FILE *file)
+{
+    uint32_t kept;
+    return fread(&roll, sizeof roll, 1, file) + fread(buf, sizeof buf, 1, file) + fread(dir, sizeof dir, 1, file) +
+            fread(&kept, sizeof kept, 1, file) == 4 && kept == sum_of_box();
 }
 
 int main(void)
 {
     static uint32_t counts[256];
+    struct monterculo_chosen chosen;
+    struct monterculo_rolled rolled;
     uint32_t hits[1];
+    uint64_t total;
     size_t start, end;
+    FILE *file = tmpfile();
 
-    expect(0, monterculo_count(members, sizeof members - 1, counts, ROOM(counts), &value), "count");
-    expect(0, monterculo_choose(k, counts, ROOM(counts), &s, &sigma, places, &value), "choose");
-    printf("the table: %d stoppers, %d characters; the text takes %" PRIu64 " symbols\n", s, sigma, value);
-    expect(0, monterculo_pack(k, s, sigma, places, members, sizeof members - 1, buf, sizeof buf, &n, &h, &value),
-           "pack");
-    expect(0, monterculo_make_directory(k, s, sigma, places, n, h, buf, sizeof buf, dir, ROOM(dir), &value),
-           "make a directory");
+    expect(0, monterculo_count(members, sizeof members - 1, counts, ROOM(counts)), "count");
+    chosen = monterculo_choose(2, counts, ROOM(counts));
+    total = expect(0, chosen.answer, "choose");
+    printf("the table: %d stoppers, %d characters; the text takes %" PRIu64 " symbols\n", chosen.table.s,
+           chosen.table.sigma, total);
+    rolled = monterculo_pack(chosen.table, members, sizeof members - 1, buf, sizeof buf);
+    expect(0, rolled.answer, "pack");
+    roll = rolled.roll;
+    expect(0, monterculo_make_directory(roll, buf, sizeof buf, dir, ROOM(dir)), "make a directory");
     print_roll();
 
-    expect(0, monterculo_search(k, s, sigma, places, n, h, buf, sizeof buf, pan, sizeof pan - 1, hits, ROOM(hits),
-                                &value), "search");
-    printf("'%s' stands %" PRIu64 " time(s)\n", (const char *)pan, value);
-    if (value != 1)
+    total = expect(0, monterculo_search(roll, buf, sizeof buf, pan, sizeof pan - 1, hits, ROOM(hits)), "search");
+    printf("'%s' stands %" PRIu64 " time(s)\n", (const char *)pan, total);
+    if (total != 1)
         return EXIT_FAILURE;
     /* The telephone number runs from behind the line's last blank to the line's end. */
     start = hits[0];
@@ -94,18 +123,28 @@ int main(void)
     print_range(start, end);
     printf("\n");
 
-    expect(MONTERCULO_NOT_IN_TABLE,
-           monterculo_edit(k, s, sigma, places, &n, &h, buf, sizeof buf, dir, ROOM(dir), start, end, foreign,
-                           sizeof foreign - 1, &value), "edit with a character not in the table");
-    printf("%s is refused: its character %" PRIu64 " is not in the table\n", (const char *)foreign, value);
-    expect(0, monterculo_edit(k, s, sigma, places, &n, &h, buf, sizeof buf, dir, ROOM(dir), start, end, corrected,
-                              sizeof corrected - 1, &value), "edit");
+    rolled = monterculo_edit(roll, buf, sizeof buf, dir, ROOM(dir), start, end, foreign, sizeof foreign - 1);
+    printf("%s is refused, %s: its character %" PRIu64 "\n", (const char *)foreign,
+           monterculo_text(rolled.answer.number), expect(MONTERCULO_NOT_IN_TABLE, rolled.answer, "edit"));
+    rolled = monterculo_edit(roll, buf, sizeof buf, dir, ROOM(dir), start, end, corrected, sizeof corrected - 1);
+    expect(0, rolled.answer, "edit");
+    roll = rolled.roll;
     printf("%s is put in its place\n", (const char *)corrected);
     end = start + sizeof corrected - 1;
 
     printf("the line is now: ");
     print_range(hits[0], end);
     printf("\nthe last digit of its number: %c\n", (int)character(end - 1));
+
+    if (file == NULL)
+        return EXIT_FAILURE;
+    save(file);
+    rewind(file);
+    if (!load(file))
+        return EXIT_FAILURE;
+    fclose(file);
+    expect(0, monterculo_check(roll, buf, sizeof buf), "check");
+    printf("saved and read back, its checksum and its check right\n");
     print_roll();
     return EXIT_SUCCESS;
 }

@@ -1,27 +1,38 @@
 /* Monterculo: a text packed in a stopper code, searched and edited where it lies. For C99 and C++ on x86-64; a program
- * links libcabi.a, which needs the C library and nothing else.
+ * links libmonterculo.a, which needs the C library and nothing else.
  *
  * A text is bytes; one byte is one character. A roll is a text packed as base symbols of k bits, k = 2 or 4.
  *
- * A table is passed as k, s (the symbols below s are stoppers), sigma and 256 places, of which the first sigma hold the
- * characters in rank order; the places past them are not looked at, but must be there. A roll is passed as a table, the
- * character count n, the symbol count h, and the lent buffer that holds its symbols. Whatever these numbers and bytes
- * are, a call finishes and answers by the rules below. Places count from 0; a range runs from its start up to, and not
- * including, its end.
+ * Tables, codewords and rolls are structs, taken and answered by value. A roll's symbols lie in a lent buffer beside it.
+ * Whatever the numbers and bytes of a struct are, a call finishes and answers by the rules below. Places count from 0; a
+ * range runs from its start up to, and not including, its end.
  *
- * Every function answers a number. 0 is accepted; any other is a refusal, of those in enum monterculo_number. *value
- * takes the refusal's value; of accepted work it takes what the function's comment names, and 0 where none is named.
- * The refusals of a function are given in their order: the first that applies is answered. A refused call changes
- * *value and nothing else.
+ * Every function answers a number and a value. Number 0 is accepted; any other is a refusal, of those in enum
+ * monterculo_number, with the refusal's value (in brackets below). Of accepted work the value is what the function's
+ * comment names, and 0 where none is named. The refusals of a function are given in their order: the first that applies
+ * is answered. A refused call writes nothing.
  *
- * Pointers. Each must be valid for its length, for writing too unless it is const, and aligned for its type. None may
- * be null, not even with a length of 0: lend the address of some object then. What a call may write, *value and the
- * other single numbers included, must not overlap anything else lent to that call. Slices only read may overlap.
+ * What a maker trips over:
+ * - Pointers. Each must be valid for its length, for writing too unless it is const, and aligned for its type. None may
+ *   be null, not even with a length of 0: lend the address of some object then. What a call may write must not overlap
+ *   anything else lent to that call. Slices only read may overlap.
+ * - The answered roll is the new record: keep it, and with it the buffer that the call wrote. An accepted edit makes the
+ *   record before it worthless.
+ * - A buffer of exactly MONTERCULO_BYTES(h, k) leaves no room: an edit that takes more symbols than what it replaces is
+ *   refused 4 then, but for the unused symbols of the last byte. Lend what the longest text to come needs, and so for
+ *   the directory.
+ * - Only characters in the table can be put in by an edit. Before choosing, count once more those that may come, such as
+ *   all ten digits.
+ * - check finds what breaks the form, and not what changes the text. Of all single-bit faults of a made roll of member
+ *   lines 46 % passed it with k = 2, and 78 % with k = 4, each with another text. An old record beside a newer buffer
+ *   may pass as well, as where an edit put characters behind the last and the old symbols filled whole bytes. Keep a
+ *   checksum of your own, and save record, buffer and directory together.
+ * - The stack, in bytes and with the arguments: edit 27,500, pack 26,900, search 9,500, codeword_of 3,900, unpack 1,700,
+ *   read_one and character_of 1,300, make_directory 1,100, check and choose 1,000, count 100. No call takes memory from
+ *   elsewhere. These figures and those of the faults were measured on the archive by tools/measure.c.
  *
  * Sizes to lend.
- *   a codeword            86 bytes, one symbol each
  *   counts                256 entries of 32 bits
- *   places                256 bytes
  *   a directory           n/32 entries of 32 bits, rounded up: MONTERCULO_ENTRIES(n)
  *   a buffer              h*k/8 bytes, rounded up, for h symbols: MONTERCULO_BYTES(h, k)
  * No roll has more than 65,536 symbols. The room of a buffer is the smaller of 65,536 and its bytes times 8/k, in
@@ -35,6 +46,11 @@
 #ifdef __cplusplus
 extern "C" {
 #endif
+
+/* Of this header: the first number changes where a struct or a function does. */
+#define MONTERCULO_VERSION_MAJOR 1
+#define MONTERCULO_VERSION_MINOR 0
+#define MONTERCULO_VERSION "1.0"
 
 #define MONTERCULO_PLACES 256
 #define MONTERCULO_CODEWORD 86
@@ -73,84 +89,141 @@ enum monterculo_number {
     MONTERCULO_SHORT_OUTPUT = 13
 };
 
+/* The words for an answer's number. */
+static inline const char *monterculo_text(uint32_t number)
+{
+    switch (number) {
+    case MONTERCULO_ACCEPTED: return "accepted";
+    case MONTERCULO_BAD_TABLE: return "bad table: k, s, sigma, or a character twice";
+    case MONTERCULO_BAD_COUNTS: return "counts slice not 256 long";
+    case MONTERCULO_NOT_IN_TABLE: return "a text character not in the table";
+    case MONTERCULO_NO_ROOM: return "the packed result exceeds the room, or the text to be counted 65,536 characters";
+    case MONTERCULO_BAD_SYMBOL_COUNT: return "h exceeds the room";
+    case MONTERCULO_BAD_CODEWORD: return "a codeword unfinished at h, or of rank sigma or more";
+    case MONTERCULO_BAD_CHARACTER_COUNT: return "codewords read are not n";
+    case MONTERCULO_BAD_UNUSED: return "an unused symbol of the last byte is not 0";
+    case MONTERCULO_BAD_ENTRY: return "a directory entry missing or wrong";
+    case MONTERCULO_BAD_RANGE: return "a range or a place that the text does not have";
+    case MONTERCULO_BAD_PATTERN: return "pattern empty or over 64";
+    case MONTERCULO_SHORT_DIRECTORY: return "directory shorter than the result needs";
+    case MONTERCULO_SHORT_OUTPUT: return "output shorter than the range";
+    default: return "no number of this library";
+    }
+}
+
+/* A table: base symbols of k bits, those below s being stoppers. The first sigma places hold the characters in rank
+ * order; those past them are not looked at. */
+struct monterculo_table {
+    uint8_t k, s;
+    uint16_t sigma;
+    uint8_t places[MONTERCULO_PLACES];
+};
+
+/* The record of a roll: n characters in h symbols. */
+struct monterculo_roll {
+    struct monterculo_table table;
+    uint32_t n, h;
+};
+
+/* A codeword, one symbol a byte; those past the length are answered 0, and not looked at. */
+struct monterculo_codeword {
+    size_t length;
+    uint8_t symbols[MONTERCULO_CODEWORD];
+};
+
+struct monterculo_answer {
+    uint32_t number;
+    uint64_t value;
+};
+
+struct monterculo_chosen {
+    struct monterculo_answer answer;
+    struct monterculo_table table;
+};
+
+struct monterculo_coded {
+    struct monterculo_answer answer;
+    struct monterculo_codeword word;
+};
+
+struct monterculo_rolled {
+    struct monterculo_answer answer;
+    struct monterculo_roll roll;
+};
+
 /* The code alone. */
 
 /* Counts the characters of a text.
- * Refused, only *value changes: 2 (counts_len), 4 (65,536).
+ * Refused: 2 (counts_len), 4 (65,536).
  * Writes: each of the 256 counts becomes that byte's count. */
-uint32_t monterculo_count(const uint8_t *text, size_t text_len, uint32_t *counts, size_t counts_len, uint64_t *value);
+struct monterculo_answer monterculo_count(const uint8_t *text, size_t text_len, uint32_t *counts, size_t counts_len);
 
-/* Chooses the table of width k with the fewest symbols for these counts. Any counts may come.
- * Refused, only *value changes: 1 (0; the width only), 2 (counts_len).
- * Writes: *s, *sigma and all 256 places, those past sigma 0. *value: the total of symbols; a buffer of
- * MONTERCULO_BYTES(total, k) bytes has room for the counted text, if the total is not over 65,536. */
-uint32_t monterculo_choose(uint8_t k, const uint32_t *counts, size_t counts_len, uint8_t *s, uint16_t *sigma,
-                           uint8_t places[256], uint64_t *value);
+/* Chooses the table of width k with the fewest symbols for these counts; its places past sigma are 0. Any counts may
+ * come.
+ * Refused: 1 (0; the width only), 2 (counts_len); the table is then k, s 0, sigma 0, all places 0.
+ * Value: the total of symbols; a buffer of MONTERCULO_BYTES(total, k) bytes has room for the counted text, if the total
+ * is not over 65,536. */
+struct monterculo_chosen monterculo_choose(uint8_t k, const uint32_t *counts, size_t counts_len);
 
 /* The codeword of a character.
- * Refused, only *value changes: 1 (0), 3 (0).
- * Writes: all 86 bytes of word, 0 past the length. *value: the length. */
-uint32_t monterculo_codeword_of(uint8_t k, uint8_t s, uint16_t sigma, const uint8_t places[256], uint8_t character,
-                                uint8_t word[86], uint64_t *value);
+ * Refused: 1 (0), 3 (0); the codeword is then empty. */
+struct monterculo_coded monterculo_codeword_of(struct monterculo_table table, uint8_t character);
 
-/* The character of a codeword: the bytes of word up to the length; those past it are not looked at.
- * Refused, only *value changes: 1 (0), 6 (0; they are not exactly one codeword of rank below sigma).
- * *value: the character. */
-uint32_t monterculo_character_of(uint8_t k, uint8_t s, uint16_t sigma, const uint8_t places[256], size_t length,
-                                 const uint8_t word[86], uint64_t *value);
+/* The character of a codeword.
+ * Refused: 1 (0), 6 (0; the symbols up to the length are not exactly one codeword of rank below sigma).
+ * Value: the character. */
+struct monterculo_answer monterculo_character_of(struct monterculo_table table, struct monterculo_codeword word);
 
 /* The roll. */
 
 /* Packs a text.
- * Refused, only *value changes: 1 (0), 3 (place of the first), 4 (number of the first character that does not fit).
- * Writes: the packed bytes, later bytes unchanged; *n and *h, the counts of the roll. */
-uint32_t monterculo_pack(uint8_t k, uint8_t s, uint16_t sigma, const uint8_t places[256], const uint8_t *text,
-                         size_t text_len, uint8_t *buf, size_t buf_len, uint32_t *n, uint32_t *h, uint64_t *value);
+ * Refused: 1 (0), 3 (place of the first), 4 (number of the first character that does not fit); the roll is then the
+ * table with n 0 and h 0.
+ * Writes: the packed bytes, later bytes unchanged. */
+struct monterculo_rolled monterculo_pack(struct monterculo_table table, const uint8_t *text, size_t text_len,
+                                         uint8_t *buf, size_t buf_len);
 
 /* Checks that a roll is sound.
- * Refused, only *value changes: 1 (0), 5 (h), 6 (the bad codeword's first symbol), 7 (codewords read), 8 (0). */
-uint32_t monterculo_check(uint8_t k, uint8_t s, uint16_t sigma, const uint8_t places[256], uint32_t n, uint32_t h,
-                          const uint8_t *buf, size_t buf_len, uint64_t *value);
+ * Refused: 1 (0), 5 (h), 6 (the bad codeword's first symbol), 7 (codewords read), 8 (0). */
+struct monterculo_answer monterculo_check(struct monterculo_roll roll, const uint8_t *buf, size_t buf_len);
 
 /* Unpacks the characters start up to, and not including, end.
- * Refused, only *value changes: check's 1, 5, 6, 7, 8, then 10 (0), 13 (range length).
+ * Refused: check's 1, 5, 6, 7, 8, then 10 (0), 13 (range length).
  * Writes: the range, from the first byte of out on; later bytes unchanged. */
-uint32_t monterculo_unpack(uint8_t k, uint8_t s, uint16_t sigma, const uint8_t places[256], uint32_t n, uint32_t h,
-                           const uint8_t *buf, size_t buf_len, size_t start, size_t end, uint8_t *out, size_t out_len,
-                           uint64_t *value);
+struct monterculo_answer monterculo_unpack(struct monterculo_roll roll, const uint8_t *buf, size_t buf_len,
+                                           size_t start, size_t end, uint8_t *out, size_t out_len);
 
 /* Makes the directory: for each of characters 0, 32, 64, ... below n the number of its first symbol.
- * Refused, only *value changes: check's 1, 5, 6, 7, 8, then 12 (entries needed).
+ * Refused: check's 1, 5, 6, 7, 8, then 12 (entries needed).
  * Writes: the entries; later ones unchanged. */
-uint32_t monterculo_make_directory(uint8_t k, uint8_t s, uint16_t sigma, const uint8_t places[256], uint32_t n,
-                                   uint32_t h, const uint8_t *buf, size_t buf_len, uint32_t *dir, size_t dir_len,
-                                   uint64_t *value);
+struct monterculo_answer monterculo_make_directory(struct monterculo_roll roll, const uint8_t *buf, size_t buf_len,
+                                                   uint32_t *dir, size_t dir_len);
 
 /* Reads the character at a place from the directory's entry place/32 on. It does not check the whole roll: with a
  * sound roll and a right directory the answer is the character of the unpacked text.
- * Refused, only *value changes: 1 (0), 5 (h), 10 (0), 9 (place/32; that entry is missing or not below h), 6 (the first
- * symbol of the bad codeword on the way; h where one would start at h).
- * *value: the character. */
-uint32_t monterculo_read_one(uint8_t k, uint8_t s, uint16_t sigma, const uint8_t places[256], uint32_t n, uint32_t h,
-                             const uint8_t *buf, size_t buf_len, const uint32_t *dir, size_t dir_len, size_t place,
-                             uint64_t *value);
+ * Refused: 1 (0), 5 (h), 10 (0), 9 (place/32; that entry is missing or not below h), 6 (the first symbol of the bad
+ * codeword on the way; h where one would start at h).
+ * Value: the character. */
+struct monterculo_answer monterculo_read_one(struct monterculo_roll roll, const uint8_t *buf, size_t buf_len,
+                                             const uint32_t *dir, size_t dir_len, size_t place);
 
 /* Searches for all places where a pattern of 1 to 64 characters stands, overlapping ones too.
- * Refused, only *value changes: check's 1, 5, 6, 7, 8, then 11 (0).
- * Writes: the first hits, ascending, as many as the slice holds; later entries unchanged. *value: the total of all
- * hits, which may be more than hits_len; 0 if a character of the pattern is not in the table. */
-uint32_t monterculo_search(uint8_t k, uint8_t s, uint16_t sigma, const uint8_t places[256], uint32_t n, uint32_t h,
-                           const uint8_t *buf, size_t buf_len, const uint8_t *pattern, size_t pattern_len,
-                           uint32_t *hits, size_t hits_len, uint64_t *value);
+ * Refused: check's 1, 5, 6, 7, 8, then 11 (0).
+ * Writes: the first hits, ascending, as many as the slice holds; later entries unchanged.
+ * Value: the total of all hits, which may be more than hits_len; 0 if a character of the pattern is not in the table. */
+struct monterculo_answer monterculo_search(struct monterculo_roll roll, const uint8_t *buf, size_t buf_len,
+                                           const uint8_t *pattern, size_t pattern_len, uint32_t *hits,
+                                           size_t hits_len);
 
 /* Replaces the characters start up to, and not including, end by a text of any length; the directory is kept right.
- * Refused, only *value changes: check's 1, 5, 6, 7, 8, then 9 (the first missing or wrong entry), 10 (0), 3 (place in
- * the text put in), 4 (number, in the edited text, of the first character that does not fit), 12 (entries needed).
+ * Refused: check's 1, 5, 6, 7, 8, then 9 (the first missing or wrong entry), 10 (0), 3 (place in the text put in), 4
+ * (number, in the edited text, of the first character that does not fit), 12 (entries needed); the roll is then the one
+ * that came in.
  * Writes: the packed bytes and the directory of the edited text; bytes and entries used before and no longer become 0,
- * the rest is unchanged; *n and *h, which are the roll's counts before, become those after. */
-uint32_t monterculo_edit(uint8_t k, uint8_t s, uint16_t sigma, const uint8_t places[256], uint32_t *n, uint32_t *h,
-                         uint8_t *buf, size_t buf_len, uint32_t *dir, size_t dir_len, size_t start, size_t end,
-                         const uint8_t *text, size_t text_len, uint64_t *value);
+ * the rest is unchanged. */
+struct monterculo_rolled monterculo_edit(struct monterculo_roll roll, uint8_t *buf, size_t buf_len, uint32_t *dir,
+                                         size_t dir_len, size_t start, size_t end, const uint8_t *text,
+                                         size_t text_len);
 
 #ifdef __cplusplus
 }

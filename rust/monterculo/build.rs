@@ -1,4 +1,4 @@
-//! Links the archive libcabi.a of the folder that MONTERCULO_ARCHIVE_DIR names, or says what is missing.
+//! Links the archive libmonterculo.a of the folder that MONTERCULO_ARCHIVE_DIR names, or says what is missing.
 
 use std::env;
 use std::path::Path;
@@ -22,18 +22,18 @@ fn main() {
     let dir = match env::var("MONTERCULO_ARCHIVE_DIR") {
         Ok(dir) if !dir.is_empty() => dir,
         _ => stop(
-            "MONTERCULO_ARCHIVE_DIR is not set: it names the folder of libcabi.a, which `rt staticlib cabi` writes",
+            "MONTERCULO_ARCHIVE_DIR is not set: it names the folder of libmonterculo.a, which `rt staticlib monterculo` writes",
         ),
     };
     // The build runs in the package's own folder, so a path from elsewhere must be whole.
     if Path::new(&dir).is_relative() {
         stop(&format!("MONTERCULO_ARCHIVE_DIR must be an absolute path, and is {}", dir));
     }
-    let archive = Path::new(&dir).join("libcabi.a");
+    let archive = Path::new(&dir).join("libmonterculo.a");
     if !archive.is_file() {
         stop(&format!("MONTERCULO_ARCHIVE_DIR is set, but there is no {}", archive.display()));
     }
     println!("cargo:rerun-if-changed={}", archive.display());
     println!("cargo:rustc-link-search=native={}", dir);
-    println!("cargo:rustc-link-lib=static=cabi");
+    println!("cargo:rustc-link-lib=static=monterculo");
 }

@@ -1,24 +1,7 @@
-//! The paper's operations written by definition, and the doors to the archive they are held to.
+//! The paper's operations written by definition, and the archive they are held to behind the same doors.
 
-#![deny(unsafe_code)]
-#![allow(unknown_lints, unexpected_cfgs)] // build.rs sets monterculo_archive; old and new compilers stay quiet
+#![forbid(unsafe_code)]
 
 pub mod library;
 pub mod plain;
 pub mod reference;
-
-#[cfg(monterculo_archive)]
-#[allow(unsafe_code)]
-pub mod ffi;
-
-/// The archive, if this build found one.
-#[cfg(monterculo_archive)]
-pub fn archive() -> Option<Box<dyn library::Library>> {
-    Some(Box::new(ffi::Archive))
-}
-
-/// The archive, if this build found one.
-#[cfg(not(monterculo_archive))]
-pub fn archive() -> Option<Box<dyn library::Library>> {
-    None
-}

@@ -1,244 +1,124 @@
-//! The eleven operations as the archive offers them, behind a trait, and the reference's own copy of them.
-//!
-//! Each answers its number (0 for accepted), its value and the plain numbers it writes;
-//! these numbers come in as they stood before the call, so that a refusal can be seen to leave them.
+//! The eleven operations behind a trait, in the archive's own structs: the archive, and the reference behind the same
+//! doors.
 
-use crate::reference::{self, Answer, Roll, Table, LONGEST};
+use monterculo::sys::{self, Answer, Chosen, Coded, Codeword, Roll, Rolled, Table};
 
+use crate::reference;
+
+#[rustfmt::skip]
 pub trait Library {
-    fn count(&self, text: &[u8], counts: &mut [u32]) -> (u32, u64);
-
-    /// Outputs behind the value: s, sigma.
-    fn choose(&self, k: u8, counts: &[u32], s: u8, sigma: u16, places: &mut [u8; 256]) -> (u32, u64, u8, u16);
-
-    fn codeword_of(&self, table: &Head, places: &[u8; 256], character: u8, symbols: &mut [u8; LONGEST]) -> (u32, u64);
-
-    fn character_of(&self, table: &Head, places: &[u8; 256], length: usize, symbols: &[u8; LONGEST]) -> (u32, u64);
-
-    fn check(&self, table: &Head, places: &[u8; 256], n: u32, h: u32, buf: &[u8]) -> (u32, u64);
-
-    #[allow(clippy::too_many_arguments)]
-    fn unpack(
-        &self,
-        table: &Head,
-        places: &[u8; 256],
-        n: u32,
-        h: u32,
-        buf: &[u8],
-        start: usize,
-        end: usize,
-        out: &mut [u8],
-    ) -> (u32, u64);
-
-    /// Outputs behind the value: n, h.
-    #[allow(clippy::too_many_arguments)]
-    fn pack(
-        &self,
-        table: &Head,
-        places: &[u8; 256],
-        text: &[u8],
-        buf: &mut [u8],
-        n: u32,
-        h: u32,
-    ) -> (u32, u64, u32, u32);
-
-    #[allow(clippy::too_many_arguments)]
-    fn make_directory(
-        &self,
-        table: &Head,
-        places: &[u8; 256],
-        n: u32,
-        h: u32,
-        buf: &[u8],
-        directory: &mut [u32],
-    ) -> (u32, u64);
-
-    #[allow(clippy::too_many_arguments)]
-    fn read_one(
-        &self,
-        table: &Head,
-        places: &[u8; 256],
-        n: u32,
-        h: u32,
-        buf: &[u8],
-        directory: &[u32],
-        place: usize,
-    ) -> (u32, u64);
-
-    #[allow(clippy::too_many_arguments)]
-    fn search(
-        &self,
-        table: &Head,
-        places: &[u8; 256],
-        n: u32,
-        h: u32,
-        buf: &[u8],
-        pattern: &[u8],
-        hits: &mut [u32],
-    ) -> (u32, u64);
-
-    /// Outputs behind the value: n, h.
-    #[allow(clippy::too_many_arguments)]
-    fn edit(
-        &self,
-        table: &Head,
-        places: &[u8; 256],
-        n: u32,
-        h: u32,
-        buf: &mut [u8],
-        directory: &mut [u32],
-        start: usize,
-        end: usize,
-        text: &[u8],
-    ) -> (u32, u64, u32, u32);
+    fn count(&self, text: &[u8], counts: &mut [u32]) -> Answer;
+    fn choose(&self, k: u8, counts: &[u32]) -> Chosen;
+    fn codeword_of(&self, table: Table, character: u8) -> Coded;
+    fn character_of(&self, table: Table, word: Codeword) -> Answer;
+    fn check(&self, roll: Roll, buf: &[u8]) -> Answer;
+    fn unpack(&self, roll: Roll, buf: &[u8], start: usize, end: usize, out: &mut [u8]) -> Answer;
+    fn pack(&self, table: Table, text: &[u8], buf: &mut [u8]) -> Rolled;
+    fn make_directory(&self, roll: Roll, buf: &[u8], directory: &mut [u32]) -> Answer;
+    fn read_one(&self, roll: Roll, buf: &[u8], directory: &[u32], place: usize) -> Answer;
+    fn search(&self, roll: Roll, buf: &[u8], pattern: &[u8], hits: &mut [u32]) -> Answer;
+    fn edit(&self, roll: Roll, buf: &mut [u8], directory: &mut [u32], start: usize, end: usize, text: &[u8]) -> Rolled;
 }
 
-/// A table without its places, which are lent.
-#[derive(Clone, Copy, Debug, PartialEq, Eq)]
-pub struct Head {
-    pub k: u8,
-    pub s: u8,
-    pub sigma: u16,
+pub struct Archive;
+
+#[rustfmt::skip]
+impl Library for Archive {
+    fn count(&self, text: &[u8], counts: &mut [u32]) -> Answer { sys::count(text, counts) }
+    fn choose(&self, k: u8, counts: &[u32]) -> Chosen { sys::choose(k, counts) }
+    fn codeword_of(&self, table: Table, character: u8) -> Coded { sys::codeword_of(table, character) }
+    fn character_of(&self, table: Table, word: Codeword) -> Answer { sys::character_of(table, word) }
+    fn check(&self, roll: Roll, buf: &[u8]) -> Answer { sys::check(roll, buf) }
+    fn unpack(&self, roll: Roll, buf: &[u8], start: usize, end: usize, out: &mut [u8]) -> Answer { sys::unpack(roll, buf, start, end, out) }
+    fn pack(&self, table: Table, text: &[u8], buf: &mut [u8]) -> Rolled { sys::pack(table, text, buf) }
+    fn make_directory(&self, roll: Roll, buf: &[u8], directory: &mut [u32]) -> Answer { sys::make_directory(roll, buf, directory) }
+    fn read_one(&self, roll: Roll, buf: &[u8], directory: &[u32], place: usize) -> Answer { sys::read_one(roll, buf, directory, place) }
+    fn search(&self, roll: Roll, buf: &[u8], pattern: &[u8], hits: &mut [u32]) -> Answer { sys::search(roll, buf, pattern, hits) }
+    fn edit(&self, roll: Roll, buf: &mut [u8], directory: &mut [u32], start: usize, end: usize, text: &[u8]) -> Rolled { sys::edit(roll, buf, directory, start, end, text) }
 }
 
-/// The reference behind the same doors.
 pub struct Reference;
 
-fn table_of(head: &Head, places: &[u8; 256]) -> Table {
-    Table { k: head.k, s: head.s, sigma: head.sigma, places: *places }
+impl From<Table> for reference::Table {
+    fn from(table: Table) -> Self {
+        reference::Table { k: table.k, s: table.s, sigma: table.sigma, places: table.places }
+    }
 }
 
-fn pair(answer: Answer<u64>) -> (u32, u64) {
-    match answer {
-        Ok(value) => (0, value),
-        Err(refused) => (refused.number, refused.value),
+impl From<Roll> for reference::Roll {
+    fn from(roll: Roll) -> Self {
+        reference::Roll { table: roll.table.into(), n: roll.n, h: roll.h }
     }
+}
+
+/// The archive's table of the reference's.
+pub fn table_of(table: &reference::Table) -> Table {
+    Table { k: table.k, s: table.s, sigma: table.sigma, places: table.places }
+}
+
+/// The archive's roll of the reference's.
+pub fn roll_of(roll: &reference::Roll) -> Roll {
+    Roll { table: table_of(&roll.table), n: roll.n, h: roll.h }
+}
+
+fn told<T: Into<u64>>(answer: reference::Answer<T>) -> Answer {
+    match answer {
+        Ok(value) => Answer { number: 0, value: value.into() },
+        Err(refused) => Answer { number: refused.number, value: refused.value },
+    }
+}
+
+fn done(answer: reference::Answer<()>) -> Answer {
+    told(answer.map(|()| 0u64))
 }
 
 impl Library for Reference {
-    fn count(&self, text: &[u8], counts: &mut [u32]) -> (u32, u64) {
-        pair(reference::count(text, counts).map(|()| 0))
+    fn count(&self, text: &[u8], counts: &mut [u32]) -> Answer {
+        done(reference::count(text, counts))
     }
 
-    fn choose(&self, k: u8, counts: &[u32], s: u8, sigma: u16, places: &mut [u8; 256]) -> (u32, u64, u8, u16) {
+    fn choose(&self, k: u8, counts: &[u32]) -> Chosen {
         let (answer, table) = reference::choose(k, counts);
-        let (number, value) = pair(answer);
-        if number != 0 {
-            return (number, value, s, sigma);
-        }
-        *places = table.places;
-        (number, value, table.s, table.sigma)
+        Chosen { answer: told(answer), table: table_of(&table) }
     }
 
-    fn codeword_of(&self, table: &Head, places: &[u8; 256], character: u8, symbols: &mut [u8; LONGEST]) -> (u32, u64) {
-        let (answer, codeword) = reference::codeword_of(&table_of(table, places), character);
-        if answer.is_ok() {
-            *symbols = codeword.symbols;
-        }
-        pair(answer.map(|()| codeword.length as u64))
+    fn codeword_of(&self, table: Table, character: u8) -> Coded {
+        let (answer, word) = reference::codeword_of(&table.into(), character);
+        Coded { answer: done(answer), word: Codeword { length: word.length, symbols: word.symbols } }
     }
 
-    fn character_of(&self, table: &Head, places: &[u8; 256], length: usize, symbols: &[u8; LONGEST]) -> (u32, u64) {
-        let codeword = reference::Codeword { length, symbols: *symbols };
-        pair(reference::character_of(&table_of(table, places), &codeword).map(u64::from))
+    fn character_of(&self, table: Table, word: Codeword) -> Answer {
+        let word = reference::Codeword { length: word.length, symbols: word.symbols };
+        told(reference::character_of(&table.into(), &word))
     }
 
-    fn check(&self, table: &Head, places: &[u8; 256], n: u32, h: u32, buf: &[u8]) -> (u32, u64) {
-        let roll = Roll { table: table_of(table, places), n, h };
-        pair(reference::check(&roll, buf).map(|()| 0))
+    fn check(&self, roll: Roll, buf: &[u8]) -> Answer {
+        done(reference::check(&roll.into(), buf))
     }
 
-    fn unpack(
-        &self,
-        table: &Head,
-        places: &[u8; 256],
-        n: u32,
-        h: u32,
-        buf: &[u8],
-        start: usize,
-        end: usize,
-        out: &mut [u8],
-    ) -> (u32, u64) {
-        let roll = Roll { table: table_of(table, places), n, h };
-        pair(reference::unpack(&roll, buf, start, end, out).map(|()| 0))
+    fn unpack(&self, roll: Roll, buf: &[u8], start: usize, end: usize, out: &mut [u8]) -> Answer {
+        done(reference::unpack(&roll.into(), buf, start, end, out))
     }
 
-    fn pack(
-        &self,
-        table: &Head,
-        places: &[u8; 256],
-        text: &[u8],
-        buf: &mut [u8],
-        n: u32,
-        h: u32,
-    ) -> (u32, u64, u32, u32) {
-        let (answer, roll) = reference::pack(&table_of(table, places), text, buf);
-        let (number, value) = pair(answer.map(|()| 0));
-        if number != 0 {
-            return (number, value, n, h);
-        }
-        (number, value, roll.n, roll.h)
+    fn pack(&self, table: Table, text: &[u8], buf: &mut [u8]) -> Rolled {
+        let (answer, roll) = reference::pack(&table.into(), text, buf);
+        Rolled { answer: done(answer), roll: roll_of(&roll) }
     }
 
-    fn make_directory(
-        &self,
-        table: &Head,
-        places: &[u8; 256],
-        n: u32,
-        h: u32,
-        buf: &[u8],
-        directory: &mut [u32],
-    ) -> (u32, u64) {
-        let roll = Roll { table: table_of(table, places), n, h };
-        pair(reference::make_directory(&roll, buf, directory).map(|()| 0))
+    fn make_directory(&self, roll: Roll, buf: &[u8], directory: &mut [u32]) -> Answer {
+        done(reference::make_directory(&roll.into(), buf, directory))
     }
 
-    fn read_one(
-        &self,
-        table: &Head,
-        places: &[u8; 256],
-        n: u32,
-        h: u32,
-        buf: &[u8],
-        directory: &[u32],
-        place: usize,
-    ) -> (u32, u64) {
-        let roll = Roll { table: table_of(table, places), n, h };
-        pair(reference::read_one(&roll, buf, directory, place).map(u64::from))
+    fn read_one(&self, roll: Roll, buf: &[u8], directory: &[u32], place: usize) -> Answer {
+        told(reference::read_one(&roll.into(), buf, directory, place))
     }
 
-    fn search(
-        &self,
-        table: &Head,
-        places: &[u8; 256],
-        n: u32,
-        h: u32,
-        buf: &[u8],
-        pattern: &[u8],
-        hits: &mut [u32],
-    ) -> (u32, u64) {
-        let roll = Roll { table: table_of(table, places), n, h };
-        pair(reference::search(&roll, buf, pattern, hits).map(u64::from))
+    fn search(&self, roll: Roll, buf: &[u8], pattern: &[u8], hits: &mut [u32]) -> Answer {
+        told(reference::search(&roll.into(), buf, pattern, hits))
     }
 
-    fn edit(
-        &self,
-        table: &Head,
-        places: &[u8; 256],
-        n: u32,
-        h: u32,
-        buf: &mut [u8],
-        directory: &mut [u32],
-        start: usize,
-        end: usize,
-        text: &[u8],
-    ) -> (u32, u64, u32, u32) {
-        let roll = Roll { table: table_of(table, places), n, h };
-        let (answer, roll) = reference::edit(&roll, buf, directory, start, end, text);
-        let (number, value) = pair(answer.map(|()| 0));
-        if number != 0 {
-            return (number, value, n, h);
-        }
-        (number, value, roll.n, roll.h)
+    fn edit(&self, roll: Roll, buf: &mut [u8], directory: &mut [u32], start: usize, end: usize, text: &[u8]) -> Rolled {
+        let (answer, roll) = reference::edit(&roll.into(), buf, directory, start, end, text);
+        Rolled { answer: done(answer), roll: roll_of(&roll) }
     }
 }

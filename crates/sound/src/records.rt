@@ -1,6 +1,7 @@
 // The record of a roll: its table, how many characters it has and how many symbols.
 use stopper::table::Table;
 
+#[repr(C)]
 pub struct Roll {
     pub table: Table,
     pub n: u32,

@@ -5,6 +5,7 @@ ghost use lib.Dec.{T};
 ghost use Rattle.stopper.specs.Paper.Table.{evenCode, base, stoppers, goodWidth, goodCode, lengthOf};
 ghost use Rattle.stopper.specs.Helpers.Answers.{placeOf};
 
+#[repr(C)]
 pub struct Code {
     pub k: u8,
     pub s: u8,

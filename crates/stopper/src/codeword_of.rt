@@ -10,6 +10,7 @@ ghost use Rattle.stopper.specs.Paper.Operations.{Coding};
 ghost use Rattle.stopper.specs.Helpers.Answers.{refusedCoded};
 
 // Symbols, one to a byte, 0 past the length.
+#[repr(C)]
 pub struct Codeword {
     pub length: usize,
     pub symbols: [u8; LONGEST],

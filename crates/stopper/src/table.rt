@@ -7,6 +7,7 @@ ghost use lib.ListN.{take};
 ghost use Rattle.stopper.specs.Paper.Table.{goodCharacters, goodTable, rankIn, characters};
 ghost use Rattle.stopper.specs.Helpers.Answers.{ranksOf};
 
+#[repr(C)]
 pub struct Table {
     pub code: Code,
     pub sigma: u16,

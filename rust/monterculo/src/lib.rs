@@ -4,7 +4,7 @@
 //! symbols lie in a buffer that the caller lends, and a directory, where used, in a slice of 32-bit numbers. Places
 //! count from 0; a range runs from its start up to, and not including, its end.
 //!
-//! The work is done by the archive `libcabi.a`, for x86-64. The build finds it in the folder that
+//! The work is done by the archive `libmonterculo.a`, for x86-64. The build finds it in the folder that
 //! `MONTERCULO_ARCHIVE_DIR` names. This crate has no other dependency and allocates nothing.
 //!
 //! # Pack and unpack
@@ -106,7 +106,7 @@ mod refusal;
 #[forbid(unsafe_code)]
 mod roll;
 #[allow(unsafe_code)]
-mod sys;
+pub mod sys;
 #[forbid(unsafe_code)]
 mod table;
 

@@ -3,6 +3,8 @@
 use std::error::Error;
 use std::fmt;
 
+use crate::sys::Answer;
+
 /// A refusal: its number, which says what is bad, and one value, which says where or how much.
 ///
 /// The numbers are this type's constants. The refusals of an operation stand in its documentation in their order: the
@@ -23,6 +25,16 @@ pub struct Refusal {
     pub number: u8,
     /// Where it is, or how much; 0 where the number says all.
     pub value: u64,
+}
+
+impl Answer {
+    /// The value of accepted work, or the refusal. Numbers run to 13.
+    pub(crate) fn result(self) -> Result<u64, Refusal> {
+        match self.number {
+            0 => Ok(self.value),
+            number => Err(Refusal { number: number as u8, value: self.value }),
+        }
+    }
 }
 
 impl Refusal {

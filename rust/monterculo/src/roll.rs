@@ -18,6 +18,12 @@ pub struct Roll {
     h: u32,
 }
 
+impl From<sys::Roll> for Roll {
+    fn from(roll: sys::Roll) -> Roll {
+        Roll { table: Table(roll.table), n: roll.n, h: roll.h }
+    }
+}
+
 impl Roll {
     /// Packs a text into the buffer; bytes past the packed ones are unchanged.
     ///
@@ -36,8 +42,8 @@ impl Roll {
     /// # Ok::<(), monterculo::Refusal>(())
     /// ```
     pub fn pack(table: &Table, text: &[u8], buf: &mut [u8]) -> Result<Roll, Refusal> {
-        let (n, h) = sys::pack(table, text, buf)?;
-        Ok(Roll { table: table.clone(), n, h })
+        let packed = sys::pack(table.0, text, buf);
+        packed.answer.result().map(|_| packed.roll.into())
     }
 
     /// The record of these parts, such as were stored with the buffer. Nothing is checked here, since every operation
@@ -53,6 +59,10 @@ impl Roll {
     /// ```
     pub fn new(table: Table, n: u32, h: u32) -> Roll {
         Roll { table, n, h }
+    }
+
+    fn record(&self) -> sys::Roll {
+        sys::Roll { table: self.table.0, n: self.n, h: self.h }
     }
 
     /// The table.
@@ -74,7 +84,7 @@ impl Roll {
     ///
     /// Refusals, in their order: 1 (0), 5 (h), 6 (the bad codeword's first symbol), 7 (codewords read), 8 (0).
     pub fn check(&self, buf: &[u8]) -> Result<(), Refusal> {
-        sys::check(&self.table, self.n, self.h, buf)
+        sys::check(self.record(), buf).result().map(|_| ())
     }
 
     /// Unpacks the characters of a range into `out`, from its first byte on; later bytes are unchanged.
@@ -91,7 +101,7 @@ impl Roll {
     /// # Ok::<(), monterculo::Refusal>(())
     /// ```
     pub fn unpack(&self, buf: &[u8], range: Range<usize>, out: &mut [u8]) -> Result<(), Refusal> {
-        sys::unpack(&self.table, self.n, self.h, buf, range, out)
+        sys::unpack(self.record(), buf, range.start, range.end, out).result().map(|_| ())
     }
 
     /// Makes the directory: for each of characters 0, 32, 64, … below n the number of its first symbol. It has
@@ -110,7 +120,7 @@ impl Roll {
     /// # Ok::<(), monterculo::Refusal>(())
     /// ```
     pub fn make_directory(&self, buf: &[u8], directory: &mut [u32]) -> Result<(), Refusal> {
-        sys::make_directory(&self.table, self.n, self.h, buf, directory)
+        sys::make_directory(self.record(), buf, directory).result().map(|_| ())
     }
 
     /// Reads the character at a place, from the directory's entry for it on.
@@ -129,7 +139,8 @@ impl Roll {
     /// # Ok::<(), monterculo::Refusal>(())
     /// ```
     pub fn read_one(&self, buf: &[u8], directory: &[u32], place: usize) -> Result<u8, Refusal> {
-        sys::read_one(&self.table, self.n, self.h, buf, directory, place)
+        // A character is a byte.
+        sys::read_one(self.record(), buf, directory, place).result().map(|character| character as u8)
     }
 
     /// Searches for all places where a pattern of 1 to 64 characters stands, overlapping ones too, and gives their
@@ -149,7 +160,8 @@ impl Roll {
     /// # Ok::<(), monterculo::Refusal>(())
     /// ```
     pub fn search(&self, buf: &[u8], pattern: &[u8], hits: &mut [u32]) -> Result<u32, Refusal> {
-        sys::search(&self.table, self.n, self.h, buf, pattern, hits)
+        // Hits are characters of one roll, so they are at most 65,536.
+        sys::search(self.record(), buf, pattern, hits).result().map(|total| total as u32)
     }
 
     /// Replaces the characters of a range by a text of any length; the record, the buffer and the directory become
@@ -180,9 +192,9 @@ impl Roll {
         range: Range<usize>,
         text: &[u8],
     ) -> Result<(), Refusal> {
-        let (n, h) = sys::edit(&self.table, self.n, self.h, buf, directory, range, text)?;
-        self.n = n;
-        self.h = h;
-        Ok(())
+        let edited = sys::edit(self.record(), buf, directory, range.start, range.end, text);
+        // A refused edit answers the roll that came in.
+        *self = edited.roll.into();
+        edited.answer.result().map(|_| ())
     }
 }

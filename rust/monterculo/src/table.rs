@@ -13,7 +13,7 @@ use crate::{sys, Refusal, LONGEST, PLACES};
 /// # Ok::<(), monterculo::Refusal>(())
 /// ```
 pub fn count(text: &[u8], counts: &mut [u32]) -> Result<(), Refusal> {
-    sys::count(text, counts)
+    sys::count(text, counts).result().map(|_| ())
 }
 
 /// A table: the width k of a base symbol, the number s of stoppers, and the characters in rank order.
@@ -21,12 +21,7 @@ pub fn count(text: &[u8], counts: &mut [u32]) -> Result<(), Refusal> {
 /// The symbols below s are stoppers, the others continuers. A codeword is zero or more continuers and then one stopper;
 /// lower ranks take the shorter codewords.
 #[derive(Clone, Debug, PartialEq, Eq, Hash)]
-pub struct Table {
-    k: u8,
-    s: u8,
-    sigma: u16,
-    places: [u8; PLACES],
-}
+pub struct Table(pub(crate) sys::Table);
 
 impl Table {
     /// Chooses the table of width k with the fewest symbols for these counts, and gives the total of symbols with it.
@@ -44,8 +39,8 @@ impl Table {
     /// # Ok::<(), monterculo::Refusal>(())
     /// ```
     pub fn choose(k: u8, counts: &[u32]) -> Result<(Table, u64), Refusal> {
-        let (s, sigma, places, total) = sys::choose(k, counts)?;
-        Ok((Table { k, s, sigma, places }, total))
+        let chosen = sys::choose(k, counts);
+        chosen.answer.result().map(|total| (Table(chosen.table), total))
     }
 
     /// The table of these parts, such as were stored with a roll; σ is the number of characters.
@@ -67,32 +62,32 @@ impl Table {
         places[..kept].copy_from_slice(&characters[..kept]);
         // A number too great for 16 bits is as bad as the greatest of them.
         let sigma = u16::try_from(characters.len()).unwrap_or(u16::MAX);
-        Table { k, s, sigma, places }
+        Table(sys::Table { k, s, sigma, places })
     }
 
     /// The width of a base symbol in bits.
     pub fn k(&self) -> u8 {
-        self.k
+        self.0.k
     }
 
     /// The number of stoppers: the symbols below it.
     pub fn s(&self) -> u8 {
-        self.s
+        self.0.s
     }
 
     /// σ, the number of characters.
     pub fn sigma(&self) -> u16 {
-        self.sigma
+        self.0.sigma
     }
 
     /// The 256 places, of which the first σ hold the characters in rank order; those past them are 0.
     pub fn places(&self) -> &[u8; PLACES] {
-        &self.places
+        &self.0.places
     }
 
     /// The characters in rank order: the first σ places.
     pub fn characters(&self) -> &[u8] {
-        &self.places[..usize::from(self.sigma).min(PLACES)]
+        &self.0.places[..usize::from(self.0.sigma).min(PLACES)]
     }
 
     /// The codeword of a character.
@@ -108,8 +103,8 @@ impl Table {
     /// # Ok::<(), monterculo::Refusal>(())
     /// ```
     pub fn codeword_of(&self, character: u8) -> Result<Codeword, Refusal> {
-        let (length, symbols) = sys::codeword_of(self, character)?;
-        Ok(Codeword { length, symbols })
+        let coded = sys::codeword_of(self.0, character);
+        coded.answer.result().map(|_| Codeword(coded.word))
     }
 
     /// The character of a codeword.
@@ -125,7 +120,8 @@ impl Table {
     /// # Ok::<(), monterculo::Refusal>(())
     /// ```
     pub fn character_of(&self, codeword: &Codeword) -> Result<u8, Refusal> {
-        sys::character_of(self, codeword.length, &codeword.symbols)
+        // A character is a byte.
+        sys::character_of(self.0, codeword.0).result().map(|character| character as u8)
     }
 }
 
@@ -139,10 +135,7 @@ impl Table {
 /// # Ok::<(), monterculo::Refusal>(())
 /// ```
 #[derive(Clone, Debug, PartialEq, Eq, Hash)]
-pub struct Codeword {
-    length: usize,
-    symbols: [u8; LONGEST],
-}
+pub struct Codeword(sys::Codeword);
 
 impl Codeword {
     /// The codeword of these symbols.
@@ -150,14 +143,14 @@ impl Codeword {
     /// Nothing is checked here, since [`Table::character_of`] checks. Of more than 86 symbols the first 86 are kept,
     /// beside the length; these are no codeword of any table.
     pub fn new(symbols: &[u8]) -> Codeword {
-        let mut codeword = Codeword { length: symbols.len(), symbols: [0; LONGEST] };
+        let mut word = sys::Codeword { length: symbols.len(), symbols: [0; LONGEST] };
         let kept = symbols.len().min(LONGEST);
-        codeword.symbols[..kept].copy_from_slice(&symbols[..kept]);
-        codeword
+        word.symbols[..kept].copy_from_slice(&symbols[..kept]);
+        Codeword(word)
     }
 
     /// The symbols, in their order: continuers, and a stopper as the last.
     pub fn symbols(&self) -> &[u8] {
-        &self.symbols[..self.length.min(LONGEST)]
+        &self.0.symbols[..self.0.length.min(LONGEST)]
     }
 }

@@ -9,7 +9,8 @@ use std::fs;
 use std::process::exit;
 use std::time::Instant;
 
-use monterculo_reference::library::{Head, Library};
+use monterculo::sys;
+use monterculo_reference::library::roll_of;
 use monterculo_reference::plain;
 use monterculo_reference::reference::{self, Roll, Table, LIMIT, STRIDE};
 
@@ -243,10 +244,6 @@ impl Case {
         Case { name: format!("{}, k {}", name, k), text, roll, buf, directory }
     }
 
-    fn head(&self) -> Head {
-        Head { k: self.roll.table.k, s: self.roll.table.s, sigma: self.roll.table.sigma }
-    }
-
     fn symbols(&self, text: &[u8]) -> usize {
         let list = reference::listing(self.roll.table.k, self.roll.table.s);
         let rank = |&byte: &u8| self.roll.table.places.iter().position(|&place| place == byte);
@@ -330,17 +327,17 @@ fn sum_entries(entries: &[u32]) -> u64 {
     sum(entries.iter().map(|&entry| u64::from(entry)))
 }
 
-fn measure(case: &Case, archive: &dyn Library) -> Vec<Row> {
-    let (head, roll, text, buf, directory) = (case.head(), &case.roll, &case.text, &case.buf, &case.directory);
-    let (places, n, h) = (&roll.table.places, roll.n, roll.h);
+fn measure(case: &Case) -> Vec<Row> {
+    let (roll, text, buf, directory) = (&case.roll, &case.text, &case.buf, &case.directory);
+    let (record, n) = (roll_of(roll), roll.n);
     let mut rows = Vec::new();
 
     let (mut ours, mut theirs) = (vec![FILL; buf.len()], vec![FILL; buf.len()]);
     let times = medians([
         &mut || {
             ours.fill(FILL);
-            let (time, (number, _, n, h)) = timed(|| archive.pack(&head, places, text, &mut ours, 0, 0));
-            (time, (number, n, h, sum_bytes(&ours)))
+            let (time, packed) = timed(|| sys::pack(record.table, text, &mut ours));
+            (time, (packed.answer.number, packed.roll.n, packed.roll.h, sum_bytes(&ours)))
         },
         &mut || {
             theirs.fill(FILL);
@@ -353,7 +350,7 @@ fn measure(case: &Case, archive: &dyn Library) -> Vec<Row> {
     rows.push(Row::new("pack", times));
 
     let [ours, theirs, tuned] = medians([
-        &mut || timed(|| archive.check(&head, places, n, h, buf).0),
+        &mut || timed(|| sys::check(record, buf).number),
         &mut || timed(|| number_of(&plain::check(roll, buf))),
         &mut || timed(|| number_of(&plain::check_straight(roll, buf))),
     ]);
@@ -363,7 +360,7 @@ fn measure(case: &Case, archive: &dyn Library) -> Vec<Row> {
     let times = medians([
         &mut || {
             ours.fill(FILL);
-            let (time, number) = timed(|| archive.unpack(&head, places, n, h, buf, 0, n as usize, &mut ours).0);
+            let (time, number) = timed(|| sys::unpack(record, buf, 0, n as usize, &mut ours).number);
             (time, (number, sum_bytes(&ours)))
         },
         &mut || {
@@ -385,7 +382,7 @@ fn measure(case: &Case, archive: &dyn Library) -> Vec<Row> {
     let times = medians([
         &mut || {
             ours.fill(9);
-            let (time, number) = timed(|| archive.make_directory(&head, places, n, h, buf, &mut ours).0);
+            let (time, number) = timed(|| sys::make_directory(record, buf, &mut ours).number);
             (time, (number, sum_entries(&ours)))
         },
         &mut || {
@@ -399,9 +396,7 @@ fn measure(case: &Case, archive: &dyn Library) -> Vec<Row> {
     let mut rng = Rng(3);
     let to_read: Vec<usize> = (0..PLACES).map(|_| rng.below(text.len())).collect();
     let times = medians([
-        &mut || {
-            timed(|| sum(to_read.iter().map(|&place| archive.read_one(&head, places, n, h, buf, directory, place).1)))
-        },
+        &mut || timed(|| sum(to_read.iter().map(|&place| sys::read_one(record, buf, directory, place).value))),
         &mut || {
             timed(|| {
                 sum(to_read
@@ -424,8 +419,8 @@ fn measure(case: &Case, archive: &dyn Library) -> Vec<Row> {
         let checked = |(time, number): (f64, u32)| (time, (number, found.1, found.2));
         let [ours, theirs, tuned, unpacked, our_check, their_check, tuned_check] = medians([
             &mut || {
-                let (time, answer) = timed(|| archive.search(&head, places, n, h, buf, pattern, &mut ours));
-                (time, (answer.0, answer.1, sum_entries(&ours[..answer.1 as usize])))
+                let (time, answer) = timed(|| sys::search(record, buf, pattern, &mut ours));
+                (time, (answer.number, answer.value, sum_entries(&ours[..answer.value as usize])))
             },
             &mut || {
                 let (time, hits) = timed(|| plain::search(roll, buf, pattern, &mut theirs));
@@ -439,7 +434,7 @@ fn measure(case: &Case, archive: &dyn Library) -> Vec<Row> {
                 let (time, hits) = timed(|| plain::search_text(text, pattern, &mut unpacked));
                 (time, seen(hits.expect("a good pattern"), &unpacked))
             },
-            &mut || checked(timed(|| archive.check(&head, places, n, h, buf).0)),
+            &mut || checked(timed(|| sys::check(record, buf).number)),
             &mut || checked(timed(|| number_of(&plain::check(roll, buf)))),
             &mut || checked(timed(|| number_of(&plain::check_straight(roll, buf)))),
         ]);
@@ -468,9 +463,9 @@ fn measure(case: &Case, archive: &dyn Library) -> Vec<Row> {
             &mut || {
                 ours.copy_from_slice(buf);
                 our_entries.copy_from_slice(directory);
-                let (time, (number, _, n, h)) =
-                    timed(|| archive.edit(&head, places, n, h, &mut ours, &mut our_entries, start, end, &new));
-                (time, (number, n, h, sum_bytes(&ours), sum_entries(&our_entries)))
+                let (time, edited) = timed(|| sys::edit(record, &mut ours, &mut our_entries, start, end, &new));
+                let (number, after) = (edited.answer.number, edited.roll);
+                (time, (number, after.n, after.h, sum_bytes(&ours), sum_entries(&our_entries)))
             },
             &mut || {
                 theirs.copy_from_slice(buf);
@@ -631,13 +626,6 @@ fn drawing(cases: &[Case], rows: &[Vec<Row>]) -> String {
 }
 
 fn main() {
-    let archive = match monterculo_reference::archive() {
-        Some(archive) => archive,
-        None => {
-            eprintln!("bench: built without the archive");
-            exit(2);
-        }
-    };
     let (members, english) = (member_roll(), english_like());
     let mut cases = Vec::new();
     for (name, text) in [("member roll", &members), ("English-like text", &english)] {
@@ -655,7 +643,7 @@ fn main() {
     );
     let mut rows = Vec::new();
     for case in &cases {
-        let measured = measure(case, archive.as_ref());
+        let measured = measure(case);
         println!("{}", table_of(case, &measured));
         rows.push(measured);
     }

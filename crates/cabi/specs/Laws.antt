@@ -1,2 +1,0 @@
--- What is proved of the definitions, by subject: it needs no belief, and crates above may cite it.
-pub mod Taken

@@ -1,3 +1,0 @@
--- What the exported functions answer, in numbers.
-pub mod Paper
-pub mod Laws

@@ -1,0 +1,89 @@
+-- Two outcomes that an exported function's contract allows for one input are equal, what is answered and all that is lent: of the
+-- contracts as the source states them.
+use mathlib.Core.Path.{_≡_, _∙_, sym}
+use contract.Lifetimes.{Lfts}
+use borrow.Fn.Kinds.{Dens, resT, endedOf}
+use denote.Triple.Clauses.{AtExit}
+use Rattle.monterculo.proofs.monterculo_count.Kinds as count-kinds
+use Rattle.monterculo.proofs.monterculo_count.Reads as count-reads
+use Rattle.monterculo.proofs.monterculo_choose.Kinds as choose-kinds
+use Rattle.monterculo.proofs.monterculo_choose.Reads as choose-reads
+use Rattle.monterculo.proofs.monterculo_codeword_of.Kinds as codeword-of-kinds
+use Rattle.monterculo.proofs.monterculo_codeword_of.Reads as codeword-of-reads
+use Rattle.monterculo.proofs.monterculo_character_of.Kinds as character-of-kinds
+use Rattle.monterculo.proofs.monterculo_character_of.Reads as character-of-reads
+use Rattle.monterculo.proofs.monterculo_check.Kinds as check-kinds
+use Rattle.monterculo.proofs.monterculo_check.Reads as check-reads
+use Rattle.monterculo.proofs.monterculo_unpack.Kinds as unpack-kinds
+use Rattle.monterculo.proofs.monterculo_unpack.Reads as unpack-reads
+use Rattle.monterculo.proofs.monterculo_pack.Kinds as pack-kinds
+use Rattle.monterculo.proofs.monterculo_pack.Reads as pack-reads
+use Rattle.monterculo.proofs.monterculo_make_directory.Kinds as make-directory-kinds
+use Rattle.monterculo.proofs.monterculo_make_directory.Reads as make-directory-reads
+use Rattle.monterculo.proofs.monterculo_read_one.Kinds as read-one-kinds
+use Rattle.monterculo.proofs.monterculo_read_one.Reads as read-one-reads
+use Rattle.monterculo.proofs.monterculo_search.Kinds as search-kinds
+use Rattle.monterculo.proofs.monterculo_search.Reads as search-reads
+use Rattle.monterculo.proofs.monterculo_edit.Kinds as edit-kinds
+use Rattle.monterculo.proofs.monterculo_edit.Reads as edit-reads
+
+-- lent: `counts`
+pub count-tight : (κs : Lfts 2) (a : Dens κs count-kinds.ps) (r₁ r₂ : resT count-kinds.r κs .Denot) (s₁ s₂ : AtExit (endedOf 2 count-kinds.ps count-kinds.r) κs)
+    → count-reads.Learnt κs a r₁ s₁ → count-reads.Learnt κs a r₂ s₂
+    → (r₁ ≡ r₂) × (s₁ .1 .0 .now ≡ s₂ .1 .0 .now)
+count-tight κs a r₁ r₂ s₁ s₂ p q = (p .0 ∙ sym (q .0), p .1 ∙ sym (q .1))
+
+pub choose-tight : (κs : Lfts 1) (a : Dens κs choose-kinds.ps) (r₁ r₂ : resT choose-kinds.r κs .Denot) (s₁ s₂ : AtExit (endedOf 1 choose-kinds.ps choose-kinds.r) κs)
+    → choose-reads.Learnt κs a r₁ s₁ → choose-reads.Learnt κs a r₂ s₂
+    → (r₁ .answer ≡ r₂ .answer) × (r₁ .table ≡ r₂ .table)
+choose-tight κs a r₁ r₂ s₁ s₂ p q = (p .0 ∙ sym (q .0), p .1 ∙ sym (q .1))
+
+pub codeword-of-tight : (κs : Lfts 0) (a : Dens κs codeword-of-kinds.ps) (r₁ r₂ : resT codeword-of-kinds.r κs .Denot) (s₁ s₂ : AtExit (endedOf 0 codeword-of-kinds.ps codeword-of-kinds.r) κs)
+    → codeword-of-reads.Learnt κs a r₁ s₁ → codeword-of-reads.Learnt κs a r₂ s₂
+    → (r₁ .answer ≡ r₂ .answer) × (r₁ .word ≡ r₂ .word)
+codeword-of-tight κs a r₁ r₂ s₁ s₂ p q = (p .0 ∙ sym (q .0), p .1 ∙ sym (q .1))
+
+pub character-of-tight : (κs : Lfts 0) (a : Dens κs character-of-kinds.ps) (r₁ r₂ : resT character-of-kinds.r κs .Denot) (s₁ s₂ : AtExit (endedOf 0 character-of-kinds.ps character-of-kinds.r) κs)
+    → character-of-reads.Learnt κs a r₁ s₁ → character-of-reads.Learnt κs a r₂ s₂
+    → (r₁ ≡ r₂)
+character-of-tight κs a r₁ r₂ s₁ s₂ p q = p ∙ sym q
+
+-- lent: `buf`
+pub pack-tight : (κs : Lfts 2) (a : Dens κs pack-kinds.ps) (r₁ r₂ : resT pack-kinds.r κs .Denot) (s₁ s₂ : AtExit (endedOf 2 pack-kinds.ps pack-kinds.r) κs)
+    → pack-reads.Learnt κs a r₁ s₁ → pack-reads.Learnt κs a r₂ s₂
+    → (r₁ .answer ≡ r₂ .answer) × (r₁ .roll ≡ r₂ .roll) × (s₁ .1 .1 .0 .now ≡ s₂ .1 .1 .0 .now)
+pack-tight κs a r₁ r₂ s₁ s₂ p q = (p .0 ∙ sym (q .0), p .1 .0 ∙ sym (q .1 .0), p .1 .1 ∙ sym (q .1 .1))
+
+pub check-tight : (κs : Lfts 1) (a : Dens κs check-kinds.ps) (r₁ r₂ : resT check-kinds.r κs .Denot) (s₁ s₂ : AtExit (endedOf 1 check-kinds.ps check-kinds.r) κs)
+    → check-reads.Learnt κs a r₁ s₁ → check-reads.Learnt κs a r₂ s₂
+    → (r₁ ≡ r₂)
+check-tight κs a r₁ r₂ s₁ s₂ p q = p ∙ sym q
+
+-- lent: `out`
+pub unpack-tight : (κs : Lfts 2) (a : Dens κs unpack-kinds.ps) (r₁ r₂ : resT unpack-kinds.r κs .Denot) (s₁ s₂ : AtExit (endedOf 2 unpack-kinds.ps unpack-kinds.r) κs)
+    → unpack-reads.Learnt κs a r₁ s₁ → unpack-reads.Learnt κs a r₂ s₂
+    → (r₁ ≡ r₂) × (s₁ .1 .1 .1 .1 .0 .now ≡ s₂ .1 .1 .1 .1 .0 .now)
+unpack-tight κs a r₁ r₂ s₁ s₂ p q = (p .0 ∙ sym (q .0), p .1 ∙ sym (q .1))
+
+-- lent: `dir`
+pub make-directory-tight : (κs : Lfts 2) (a : Dens κs make-directory-kinds.ps) (r₁ r₂ : resT make-directory-kinds.r κs .Denot) (s₁ s₂ : AtExit (endedOf 2 make-directory-kinds.ps make-directory-kinds.r) κs)
+    → make-directory-reads.Learnt κs a r₁ s₁ → make-directory-reads.Learnt κs a r₂ s₂
+    → (r₁ ≡ r₂) × (s₁ .1 .1 .0 .now ≡ s₂ .1 .1 .0 .now)
+make-directory-tight κs a r₁ r₂ s₁ s₂ p q = (p .0 ∙ sym (q .0), p .1 ∙ sym (q .1))
+
+pub read-one-tight : (κs : Lfts 2) (a : Dens κs read-one-kinds.ps) (r₁ r₂ : resT read-one-kinds.r κs .Denot) (s₁ s₂ : AtExit (endedOf 2 read-one-kinds.ps read-one-kinds.r) κs)
+    → read-one-reads.Learnt κs a r₁ s₁ → read-one-reads.Learnt κs a r₂ s₂
+    → (r₁ ≡ r₂)
+read-one-tight κs a r₁ r₂ s₁ s₂ p q = p ∙ sym q
+
+-- lent: `slice`
+pub search-tight : (κs : Lfts 3) (a : Dens κs search-kinds.ps) (r₁ r₂ : resT search-kinds.r κs .Denot) (s₁ s₂ : AtExit (endedOf 3 search-kinds.ps search-kinds.r) κs)
+    → search-reads.Learnt κs a r₁ s₁ → search-reads.Learnt κs a r₂ s₂
+    → (r₁ ≡ r₂) × (s₁ .1 .1 .1 .0 .now ≡ s₂ .1 .1 .1 .0 .now)
+search-tight κs a r₁ r₂ s₁ s₂ p q = (p .0 ∙ sym (q .0), p .1 ∙ sym (q .1))
+
+-- lent: `buf`, `dir`
+pub edit-tight : (κs : Lfts 3) (a : Dens κs edit-kinds.ps) (r₁ r₂ : resT edit-kinds.r κs .Denot) (s₁ s₂ : AtExit (endedOf 3 edit-kinds.ps edit-kinds.r) κs)
+    → edit-reads.Learnt κs a r₁ s₁ → edit-reads.Learnt κs a r₂ s₂
+    → (r₁ .answer ≡ r₂ .answer) × (r₁ .roll ≡ r₂ .roll) × (s₁ .1 .0 .now ≡ s₂ .1 .0 .now) × (s₁ .1 .1 .0 .now ≡ s₂ .1 .1 .0 .now)
+edit-tight κs a r₁ r₂ s₁ s₂ p q = (p .0 ∙ sym (q .0), p .1 .0 ∙ sym (q .1 .0), p .1 .1 .0 ∙ sym (q .1 .1 .0), p .1 .1 .1 ∙ sym (q .1 .1 .1))

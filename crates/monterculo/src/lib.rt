@@ -1,0 +1,165 @@
+// The operations for callers in C and Rust: the door that boxes come in by.
+//
+// Tables, codewords and rolls come in and are answered by value, and nothing is written but what is lent: a record that grows changes no
+// signature. Beside them stand the refusal's number, 0 for accepted work, and the refusal's value or what is answered.
+
+mod taken;
+
+use sound::records::Roll;
+use stopper::codeword_of::Codeword;
+use stopper::table::Table;
+use taken::Chosen;
+use taken::Coded;
+use taken::Rolled;
+use taken::Told;
+use taken::done;
+use taken::read;
+use taken::totalled;
+ghost use mathlib.Core.Path.{_≡_};
+ghost use Rattle.ground.specs.Paper.Refusals.{accepted, _then_};
+ghost use Rattle.stopper.specs.Paper.Operations.{codewordSays, codewordGiven, characterSays};
+ghost use Rattle.choosing.specs.Paper.Operations.{countSays, countLeaves, chooseSays, chooseTable, chooseTotal};
+ghost use Rattle.roll.specs.Paper.Operations.{packSays, packRoll, packLeaves, checkSays, unpackSays, unpackLeaves, makeSays, makeLeaves, readSays, searchSays, searchLeaves, editSays, editRoll, editLeaves, editDirectory};
+ghost use Rattle.monterculo.specs.Paper.Taken.{told};
+
+#[no_mangle]
+pub extern "C" fn monterculo_count(text: &[u8], counts: &mut [u32]) -> Told
+    ensures told { λ r. ⌜ r ≡ told (countSays (now (text .entry)) (now (counts .entry)) then accepted 0) ⌝ }
+    ensures counts { λ _. ⌜ now (counts .exit) ≡ countLeaves (now (text .entry)) (now (counts .entry)) ⌝ }
+{
+    let answer = choosing::count::count(text, counts);
+    done(answer, 0)
+}
+
+// Its value is the total.
+#[no_mangle]
+pub extern "C" fn monterculo_choose(k: u8, counts: &[u32]) -> Chosen
+    ensures told { λ r. ⌜ r .answer ≡ told (chooseSays k (now (counts .entry)) then accepted (chooseTotal k (now (counts .entry)))) ⌝ }
+    ensures table { λ r. ⌜ r .table ≡ chooseTable k (now (counts .entry)) ⌝ }
+{
+    let choice = choosing::choose::choose(k, counts);
+    let table = choice.table;
+    let answer = choice.answer;
+    Chosen {
+        answer: done(answer, choice.total),
+        table,
+    }
+}
+
+#[no_mangle]
+pub extern "C" fn monterculo_codeword_of(table: Table, character: u8) -> Coded
+    ensures told { λ r. ⌜ r .answer ≡ told (codewordSays table character then accepted 0) ⌝ }
+    ensures word { λ r. ⌜ r .word ≡ codewordGiven table character ⌝ }
+{
+    let coded = stopper::codeword_of::codeword_of(table, character);
+    let word = coded.word;
+    let answer = coded.answer;
+    Coded {
+        answer: done(answer, 0),
+        word,
+    }
+}
+
+// Its value is the character.
+#[no_mangle]
+pub extern "C" fn monterculo_character_of(table: Table, word: Codeword) -> Told
+    ensures { λ r. ⌜ r ≡ told (characterSays table word) ⌝ }
+{
+    let answer = stopper::character_of::character_of(table, word);
+    read(answer)
+}
+
+#[no_mangle]
+pub extern "C" fn monterculo_pack(table: Table, text: &[u8], buf: &mut [u8]) -> Rolled
+    ensures told { λ r. ⌜ r .answer ≡ told (packSays table (now (text .entry)) (now (buf .entry)) then accepted 0) ⌝ }
+    ensures roll { λ r. ⌜ r .roll ≡ packRoll table (now (text .entry)) (now (buf .entry)) ⌝ }
+    ensures buf { λ _. ⌜ now (buf .exit) ≡ packLeaves table (now (text .entry)) (now (buf .entry)) ⌝ }
+{
+    let packed = roll::pack::pack(table, text, buf);
+    let roll = packed.roll;
+    let answer = packed.answer;
+    Rolled {
+        answer: done(answer, 0),
+        roll,
+    }
+}
+
+#[no_mangle]
+pub extern "C" fn monterculo_check(roll: Roll, buf: &[u8]) -> Told
+    ensures { λ r. ⌜ r ≡ told (checkSays roll (now (buf .entry)) then accepted 0) ⌝ }
+{
+    let answer = roll::check::check(roll, buf);
+    done(answer, 0)
+}
+
+#[no_mangle]
+pub extern "C" fn monterculo_unpack(
+    roll: Roll,
+    buf: &[u8],
+    start: usize,
+    end: usize,
+    out: &mut [u8],
+) -> Told
+    ensures told { λ r. ⌜ r ≡ told (unpackSays roll (now (buf .entry)) start end (now (out .entry)) then accepted 0) ⌝ }
+    ensures out { λ _. ⌜ now (out .exit) ≡ unpackLeaves roll (now (buf .entry)) start end (now (out .entry)) ⌝ }
+{
+    let answer = roll::unpack::unpack(roll, buf, start, end, out);
+    done(answer, 0)
+}
+
+#[no_mangle]
+pub extern "C" fn monterculo_make_directory(roll: Roll, buf: &[u8], dir: &mut [u32]) -> Told
+    ensures told { λ r. ⌜ r ≡ told (makeSays roll (now (buf .entry)) (now (dir .entry)) then accepted 0) ⌝ }
+    ensures dir { λ _. ⌜ now (dir .exit) ≡ makeLeaves roll (now (buf .entry)) (now (dir .entry)) ⌝ }
+{
+    let answer = roll::make_directory::make_directory(roll, buf, dir);
+    done(answer, 0)
+}
+
+// Its value is the character.
+#[no_mangle]
+pub extern "C" fn monterculo_read_one(roll: Roll, buf: &[u8], dir: &[u32], place: usize) -> Told
+    ensures { λ r. ⌜ r ≡ told (readSays roll (now (buf .entry)) (now (dir .entry)) place) ⌝ }
+{
+    let answer = roll::read_one::read_one(roll, buf, dir, place);
+    read(answer)
+}
+
+// Its value is the total.
+#[no_mangle]
+pub extern "C" fn monterculo_search(
+    roll: Roll,
+    buf: &[u8],
+    pattern: &[u8],
+    slice: &mut [u32],
+) -> Told
+    ensures told { λ r. ⌜ r ≡ told (searchSays roll (now (buf .entry)) (now (pattern .entry))) ⌝ }
+    ensures slice { λ _. ⌜ now (slice .exit) ≡ searchLeaves roll (now (buf .entry)) (now (pattern .entry)) (now (slice .entry)) ⌝ }
+{
+    let answer = roll::search::search(roll, buf, pattern, slice);
+    totalled(answer)
+}
+
+// A refused edit answers the roll that came in.
+#[no_mangle]
+pub extern "C" fn monterculo_edit(
+    roll: Roll,
+    buf: &mut [u8],
+    dir: &mut [u32],
+    start: usize,
+    end: usize,
+    text: &[u8],
+) -> Rolled
+    ensures told { λ r. ⌜ r .answer ≡ told (editSays roll (now (buf .entry)) (now (dir .entry)) start end (now (text .entry)) then accepted 0) ⌝ }
+    ensures roll { λ r. ⌜ r .roll ≡ editRoll roll (now (buf .entry)) (now (dir .entry)) start end (now (text .entry)) ⌝ }
+    ensures buf { λ _. ⌜ now (buf .exit) ≡ editLeaves roll (now (buf .entry)) (now (dir .entry)) start end (now (text .entry)) ⌝ }
+    ensures dir { λ _. ⌜ now (dir .exit) ≡ editDirectory roll (now (buf .entry)) (now (dir .entry)) start end (now (text .entry)) ⌝ }
+{
+    let edited = roll::edit::edit(roll, buf, dir, start, end, text);
+    let roll = edited.roll;
+    let answer = edited.answer;
+    Rolled {
+        answer: done(answer, 0),
+        roll,
+    }
+}
