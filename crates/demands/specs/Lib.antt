@@ -1,4 +1,8 @@
--- What the promises of the operations come to: packing and unpacking, the table chosen for a text, a directory that is made, an edit. It needs no belief.
+-- What the promises of the operations come to. `Demands` is page one: the owner's three demands, clause by clause. The rest is what it is proved from. It needs no belief.
+pub mod Demands
+pub mod Calls
+pub mod Code
+pub mod Bad
 pub mod Meaning
 pub mod Counted
 pub mod Made

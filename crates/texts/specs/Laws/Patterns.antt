@@ -24,3 +24,7 @@ module _ (pattern : List ℕ) where
   pub pattern-most : T (goodPattern pattern) → length pattern ≤ mostPattern
   unfolding goodPattern
   pattern-most g = leb→le _ _ (and-yes (leb 1 (length pattern)) (leb (length pattern) mostPattern) g .1)
+
+  pub pattern-good : 1 ≤ length pattern → length pattern ≤ mostPattern → T (goodPattern pattern)
+  unfolding goodPattern
+  pattern-good low high = rw (le-leb _ _ low, le-leb _ _ high) tt
