@@ -32,14 +32,13 @@ pub fn read_one(roll: Roll, buf: &[u8], dir: &[u32], place: usize) -> Answer
         return Answer::Refused(9, entry as u64);
     }
     let sigma = table.sigma as u32;
-    let places = table.places;
     let passed = pass_over(code, sigma, buf, h, first, place % 32);
     match passed {
         Passed::Bad(at) => Answer::Refused(6, at as u64),
         Passed::At(at) => {
             let found = codeword_at(code, sigma, buf, h, at);
             match found {
-                Found::Word(rank, _) => Answer::Read(places[rank as usize]),
+                Found::Word(rank, _) => Answer::Read(table.places[rank as usize]),
                 Found::Bad => Answer::Refused(6, at as u64),
             }
         }

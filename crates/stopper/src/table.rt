@@ -21,10 +21,10 @@ fn wide(x: u8) -> usize
 }
 
 // From the last character to the first, each marked as it is met.
-pub fn good_characters(sigma: u16, places: [u8; 256]) -> bool
-    ensures { λ r. ⌜ r ≡ goodCharacters sigma places ⌝ }
+pub fn good_characters(table: Table) -> bool
+    ensures { λ r. ⌜ r ≡ goodCharacters (table .sigma) (table .places) ⌝ }
 {
-    let n = sigma as usize;
+    let n = table.sigma as usize;
     if 256 < n {
         return false;
     }
@@ -32,7 +32,7 @@ pub fn good_characters(sigma: u16, places: [u8; 256]) -> bool
     let mut i = n;
     while 0 < i {
         i -= 1;
-        let b = wide(places[i]);
+        let b = wide(table.places[i]);
         if met[b] == 1 {
             return false;
         }
@@ -44,11 +44,8 @@ pub fn good_characters(sigma: u16, places: [u8; 256]) -> bool
 pub fn good_table(table: Table) -> bool
     ensures { λ r. ⌜ r ≡ goodTable table ⌝ }
 {
-    let code = table.code;
-    let sigma = table.sigma;
-    let places = table.places;
-    if good_code(code) {
-        return good_characters(sigma, places);
+    if good_code(table.code) {
+        return good_characters(table);
     }
     false
 }

@@ -34,7 +34,7 @@ abbrev placed : tie.Else3 → tie.Else1
 placed c = c .before .before .before
 
 abbrev entered : tie.After-pass-over → tie.Else3
-entered c = c .before .before .before
+entered c = c .before
 
 abbrev asked : tie.After-pass-over → tie.After-enum-told
 asked c = fitted (placed (entered c))
@@ -113,7 +113,7 @@ returns-4 c =
     record { says = rw (fits (fitted (e .before)), lt-leb _ _ (e .before .if1 .left), lt-leb _ _ (e .if2 .left), le-leb _ _ (c .if3 .taken)) }
 
 pass-over-requires : tie.Need-pass-over-requires
-pass-over-requires c κs = let e = c .before .before in reads (fitted (placed e)) _ (omega (arith, e .if3 .left))
+pass-over-requires c κs = reads (fitted (placed c)) _ (omega (arith, c .if3 .left))
 
 codeword-at-requires : tie.Need-codeword-at-requires
 codeword-at-requires c κs =
@@ -121,8 +121,8 @@ codeword-at-requires c κs =
     let y = p .before .before in
     reads (asked y) (p .passed2 .given .0 .0) (omega (arith, at-upto p, long y))
 
-array-read-t32 : tie.Need-array-read-t32
-array-read-t32 c =
+element-copy-out-t32 : tie.Need-element-copy-out-t32
+element-copy-out-t32 c =
     let p = c .before .before .before .before .before in
     let y = p .before .before in
     let a = begun y .args in
@@ -142,13 +142,13 @@ returns-5 c =
 returns-6 : tie.Need-returns-6
 unfolding readingFrom
 returns-6 c =
-    let p = c .before .before .before .before .before in
+    let p = c .before .before .before .before .before .before in
     let y = p .before .before in
     let e = entered y in
     let a = begun y .args in
     let (good, within) = fits-is (a .roll) (a .buf .now) .1 (fits (asked y)) in
     let (held, rank) = passed-word (a .roll .table .code) (code-is y) (a .roll .table .sigma) (row (begun y)) (getD (a .dir .now) (a .place / 32) 0) (a .place % 32) (entry-upto y)
-    (passed-is p) (word-is (c .before)) in
+    (passed-is p) (word-is (c .before .before)) in
     let p : ReadsOne (a .roll) (a .buf .now) (a .dir .now) (a .place)
     = record { good = good; fits = within; inside = placed e .if1 .left; held = e .before .before .if2 .left; below = e .if3 .left; reached = held } in
     rw (← rank) (record { says = sym (reads-is (a .roll) (a .buf .now) (a .dir .now) (a .place) .0 p) })
@@ -187,7 +187,7 @@ read-one-spec =
     codeword-at-requires
     (λ c. search needs)
     (λ c. search needs)
-    array-read-t32
+    element-copy-out-t32
     (λ c. search needs)
     returns-5
     returns-6
