@@ -1,4 +1,4 @@
-//! The paper's operations written by definition, and the archive they are held to behind the same doors.
+//! The paper's operations written by definition, and their answers as the archive gives them.
 
 #![forbid(unsafe_code)]
 

@@ -1,0 +1,79 @@
+//! Counting a text's characters.
+
+use monterculo::sys::{self, Answer};
+use monterculo_reference::library::done;
+use monterculo_reference::reference::{self, LIMIT};
+
+use crate::faults::counts_length;
+use crate::lent::Lent;
+use crate::operation::{Cases, Corners, Operation};
+#[cfg(test)]
+use crate::planted::says;
+use crate::rng::Rng;
+
+#[derive(Clone, Debug, PartialEq)]
+pub struct Count {
+    text: Lent<u8>,
+    counts: Lent<u32>,
+}
+
+impl Operation for Count {
+    const NAME: &'static str = "count";
+    const LISTED: &'static [u32] = &[0, 2, 4];
+    const CASES: Cases<Self> = &[(7, make)];
+    type Answer = Answer;
+
+    fn archive(&mut self) -> Answer {
+        sys::count(&self.text, &mut self.counts)
+    }
+
+    fn reference(&mut self) -> Answer {
+        done(reference::count(&self.text, &mut self.counts))
+    }
+
+    fn refused(&self, refusal: Answer) -> Answer {
+        refusal
+    }
+
+    fn corners(&self, answer: &Answer, met: &mut Corners) {
+        met.meet(answer.number == 0 && self.text.len() == LIMIT, "65,536 characters counted");
+    }
+
+    #[cfg(test)]
+    const ERRORS: &'static [&'static str] = &["writes though refused", "answers the length"];
+
+    #[cfg(test)]
+    fn with_error(&mut self, error: &str) -> Answer {
+        let answer = self.reference();
+        match (error, answer.number) {
+            ("writes though refused", 4) => self.counts[255] = !self.counts[255],
+            ("answers the length", 4) => return says(4, self.text.len()),
+            _ => {}
+        }
+        answer
+    }
+}
+
+thread_local! {
+    /// Random bytes from which texts are cut, as those over the limit would take their time.
+    static STOCK: Vec<u8> = Rng::new(0).bytes(LIMIT + 5_000);
+}
+
+fn make(rng: &mut Rng) -> Count {
+    STOCK.with(|stock| {
+        let length = match rng.below(16) {
+            0 => rng.pick(&[LIMIT + 1, LIMIT + 1, LIMIT + 2, stock.len()]),
+            1 if rng.one_in(8) => LIMIT,
+            2 if rng.one_in(8) => LIMIT - 1,
+            _ => rng.length(),
+        };
+        let from = rng.below(stock.len() - length + 1);
+        let mut text = stock[from..from + length].to_vec();
+        if rng.one_in(4) {
+            let single = rng.byte();
+            text.fill(single);
+        }
+        let entries = counts_length(rng);
+        Count { text: text.into(), counts: rng.numbers(entries).into() }
+    })
+}

@@ -1,0 +1,80 @@
+//! What texts and rolls are made of: ranks, foreign characters, codewords that are none.
+
+use monterculo::sys::Table;
+use monterculo_reference::reference::codeword_by_rule;
+
+use crate::rng::Rng;
+use crate::tables::characters;
+
+/// Ranks below σ: all, the first few, the last, or a single one.
+pub fn ranks(rng: &mut Rng, sigma: usize, length: usize) -> Vec<usize> {
+    if sigma == 0 {
+        return Vec::new();
+    }
+    let kind = rng.below(5);
+    let single = rng.below(sigma);
+    (0..length)
+        .map(|_| match kind {
+            0 | 1 => rng.below(sigma),
+            2 => rng.below(sigma.min(4)),
+            3 => sigma - 1 - rng.below(sigma.min(3)),
+            _ => single,
+        })
+        .collect()
+}
+
+/// Puts one or two characters in that are not in the table, if there are any.
+pub fn put_foreign(rng: &mut Rng, table: &Table, text: &mut Vec<u8>) {
+    let absent: Vec<u8> = (0..=255).filter(|byte| !characters(table).contains(byte)).collect();
+    if absent.is_empty() {
+        return;
+    }
+    for _ in 0..rng.between(1, 2) {
+        let any = rng.between(0, text.len());
+        let place = rng.pick(&[0, text.len(), any]);
+        text.insert(place, rng.pick(&absent));
+    }
+}
+
+/// A codeword, or nearly: a run of continuers and a stopper, of a rank that may be far over σ.
+pub fn strange_codeword(rng: &mut Rng, table: &Table) -> Vec<u8> {
+    let (k, s) = (table.k, table.s);
+    let c = (1usize << k) - usize::from(s);
+    let below = rng.below(usize::from(table.sigma) + 2) as u128;
+    let rank = match rng.below(8) {
+        0 | 1 => u128::from(table.sigma),
+        2 => u128::from(table.sigma) + below,
+        3 => rng.between(254, 258) as u128,
+        4 => (1 << 8) + below,
+        // Ranks that a number of this width cannot tell from one below σ.
+        5 => (1 << rng.pick(&[16, 31, 32])) + below,
+        6 => (1 << rng.pick(&[63, 64, 64])) + below,
+        _ => return run_of_continuers(rng, table),
+    };
+    // With c = 1 a great rank is a run as long: seldom, and not over the limit.
+    let longest = if rng.one_in(5) { 40_000 } else { 400 };
+    if c == 1 && rank / u128::from(s) > longest {
+        return run_of_continuers(rng, table);
+    }
+    codeword_by_rule(k, s, rank)
+}
+
+pub fn run_of_continuers(rng: &mut Rng, table: &Table) -> Vec<u8> {
+    let c = (1usize << table.k) - usize::from(table.s);
+    let length = match rng.below(200) {
+        0..=99 => rng.below(20),
+        100..=179 => rng.pick(&[7, 8, 9, 15, 16, 17, 30, 31, 32, 33, 62, 63, 64, 65, 84, 85, 86, 87, 127, 128, 129]),
+        180..=197 => rng.pick(&[255, 256, 257, 258, 300, 511, 512, 513]),
+        _ => rng.pick(&[1_024, 4_096, 21_845, 32_768, 65_534, 65_535]),
+    };
+    let kind = rng.below(3);
+    let mut run: Vec<u8> = (0..length)
+        .map(|_| match kind {
+            0 => table.s,
+            1 => table.s + (c - 1) as u8,
+            _ => table.s + rng.below(c) as u8,
+        })
+        .collect();
+    run.push(rng.below(usize::from(table.s)) as u8);
+    run
+}
