@@ -1,5 +1,5 @@
 -- The text of a roll and its right directory, by the operations alone.
-use mathlib.Core.Path.{_≡_, refl, sym, ap, _∙_}
+use mathlib.Core.Path.{_≡_, refl, sym, ap, subst, _∙_}
 use mathlib.Core.List.{List, [], _++_, append-nil}
 use Prim.Native.Nat.{ℕ, _+_, _-_, _≤_}
 use native.Mathlib.Nat.{le-refl, le-of-eq, sub-zero}
@@ -8,7 +8,11 @@ use lib.ListN.{length, take, drop, length-take, take-append-drop}
 use lib.Seq.{take-all, take-at, drop-at, drop-length, drop-drop}
 use Rattle.ground.specs.Paper.Rows.{zeros}
 use Rattle.ground.specs.Laws.Rows.{length-zeros}
+use Rattle.ground.specs.Paper.Runs.{run}
+use Rattle.ground.specs.Laws.Answers.{done-one}
+use Rattle.ground.specs.declared.answers.Done.{Done}
 use Rattle.ground.specs.declared.answers.Done.the-variants.{Yes}
+use Rattle.stopper.specs.declared.table.Table.{Table}
 use Rattle.texts.specs.Paper.Directory.{entries}
 use Rattle.texts.specs.Paper.Edited.{edited}
 use Rattle.texts.specs.Laws.Characters.{InTable, known-take, known-drop}
@@ -17,10 +21,11 @@ use Rattle.sound.specs.Paper.Lengths.{Right}
 use Rattle.sound.specs.Laws.Sound.{text-length}
 use Rattle.sound.specs.Laws.Directory.{sound-entries}
 use Rattle.sound.specs.declared.records.Roll.{Roll}
-use Rattle.roll.specs.Paper.Operations.{Unpacking, Making}
-use Rattle.roll.specs.Laws.Accepting.{unpacks-is}
+use Rattle.roll.specs.Paper.Operations.{Packing, Checking, Unpacking, Making}
+use Rattle.roll.specs.Laws.Accepting.{sound-accepted, unpacks-is}
 use Rattle.roll.specs.Laws.Operations.{unpack-yes, make-yes}
-use Rattle.demands.specs.Meaning.{unpacks-text}
+use Rattle.roll.specs.declared.pack.Packed.{Packed}
+use Rattle.demands.specs.Meaning.{unpacks-range, unpacks-text, packing-sound}
 use Rattle.demands.specs.Made.{made-right}
 
 -- unpacking the whole roll gives this text
@@ -28,8 +33,8 @@ abbrev pub TextIs : Roll → List ℕ → List ℕ → Type 0
 TextIs r buf text = Unpacking r buf 0 (r .n) (zeros (r .n)) Yes text
 
 -- making the directory again changes nothing in it
-abbrev pub Listed : Roll → List ℕ → List ℕ → Type 0
-Listed r buf dir = Making r buf dir Yes dir
+abbrev pub DirectoryIs : Roll → List ℕ → List ℕ → Type 0
+DirectoryIs r buf dir = Making r buf dir Yes dir
 
 -- a text that fills what is lent
 filled : (text : List ℕ) (n : ℕ) → text ++ drop n (zeros n) ≡ text
@@ -54,17 +59,37 @@ module _ {r : Roll} {buf : List ℕ} where
       ∙ ap (λ (l : List ℕ). l ++ drop (r .n) (zeros (r .n))) all
       ∙ filled (textOf r buf) (r .n)))
 
-  pub right-listed : {dir : List ℕ} → Sound r buf → Right r buf dir → Listed r buf dir
-  right-listed {dir} s right =
+  pub right-directory : {dir : List ℕ} → Sound r buf → Right r buf dir → DirectoryIs r buf dir
+  right-directory {dir} s right =
       let many : entries (r .n) ≤ length dir = omega (arith, length-take (entries (r .n)) dir, ap length right, sound-entries s) in
       make-yes s many (sym (take-append-drop (entries (r .n)) dir) ∙ ap (λ (l : List ℕ). l ++ drop (entries (r .n)) dir) right)
 
-  pub listed-right : {dir : List ℕ} → Listed r buf dir → Right r buf dir
-  listed-right p = made-right p
+  pub directory-right : {dir : List ℕ} → DirectoryIs r buf dir → Right r buf dir
+  directory-right p = made-right p
+
+-- no other text is so
+pub text-one : {r : Roll} {buf a b : List ℕ} → TextIs r buf a → TextIs r buf b → a ≡ b
+text-one p q = text-is p ∙ sym (text-is q)
+
+-- it passes the check, and a range of it is unpacked
+pub text-checked : {r : Roll} {buf text : List ℕ} {answer : Done} → TextIs r buf text → Checking r buf answer → answer ≡ Yes
+text-checked {answer = answer} t p = done-one answer Yes (p .says ∙ sound-accepted (text-sound t))
+
+pub text-unpacked : {r : Roll} {buf text out now : List ℕ} {start end : ℕ} {answer : Done} → TextIs r buf text → start ≤ end → end ≤ r .n → end - start ≤ length out
+    → Unpacking r buf start end out answer now → (answer ≡ Yes) × (now ≡ run text start end ++ drop (end - start) out)
+text-unpacked {r} {buf} {text} {out} {now} {start} {end} t a b fits p =
+    rw (text-is t) (unpacks-range r buf start end out p (record { sound = text-sound t; ordered = a; inside = b; fits = fits }))
+
+-- a packed text
+pub packed-text : {t : Table} {text buf after : List ℕ} {p : Packed} → Packing t text buf p after → p .answer ≡ Yes
+    → TextIs (p .roll) after text × (p .roll .table ≡ t) × (p .roll .n ≡ length text)
+packed-text {p = p} q y =
+    let (is, sound, text-is) = packing-sound q y in
+    (subst (TextIs (p .roll) _) text-is (sound-text sound), ap (λ (x : Roll). x .table) is, ap (λ (x : Roll). x .n) is)
 
 -- rows that agree past the greater of two places agree past both
-pub drop-more : (a b : List ℕ) {old now m : ℕ} → old ≤ m → now ≤ m → drop (now + (old - now)) a ≡ drop (now + (old - now)) b → drop m a ≡ drop m b
-drop-more a b {old} {now} {m} h k e =
+pub drop-past-both : (a b : List ℕ) {old now m : ℕ} → old ≤ m → now ≤ m → drop (now + (old - now)) a ≡ drop (now + (old - now)) b → drop m a ≡ drop m b
+drop-past-both a b {old} {now} {m} h k e =
     let i : ℕ = now + (old - now) in
     let up : i + (m - i) ≡ m = omega arith in
     ap (λ (n : ℕ). drop n a) (sym up) ∙ sym (drop-drop (m - i) i a) ∙ ap (drop (m - i)) e ∙ drop-drop (m - i) i b ∙ ap (λ (n : ℕ). drop n b) up

@@ -10,25 +10,25 @@ use lib.ListN.{length, getD}
 use lib.Seq.{getD-take}
 use Rattle.ground.specs.Paper.Refusals.{accepted}
 use Rattle.ground.specs.Laws.Answers.{says-as, done-one, answer-one}
-use Rattle.ground.specs.Laws.Refusals.{accepted-leaves, accepted-answer}
+use Rattle.ground.specs.Laws.Refusals.{Accepted, accepted-leaves, accepted-answer}
 use Rattle.ground.specs.Laws.Rows.{take-padded}
 use Rattle.ground.specs.Laws.Tests.{yes-true}
 use Rattle.ground.specs.declared.answers.Done.the-variants.{Yes}
 use Rattle.ground.specs.declared.answers.Answer.{Answer}
 use Rattle.ground.specs.declared.answers.Answer.the-variants.{Read}
-use Rattle.stopper.specs.Paper.Code.{Good, isWord, rankOf}
+use Rattle.stopper.specs.Paper.Code.{Good, IsCodeword, isWord, rankOf}
 use Rattle.stopper.specs.Paper.Reading.{write}
 use Rattle.stopper.specs.Paper.Table.{base, stoppers, has, characters, goodTable, rankIn, wordOf, lengthOf, longest}
-use Rattle.stopper.specs.Paper.Operations.{Coding, isOne, wordIn, characterRows, characterAt, characterSays, Decoding}
+use Rattle.stopper.specs.Paper.Operations.{codewordSays, codewordGiven, Coding, isOne, wordIn, characterRows, characterAt, characterSays, Decoding}
 use Rattle.stopper.specs.Laws.Characters.{_∈_, mem-at, mem-has}
-use Rattle.stopper.specs.Laws.Code.{codeword-word, rank-codeword, codeword-rank, word-test, test-word}
+use Rattle.stopper.specs.Laws.Code.{codeword-word, rank-codeword, codeword-rank, length-mono, word-test, test-word}
 use Rattle.stopper.specs.Laws.Table.{table-code, table-few, table-apart, code-good, length-small}
 use Rattle.stopper.specs.Laws.Accepting.{codes-is, decodes-is}
 use Rattle.stopper.specs.declared.table.Table.{Table}
 use Rattle.stopper.specs.declared.codeword_of.Codeword.{Codeword}
 use Rattle.stopper.specs.declared.codeword_of.Coded.{Coded}
 use Rattle.sound.specs.Paper.Roll.{textRow, symbolsFor}
-use Rattle.texts.specs.Laws.Characters.{rank-within, rank-character, character-rank, characters-few, characters-length}
+use Rattle.texts.specs.Laws.Characters.{InTable, empty, char, rank-within, rank-character, character-rank, characters-few, characters-length}
 
 module _ {t : Table} where
   -- what an accepted codeword of a character is
@@ -77,6 +77,29 @@ module _ {t : Table} where
       let good : Good m s = code-good (t .code) (table-code t g) in
       (y, coded-word p y .2 ∙ ap (wordOf (t .code)) rank ∙ codeword-rank m s good (test-word m s 0 (wordIn w) word))
 
+-- a codeword is continuers and then one stopper
+pub code-stopper : {t : Table} {b : ℕ} {c : Coded} → Coding t b c → c .answer ≡ Yes → IsCodeword (base (t .code)) (stoppers (t .code)) 0 (wordIn (c .word))
+code-stopper {t} {b} p y =
+    let (g, h, w) = coded-word p y in
+    rw w (codeword-word (base (t .code)) (stoppers (t .code)) (code-good (t .code) (table-code t g)) (rankIn (characters t) b))
+
+-- the character of rank i has codeword i, and shorter codewords come first
+pub code-rank : {t : Table} {i : ℕ} {c : Coded} → length (t .places) ≡ 256 → i < t .sigma → Coding t (getD (t .places) i 0) c → c .answer ≡ Yes
+    → wordIn (c .word) ≡ wordOf (t .code) i
+code-rank {t} {i} places h p y =
+    let (g, there, w) = coded-word p y in
+    let l : List ℕ = characters t in
+    let size : length l ≡ t .sigma = characters-length t g places in
+    w
+    ∙ ap (wordOf (t .code)) (ap (rankIn l) (sym (getD-take (t .sigma) (t .places) i 0 h)) ∙ character-rank l (table-apart t g) i (omega arith))
+
+pub code-shorter : {t : Table} {i j : ℕ} {c d : Coded} → length (t .places) ≡ 256 → i ≤ j → j < t .sigma → Coding t (getD (t .places) i 0) c → c .answer ≡ Yes
+    → Coding t (getD (t .places) j 0) d → d .answer ≡ Yes → length (wordIn (c .word)) ≤ length (wordIn (d .word))
+code-shorter {t} {i} {j} places le h p y q z =
+    let (g, there, w) = coded-word p y in
+    rw (code-rank places (omega arith) p y, code-rank places h q z)
+    (length-mono (base (t .code)) (stoppers (t .code)) (code-good (t .code) (table-code t g)) le)
+
 -- the codewords of a text's characters, one after the other, as codeword of a character answers them
 pub data Codewords (t : Table) : List ℕ → List ℕ → Type 0 where
   none : Codewords t [] []
@@ -88,3 +111,17 @@ unfolding textRow write
 codewords-row none = refl
 codewords-row {t} (next {b = b} {c = c} {text = text} {row = row} p y w) =
     ap₂ {C = List ℕ} _++_ (sym (coded-word p y .2)) (codewords-row w)
+
+pub codewords-known : {t : Table} {text row : List ℕ} → Codewords t text row → InTable (characters t) text
+codewords-known none = empty
+codewords-known (next p y w) = char (coded-word p y .1) (codewords-known w)
+
+-- a text of the table's characters has them
+pub text-codewords : {t : Table} {text : List ℕ} → T (goodTable t) → InTable (characters t) text → Codewords t text (symbolsFor t text)
+unfolding textRow write
+text-codewords g empty = none
+text-codewords {t} g (char {b = b} {text = text} there h) =
+    let c : Coded = record { answer = Yes; word = codewordGiven t b } in
+    let e : Accepted (codewordSays t b) = codes-is t b .0 (g, there) in
+    let p : Coding t b c = record { says = sym e; word = refl } in
+    subst (Codewords t (b ∷ text)) (ap (λ (w : List ℕ). w ++ symbolsFor t text) (coded-word p refl .2)) (next p refl (text-codewords g h))
