@@ -297,7 +297,8 @@ static int load(const char *path)
     for (i = 0; i < entries; i++, at += 4)
         dir[i] = get32(at);
     roll = r;
-    return refused(path, monterculo_check(roll, buf, sizeof buf));
+    /* An edit of nothing by nothing: it checks the roll and the directory, and changes neither. */
+    return refused(path, monterculo_edit(roll, buf, sizeof buf, dir, ROOM(dir), 0, 0, image, 0).answer);
 }
 
 static int print_size(void)

@@ -11,7 +11,7 @@ Read are README.md and docs/*.md (not docs/landings/, which is history), outside
   `a`                        any other single word: it stands somewhere in the tree as a whole word
 In these and in docs/landings/ too:
   [words](path#anchor)       a path of the repository, from the page's folder on, and a heading of that page as GitHub names it; no link to another host is tried
-In docs/BOX.md the blocks of C, joined, are examples/members.c behind its first comment.
+In docs/BOX.md the blocks of C, joined, are examples/members.c behind its first comment, and those of Rust rust/monterculo/examples/members.rs.
 A name or place that is not there is printed with its page and line, and the exit status is 1.
 """
 import pathlib
@@ -168,5 +168,6 @@ for page in pages + sorted((ROOT / "docs" / "landings").glob("*.md")):
     for number, line in prose(page):
         hold_links(page, number, line)
 hold_blocks(ROOT / "docs" / "BOX.md", "c", "examples/members.c")
+hold_blocks(ROOT / "docs" / "BOX.md", "rust", "rust/monterculo/examples/members.rs")
 print("\n".join(missing) if missing else "every name that the pages cite exists, and every place that they link to")
 sys.exit(1 if missing else 0)
