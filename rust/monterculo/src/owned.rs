@@ -321,9 +321,9 @@ impl OwnedRoll {
         self.buf.len().saturating_mul(per_byte).min(SYMBOLS)
     }
 
-    /// Makes buffer and directory those for so many symbols, but never for fewer than the roll has.
+    /// Makes buffer and directory those for so many symbols, which are no fewer than the roll has.
     fn set_room(&mut self, symbols: usize) {
-        let symbols = symbols.max(self.symbols()).min(SYMBOLS);
+        let symbols = symbols.min(SYMBOLS);
         self.buf.resize(bytes_for(self.table().k(), symbols as u64), 0);
         // A character takes a symbol at least.
         self.directory.resize(entries_for(u32::try_from(symbols).unwrap_or(u32::MAX)), 0);
@@ -339,5 +339,52 @@ impl OwnedRoll {
         let (bytes, entries) = self.in_use();
         self.buf.truncate(bytes);
         self.directory.truncate(entries);
+    }
+}
+
+#[cfg(test)]
+mod tests {
+    use super::*;
+
+    /// The room is that asked for, and nothing is left in what is not in use.
+    fn hold(roll: &OwnedRoll, room: usize) {
+        assert_eq!(roll.room(), room);
+        assert_eq!(roll.directory.len(), entries_for(u32::try_from(room).unwrap()));
+        let (bytes, entries) = roll.in_use();
+        assert!(roll.buf.iter().skip(bytes).all(|&byte| byte == 0));
+        assert!(roll.directory.iter().skip(entries).all(|&entry| entry == 0));
+    }
+
+    #[test]
+    fn spare_room() {
+        for width in [Width::Two, Width::Four] {
+            // One symbol for each of 40 characters.
+            let text = [b'a'; 40];
+            hold(&OwnedRoll::new(width, &text).unwrap(), 40);
+            hold(&OwnedRoll::with_spare(width, &text, b"b", 24).unwrap(), 64);
+            hold(&OwnedRoll::with_spare(width, &text, b"", usize::MAX).unwrap(), SYMBOLS);
+
+            let mut roll = OwnedRoll::new(width, &text).unwrap();
+            // A refused edit keeps no room that it made.
+            roll.replace(.., &[b'a'; 65_537]).unwrap_err();
+            hold(&roll, 40);
+            roll.replace(40.., b"a").unwrap();
+            hold(&roll, 80);
+            roll.replace(1.., b"").unwrap();
+            hold(&roll, 80);
+            // 79 spare symbols beside two, to the byte's end.
+            roll.replace_any(1.., b"b").unwrap();
+            hold(&roll, if width == Width::Two { 84 } else { 82 });
+
+            let (record, mut buf, mut directory) = OwnedRoll::new(width, &text).unwrap().into_parts();
+            buf.extend([0xff; 8]);
+            directory.extend([0xff; 9]);
+            hold(
+                &OwnedRoll::from_parts(record.clone(), buf.clone(), directory.clone()).unwrap(),
+                40 + 64 / usize::from(width.k()),
+            );
+            buf.resize(70_000, 0xff);
+            hold(&OwnedRoll::from_parts(record, buf, directory).unwrap(), SYMBOLS);
+        }
     }
 }

@@ -39,6 +39,17 @@ fn made_found_replaced() {
     }
 }
 
+/// Characters that the text has are not counted once more.
+#[test]
+fn further_characters() {
+    for width in [Width::Two, Width::Four] {
+        let plain = OwnedRoll::new(width, b"aab").unwrap();
+        assert_eq!(OwnedRoll::with_spare(width, b"aab", b"bbb", 9).unwrap(), plain);
+        let more = OwnedRoll::with_spare(width, b"aab", b"zz", 0).unwrap();
+        assert_eq!(more.table().characters(), b"abz");
+    }
+}
+
 #[test]
 fn kinds_of_ranges() {
     let roll = OwnedRoll::new(Width::Two, b"abracadabra").unwrap();

@@ -301,7 +301,7 @@ fn refusals_by_name() {
             "1: the table is not good: s is 0, and must be from 1 to 15"),
         (bad(2, 1, &[b'a'; 257]), Refusal::BadTable { fault: TableFault::Characters { sigma: 257 } },
             "1: the table is not good: it has 257 characters, more than 256"),
-        (bad(2, 1, b"abb"), Refusal::BadTable { fault: TableFault::Twice { character: b'b' } },
+        (bad(2, 3, b"abb"), Refusal::BadTable { fault: TableFault::Twice { character: b'b' } },
             "1: the table is not good: it has the character 'b' twice"),
         (count(b"abc", &mut [0; 255]), Refusal::BadCounts { length: 255 },
             "2: the length of the counts is 255, and must be 256"),
