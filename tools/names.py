@@ -11,6 +11,7 @@ Read are README.md and docs/*.md (not docs/landings/, which is history), outside
   `a`                        any other single word: it stands somewhere in the tree as a whole word
 In these and in docs/landings/ too:
   [words](path#anchor)       a path of the repository, from the page's folder on, and a heading of that page as GitHub names it; no link to another host is tried
+In docs/BOX.md the blocks of C, joined, are examples/members.c behind its first comment, and those of Rust rust/monterculo/examples/members.rs.
 A name or place that is not there is printed with its page and line, and the exit status is 1.
 """
 import pathlib
@@ -148,6 +149,17 @@ def hold_links(page, number, line):
             miss(page.relative_to(ROOT), number, f"the link {link} names no heading of {place.relative_to(ROOT)}")
 
 
+def hold_blocks(page, language, path):
+    """The blocks of a page in a language are all of a file but the comment that it begins with."""
+    told, file = page.read_text(encoding="utf-8"), (ROOT / path).read_text(encoding="utf-8")
+    blocks = list(re.finditer(rf"^```{language}\n(.*?)^```$", told, re.M | re.S))
+    for block in blocks:
+        if block[1] not in file:
+            miss(page.relative_to(ROOT), told.count("\n", 0, block.start()) + 1, f"the block is not in {path}")
+    if file.partition("\n\n")[2] != "\n".join(block[1] for block in blocks):
+        miss(page.relative_to(ROOT), 1, f"the blocks, joined, are not {path}")
+
+
 pages = [ROOT / "README.md", *sorted((ROOT / "docs").glob("*.md"))]
 for page in pages:
     for number, line in prose(page):
@@ -155,5 +167,7 @@ for page in pages:
 for page in pages + sorted((ROOT / "docs" / "landings").glob("*.md")):
     for number, line in prose(page):
         hold_links(page, number, line)
+hold_blocks(ROOT / "docs" / "BOX.md", "c", "examples/members.c")
+hold_blocks(ROOT / "docs" / "BOX.md", "rust", "rust/monterculo/examples/members.rs")
 print("\n".join(missing) if missing else "every name that the pages cite exists, and every place that they link to")
 sys.exit(1 if missing else 0)

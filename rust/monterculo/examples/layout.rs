@@ -16,7 +16,7 @@ macro_rules! layout {
     };
 }
 
-fn main() {
+pub fn main() {
     let chosen = sys::choose(2, &[1; 256]);
     let coded = sys::codeword_of(chosen.table, 255);
     let rolled = sys::pack(chosen.table, b"abra", &mut [0; 64]);

@@ -1,58 +1,59 @@
 //! Monterculo: a text packed in a stopper code, searched and edited where it lies.
 //!
-//! A text is bytes; one byte is one character. A roll is a text packed as base symbols of k bits, k = 2 or 4. The
-//! symbols lie in a buffer that the caller lends, and a directory, where used, in a slice of 32-bit numbers. Places
-//! count from 0; a range runs from its start up to, and not including, its end.
+//! A text is bytes; one byte is one character. A roll is a text packed as base symbols of k bits, k = 2 or 4. Places
+//! count from 0; a range runs from its start up to, and not including, its end, and any kind of range may be given.
+//!
+//! [`OwnedRoll`] has everything that a roll needs. [`Table`] and [`Roll`] are for boxes that lend fixed memory: the
+//! symbols then lie in a buffer of the caller, and the directory, where used, in a slice of 32-bit numbers. Nothing is
+//! allocated there but by [`Roll::find`].
+//!
+//! Whatever bytes, numbers and ranges arrive, a call comes back: what is bad is refused, by a [`Refusal`]. No function
+//! of this crate panics.
 //!
 //! The work is done by the archive `libmonterculo.a`, for x86-64. The build finds it in the folder that
-//! `MONTERCULO_ARCHIVE_DIR` names. This crate has no other dependency and allocates nothing.
+//! `MONTERCULO_ARCHIVE_DIR` names by its whole path; a workspace can say so once, in its `.cargo/config.toml`:
 //!
-//! # Pack and unpack
-//!
-//! ```
-//! use monterculo::{bytes_for, count, Roll, Table};
-//!
-//! # fn main() -> Result<(), monterculo::Refusal> {
-//! let text = b"abracadabra";
-//! let mut counts = [0; 256];
-//! count(text, &mut counts)?;
-//! let (table, total) = Table::choose(2, &counts)?;
-//! assert_eq!((table.s(), table.characters(), total), (3, &b"abrcd"[..], 13));
-//!
-//! let mut buf = vec![0; bytes_for(table.k(), total)];
-//! let roll = Roll::pack(&table, text, &mut buf)?;
-//! assert_eq!(buf, [0x18, 0xc3, 0x46, 0x00]);
-//!
-//! let mut out = [0; 4];
-//! roll.unpack(&buf, 7..11, &mut out)?;
-//! assert_eq!(&out, b"abra");
-//! # Ok(())
-//! # }
+//! ```toml
+//! [env]
+//! MONTERCULO_ARCHIVE_DIR = { value = "lib", relative = true }
 //! ```
 //!
-//! # Search
+//! Without the archive `cargo check` and `cargo doc` work, and nothing can be linked. There is no other dependency.
+//!
+//! # A members' file
 //!
 //! ```
-//! use monterculo::{bytes_for, count, Roll, Table};
+//! use monterculo::{OwnedRoll, Refusal, Width};
 //!
-//! # fn main() -> Result<(), monterculo::Refusal> {
-//! # let text = b"abracadabra";
-//! # let mut counts = [0; 256];
-//! # count(text, &mut counts)?;
-//! # let (table, total) = Table::choose(2, &counts)?;
-//! # let mut buf = vec![0; bytes_for(table.k(), total)];
-//! let roll = Roll::pack(&table, text, &mut buf)?;
-//! let mut hits = [0; 2];
-//! // The total may be more than the slice holds.
-//! assert_eq!(roll.search(&buf, b"abra", &mut hits)?, 2);
-//! assert_eq!(hits, [0, 7]);
-//! assert_eq!(roll.search(&buf, b"a", &mut hits)?, 5);
-//! assert_eq!(hits, [0, 3]);
-//! # Ok(())
-//! # }
+//! fn main() -> Result<(), Refusal> {
+//!     let members = b"pan 7 Oda 5550143\npan 12 Jory 5550128\npan 112 Maren 5550167\n";
+//!     // Every digit may come by a correction, and there is room for 64 symbols more.
+//!     let mut roll = OwnedRoll::with_spare(Width::Two, members, b"0123456789", 64)?;
+//!
+//!     // With the word before it and the blank behind it, pan 12 is not found in pan 112.
+//!     let hits = roll.find(b"pan 12 ")?;
+//!     assert_eq!(hits, [18]);
+//!     let line = roll.line_of(hits[0])?;
+//!     assert_eq!(line.text, b"pan 12 Jory 5550128");
+//!
+//!     // The telephone number is the last seven characters of the line.
+//!     roll.replace(line.range.end - 7..line.range.end, b"0445550196")?;
+//!     assert_eq!(roll.line_of(hits[0])?.text, b"pan 12 Jory 0445550196");
+//!     assert_eq!(roll.text(), b"pan 7 Oda 5550143\npan 12 Jory 0445550196\npan 112 Maren 5550167\n");
+//!
+//!     // What the table does not have is refused, and nothing has changed.
+//!     match roll.replace(..0, b"pan 9 Zoe 5550171\n") {
+//!         Err(Refusal::NotInTable { place, .. }) => assert_eq!(place, 6),
+//!         answer => panic!("{:?}", answer),
+//!     }
+//!     // Under a new table it can come.
+//!     roll.replace_any(..0, b"pan 9 Zoe 5550171\n")?;
+//!     assert_eq!(roll.find(b"pan")?, [0, 18, 36, 59]);
+//!     Ok(())
+//! }
 //! ```
 //!
-//! # Correct a telephone number
+//! # In lent memory
 //!
 //! ```
 //! use monterculo::{count, entries_for, Roll, Table};
@@ -65,8 +66,8 @@
 //! for digit in b'0'..=b'9' {
 //!     counts[usize::from(digit)] += 1;
 //! }
-//! let (table, _) = Table::choose(4, &counts)?;
-//! // Room to spare, as the edited text may take more symbols.
+//! let (table, total) = Table::choose(4, &counts)?;
+//! // Room to spare, as the edited text may take more symbols than the total.
 //! let mut buf = [0; 128];
 //! let mut roll = Roll::pack(&table, text, &mut buf)?;
 //! let mut directory = vec![0; entries_for(roll.n())];
@@ -78,29 +79,22 @@
 //! roll.edit(&mut buf, &mut directory, start..start + 4, b"0289")?;
 //!
 //! let mut line = [0; 26];
-//! roll.unpack(&buf, 0..26, &mut line)?;
+//! roll.unpack(&buf, ..26, &mut line)?;
 //! assert_eq!(&line, b"Agnes, pan 4, tel 555-0289");
 //! assert_eq!(roll.read_one(&buf, &directory, 53)?, b'0');
 //! # Ok(())
 //! # }
 //! ```
-//!
-//! # A refusal
-//!
-//! What is bad is refused, by a number and one value; a refused call changes nothing.
-//!
-//! ```
-//! use monterculo::{Refusal, Roll, Table};
-//!
-//! let table = Table::new(2, 3, b"abrcd");
-//! let refusal = Roll::pack(&table, b"abraxas", &mut [0; 16]).unwrap_err();
-//! assert_eq!(refusal, Refusal { number: Refusal::NOT_IN_TABLE, value: 4 });
-//! assert_eq!(refusal.to_string(), "refusal 3: a text character not in the table; place of the first: 4");
-//! ```
 
 #![deny(unsafe_code)]
 #![deny(missing_docs)]
+// No input makes a call panic, and no number is cut.
+#![deny(clippy::indexing_slicing, clippy::unwrap_used, clippy::expect_used, clippy::panic, clippy::unreachable)]
+#![deny(clippy::arithmetic_side_effects, clippy::cast_possible_truncation)]
+#![cfg_attr(test, allow(clippy::unwrap_used, clippy::arithmetic_side_effects))]
 
+#[forbid(unsafe_code)]
+mod owned;
 #[forbid(unsafe_code)]
 mod refusal;
 #[forbid(unsafe_code)]
@@ -110,9 +104,10 @@ pub mod sys;
 #[forbid(unsafe_code)]
 mod table;
 
-pub use refusal::Refusal;
+pub use owned::{Line, OwnedRoll};
+pub use refusal::{Refusal, TableFault};
 pub use roll::Roll;
-pub use table::{count, Codeword, Table};
+pub use table::{count, Codeword, Table, Width};
 
 /// The places of a table, and the counts of a text: one for each byte value.
 pub const PLACES: usize = 256;
@@ -123,13 +118,16 @@ pub const LONGEST: usize = 86;
 /// The most symbols of a roll, and the most characters of a text to be counted.
 pub const SYMBOLS: usize = 65_536;
 
+/// The most characters of a pattern.
+pub const PATTERN: usize = 64;
+
 /// The entries of the directory of n characters: n/32, rounded up.
 ///
 /// ```
 /// assert_eq!([0, 1, 32, 33].map(monterculo::entries_for), [0, 1, 1, 2]);
 /// ```
 pub const fn entries_for(n: u32) -> usize {
-    n as usize / 32 + (n % 32 != 0) as usize
+    (n / 32).saturating_add((n % 32 != 0) as u32) as usize
 }
 
 /// The bytes of a buffer for h symbols of k bits: h·k/8, rounded up.
@@ -143,5 +141,5 @@ pub const fn entries_for(n: u32) -> usize {
 /// ```
 pub const fn bytes_for(k: u8, h: u64) -> usize {
     let bits = h.saturating_mul(k as u64);
-    (bits / 8) as usize + (bits % 8 != 0) as usize
+    (bits / 8).saturating_add((bits % 8 != 0) as u64) as usize
 }

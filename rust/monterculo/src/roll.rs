@@ -1,8 +1,9 @@
 //! The roll.
 
-use std::ops::Range;
+use std::ops::{Bound, RangeBounds};
 
-use crate::{sys, Refusal, Table};
+use crate::refusal::Given;
+use crate::{sys, Refusal, Table, SYMBOLS};
 
 /// The record of a roll: its table, the character count n and the symbol count h.
 ///
@@ -16,6 +17,22 @@ pub struct Roll {
     table: Table,
     n: u32,
     h: u32,
+}
+
+/// Start and end of a range of n characters. A bound past the greatest number becomes that number, and no text has as
+/// many characters: it is refused.
+pub(crate) fn bounds(range: impl RangeBounds<usize>, n: u32) -> (usize, usize) {
+    let start = match range.start_bound() {
+        Bound::Included(&start) => start,
+        Bound::Excluded(&before) => before.saturating_add(1),
+        Bound::Unbounded => 0,
+    };
+    let end = match range.end_bound() {
+        Bound::Included(&last) => last.saturating_add(1),
+        Bound::Excluded(&end) => end,
+        Bound::Unbounded => n as usize,
+    };
+    (start, end)
 }
 
 impl From<sys::Roll> for Roll {
@@ -43,18 +60,19 @@ impl Roll {
     /// ```
     pub fn pack(table: &Table, text: &[u8], buf: &mut [u8]) -> Result<Roll, Refusal> {
         let packed = sys::pack(table.0, text, buf);
-        packed.answer.result().map(|_| packed.roll.into())
+        let given = Given { table: Some(&table.0), text, ..Given::default() };
+        packed.answer.result(given).map(|_| packed.roll.into())
     }
 
     /// The record of these parts, such as were stored with the buffer. Nothing is checked here, since every operation
     /// checks.
     ///
     /// ```
-    /// use monterculo::{Roll, Table};
+    /// use monterculo::{Refusal, Roll, Table};
     ///
     /// let roll = Roll::new(Table::new(4, 3, b"anb"), 6, 6);
     /// roll.check(&[0x20, 0x10, 0x10])?;
-    /// assert_eq!(roll.check(&[0x20, 0x10]).unwrap_err().number, 5);
+    /// assert_eq!(roll.check(&[0x20, 0x10]), Err(Refusal::BadSymbolCount { h: 6 }));
     /// # Ok::<(), monterculo::Refusal>(())
     /// ```
     pub fn new(table: Table, n: u32, h: u32) -> Roll {
@@ -63,6 +81,10 @@ impl Roll {
 
     fn record(&self) -> sys::Roll {
         sys::Roll { table: self.table.0, n: self.n, h: self.h }
+    }
+
+    fn given(&self) -> Given<'_> {
+        Given { table: Some(&self.table.0), n: self.n, ..Given::default() }
     }
 
     /// The table.
@@ -84,10 +106,11 @@ impl Roll {
     ///
     /// Refusals, in their order: 1 (0), 5 (h), 6 (the bad codeword's first symbol), 7 (codewords read), 8 (0).
     pub fn check(&self, buf: &[u8]) -> Result<(), Refusal> {
-        sys::check(self.record(), buf).result().map(|_| ())
+        sys::check(self.record(), buf).result(self.given()).map(|_| ())
     }
 
-    /// Unpacks the characters of a range into `out`, from its first byte on; later bytes are unchanged.
+    /// Unpacks the characters of a range into `out`, from its first byte on; later bytes are unchanged. A range without
+    /// an end runs to the text's end.
     ///
     /// Refusals, in their order: those of [`Roll::check`], then 10 (0), 13 (range length).
     ///
@@ -98,10 +121,13 @@ impl Roll {
     /// let mut out = *b"....";
     /// roll.unpack(&[0x20, 0x10, 0x10], 0..3, &mut out)?;
     /// assert_eq!(&out, b"ban.");
+    /// roll.unpack(&[0x20, 0x10, 0x10], 4.., &mut out)?;
+    /// assert_eq!(&out, b"nan.");
     /// # Ok::<(), monterculo::Refusal>(())
     /// ```
-    pub fn unpack(&self, buf: &[u8], range: Range<usize>, out: &mut [u8]) -> Result<(), Refusal> {
-        sys::unpack(self.record(), buf, range.start, range.end, out).result().map(|_| ())
+    pub fn unpack(&self, buf: &[u8], range: impl RangeBounds<usize>, out: &mut [u8]) -> Result<(), Refusal> {
+        let (start, end) = bounds(range, self.n);
+        sys::unpack(self.record(), buf, start, end, out).result(Given { start, end, ..self.given() }).map(|_| ())
     }
 
     /// Makes the directory: for each of characters 0, 32, 64, … below n the number of its first symbol. It has
@@ -120,7 +146,7 @@ impl Roll {
     /// # Ok::<(), monterculo::Refusal>(())
     /// ```
     pub fn make_directory(&self, buf: &[u8], directory: &mut [u32]) -> Result<(), Refusal> {
-        sys::make_directory(self.record(), buf, directory).result().map(|_| ())
+        sys::make_directory(self.record(), buf, directory).result(self.given()).map(|_| ())
     }
 
     /// Reads the character at a place, from the directory's entry for it on.
@@ -139,8 +165,11 @@ impl Roll {
     /// # Ok::<(), monterculo::Refusal>(())
     /// ```
     pub fn read_one(&self, buf: &[u8], directory: &[u32], place: usize) -> Result<u8, Refusal> {
-        // A character is a byte.
-        sys::read_one(self.record(), buf, directory, place).result().map(|character| character as u8)
+        let given = Given { entries: directory.len(), ..self.given() };
+        match sys::read_one(self.record(), buf, directory, place).narrow(given) {
+            Err(Refusal::BadRange { n, .. }) => Err(Refusal::BadPlace { place, n }),
+            answer => answer,
+        }
     }
 
     /// Searches for all places where a pattern of 1 to 64 characters stands, overlapping ones too, and gives their
@@ -160,8 +189,29 @@ impl Roll {
     /// # Ok::<(), monterculo::Refusal>(())
     /// ```
     pub fn search(&self, buf: &[u8], pattern: &[u8], hits: &mut [u32]) -> Result<u32, Refusal> {
-        // Hits are characters of one roll, so they are at most 65,536.
-        sys::search(self.record(), buf, pattern, hits).result().map(|total| total as u32)
+        sys::search(self.record(), buf, pattern, hits).narrow(Given { text: pattern, ..self.given() })
+    }
+
+    /// All places where a pattern of 1 to 64 characters stands, ascending, overlapping ones too. This one allocates.
+    ///
+    /// Refusals: those of [`Roll::search`].
+    ///
+    /// ```
+    /// use monterculo::{Roll, Table};
+    ///
+    /// let roll = Roll::new(Table::new(4, 3, b"anb"), 6, 6);
+    /// assert_eq!(roll.find(&[0x20, 0x10, 0x10], b"a")?, [1, 3, 5]);
+    /// # Ok::<(), monterculo::Refusal>(())
+    /// ```
+    pub fn find(&self, buf: &[u8], pattern: &[u8]) -> Result<Vec<usize>, Refusal> {
+        // Most patterns stand at few places, and are then searched for once.
+        let mut hits = vec![0; 64];
+        let total = self.search(buf, pattern, &mut hits)? as usize;
+        if total > hits.len() {
+            hits.resize(total.min(SYMBOLS), 0);
+            self.search(buf, pattern, &mut hits)?;
+        }
+        Ok(hits.into_iter().take(total).map(|hit| hit as usize).collect())
     }
 
     /// Replaces the characters of a range by a text of any length; the record, the buffer and the directory become
@@ -189,12 +239,13 @@ impl Roll {
         &mut self,
         buf: &mut [u8],
         directory: &mut [u32],
-        range: Range<usize>,
+        range: impl RangeBounds<usize>,
         text: &[u8],
     ) -> Result<(), Refusal> {
-        let edited = sys::edit(self.record(), buf, directory, range.start, range.end, text);
-        // A refused edit answers the roll that came in.
+        let (start, end) = bounds(range, self.n);
+        let edited = sys::edit(self.record(), buf, directory, start, end, text);
+        edited.answer.result(Given { text, entries: directory.len(), start, end, ..self.given() })?;
         *self = edited.roll.into();
-        edited.answer.result().map(|_| ())
+        Ok(())
     }
 }

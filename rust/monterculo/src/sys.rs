@@ -12,7 +12,7 @@
 //!   live at once overlap neither each other nor a shared one;
 //! - the archive keeps no pointer past the call and has no state, so that the borrows may end with it, and calls may
 //!   come from any thread;
-//! - the structs are those of the header, which `rust/run example` holds them to.
+//! - the structs are those of the header, which `rust/run test` holds them to.
 //!
 //! All of this holds of every call below: slices are taken apart by `as_ptr`, `as_mut_ptr` and `len` alone.
 

@@ -1,6 +1,35 @@
 //! The code alone: counting, tables and codewords.
 
+use std::slice;
+
+use crate::refusal::Given;
 use crate::{sys, Refusal, LONGEST, PLACES};
+
+/// The width of a base symbol: two bits or four.
+///
+/// Two takes fewer bytes where few characters are frequent; four has room for longer texts, as no roll has more than
+/// 65,536 symbols and with four bits most characters take a single one.
+#[derive(Clone, Copy, Debug, PartialEq, Eq, Hash)]
+pub enum Width {
+    /// k = 2: four symbols in a byte.
+    Two,
+    /// k = 4: two symbols in a byte.
+    Four,
+}
+
+impl Width {
+    /// k, the bits of a symbol.
+    ///
+    /// ```
+    /// assert_eq!([monterculo::Width::Two, monterculo::Width::Four].map(|width| width.k()), [2, 4]);
+    /// ```
+    pub const fn k(self) -> u8 {
+        match self {
+            Width::Two => 2,
+            Width::Four => 4,
+        }
+    }
+}
 
 /// Counts the characters of a text: each of the 256 counts becomes that byte's count.
 ///
@@ -13,7 +42,11 @@ use crate::{sys, Refusal, LONGEST, PLACES};
 /// # Ok::<(), monterculo::Refusal>(())
 /// ```
 pub fn count(text: &[u8], counts: &mut [u32]) -> Result<(), Refusal> {
-    sys::count(text, counts).result().map(|_| ())
+    match sys::count(text, counts).result(Given::default()) {
+        Ok(_) => Ok(()),
+        Err(Refusal::NoRoom { .. }) => Err(Refusal::LongText { length: text.len() }),
+        Err(refusal) => Err(refusal),
+    }
 }
 
 /// A table: the width k of a base symbol, the number s of stoppers, and the characters in rank order.
@@ -40,7 +73,8 @@ impl Table {
     /// ```
     pub fn choose(k: u8, counts: &[u32]) -> Result<(Table, u64), Refusal> {
         let chosen = sys::choose(k, counts);
-        chosen.answer.result().map(|total| (Table(chosen.table), total))
+        let given = Given { table: Some(&chosen.table), ..Given::default() };
+        chosen.answer.result(given).map(|total| (Table(chosen.table), total))
     }
 
     /// The table of these parts, such as were stored with a roll; σ is the number of characters.
@@ -53,13 +87,14 @@ impl Table {
     ///
     /// let table = Table::new(2, 3, b"abrcd");
     /// assert_eq!(table.codeword_of(b'c')?.symbols(), [3, 0]);
-    /// assert_eq!(Table::new(2, 4, b"abrcd").codeword_of(b'c').unwrap_err().number, 1);
+    /// assert_eq!(Table::new(2, 4, b"abrcd").codeword_of(b'c').unwrap_err().number(), 1);
     /// # Ok::<(), monterculo::Refusal>(())
     /// ```
     pub fn new(k: u8, s: u8, characters: &[u8]) -> Table {
         let mut places = [0; PLACES];
-        let kept = characters.len().min(PLACES);
-        places[..kept].copy_from_slice(&characters[..kept]);
+        for (place, &character) in places.iter_mut().zip(characters) {
+            *place = character;
+        }
         // A number too great for 16 bits is as bad as the greatest of them.
         let sigma = u16::try_from(characters.len()).unwrap_or(u16::MAX);
         Table(sys::Table { k, s, sigma, places })
@@ -87,7 +122,7 @@ impl Table {
 
     /// The characters in rank order: the first σ places.
     pub fn characters(&self) -> &[u8] {
-        &self.0.places[..usize::from(self.0.sigma).min(PLACES)]
+        self.0.places.get(..self.0.sigma.into()).unwrap_or(&self.0.places)
     }
 
     /// The codeword of a character.
@@ -95,16 +130,17 @@ impl Table {
     /// Refusals, in their order: 1 (0), 3 (0).
     ///
     /// ```
-    /// use monterculo::Table;
+    /// use monterculo::{Refusal, Table};
     ///
     /// let table = Table::new(4, 3, b"anb");
     /// assert_eq!(table.codeword_of(b'b')?.symbols(), [2]);
-    /// assert_eq!(table.codeword_of(b'x').unwrap_err().number, 3);
+    /// assert_eq!(table.codeword_of(b'x'), Err(Refusal::NotInTable { place: 0, character: b'x' }));
     /// # Ok::<(), monterculo::Refusal>(())
     /// ```
     pub fn codeword_of(&self, character: u8) -> Result<Codeword, Refusal> {
         let coded = sys::codeword_of(self.0, character);
-        coded.answer.result().map(|_| Codeword(coded.word))
+        let given = Given { table: Some(&self.0), text: slice::from_ref(&character), ..Given::default() };
+        coded.answer.result(given).map(|_| Codeword(coded.word))
     }
 
     /// The character of a codeword.
@@ -112,16 +148,19 @@ impl Table {
     /// Refusals, in their order: 1 (0), 6 (0; the symbols are not exactly one codeword of rank below σ).
     ///
     /// ```
-    /// use monterculo::{Codeword, Table};
+    /// use monterculo::{Codeword, Refusal, Table};
     ///
     /// let table = Table::new(2, 3, b"abrcd");
     /// assert_eq!(table.character_of(&Codeword::new(&[3, 1]))?, b'd');
-    /// assert_eq!(table.character_of(&Codeword::new(&[3, 2])).unwrap_err().number, 6);
+    /// assert_eq!(table.character_of(&Codeword::new(&[3, 2])), Err(Refusal::NotOneCodeword));
     /// # Ok::<(), monterculo::Refusal>(())
     /// ```
     pub fn character_of(&self, codeword: &Codeword) -> Result<u8, Refusal> {
-        // A character is a byte.
-        sys::character_of(self.0, codeword.0).result().map(|character| character as u8)
+        let given = Given { table: Some(&self.0), ..Given::default() };
+        match sys::character_of(self.0, codeword.0).narrow(given) {
+            Err(Refusal::BadCodeword { .. }) => Err(Refusal::NotOneCodeword),
+            answer => answer,
+        }
     }
 }
 
@@ -144,13 +183,14 @@ impl Codeword {
     /// beside the length; these are no codeword of any table.
     pub fn new(symbols: &[u8]) -> Codeword {
         let mut word = sys::Codeword { length: symbols.len(), symbols: [0; LONGEST] };
-        let kept = symbols.len().min(LONGEST);
-        word.symbols[..kept].copy_from_slice(&symbols[..kept]);
+        for (kept, &symbol) in word.symbols.iter_mut().zip(symbols) {
+            *kept = symbol;
+        }
         Codeword(word)
     }
 
     /// The symbols, in their order: continuers, and a stopper as the last.
     pub fn symbols(&self) -> &[u8] {
-        &self.0.symbols[..self.0.length.min(LONGEST)]
+        self.0.symbols.get(..self.0.length).unwrap_or(&self.0.symbols)
     }
 }

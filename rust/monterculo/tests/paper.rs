@@ -3,7 +3,7 @@
 use std::collections::HashSet;
 use std::error::Error;
 
-use monterculo::{bytes_for, count, entries_for, Codeword, Refusal, Roll, Table};
+use monterculo::{bytes_for, count, entries_for, Codeword, Refusal, Roll, Table, TableFault};
 
 /// A text packed with its best table, in a buffer of just its size.
 fn packed(k: u8, text: &[u8]) -> (Roll, Vec<u8>) {
@@ -45,9 +45,9 @@ fn hits_of(roll: &Roll, buf: &[u8], pattern: &[u8]) -> Vec<u32> {
 }
 
 /// The number and the value of a refusal.
-fn refused<T: std::fmt::Debug>(answer: Result<T, Refusal>) -> (u8, u64) {
+fn refused<T: std::fmt::Debug>(answer: Result<T, Refusal>) -> (u32, u64) {
     let refusal = answer.unwrap_err();
-    (refusal.number, refusal.value)
+    (refusal.number(), refusal.value())
 }
 
 #[test]
@@ -279,21 +279,80 @@ fn a_refused_edit_changes_nothing() {
     assert_eq!((roll, buf, directory), before);
 }
 
+/// Each cause by its name and in its words.
 #[test]
-fn refusals_in_words() {
-    let said: Vec<String> = (1..=13).map(|number| Refusal { number, value: 98_765 }.to_string()).collect();
-    assert_eq!(said.iter().collect::<HashSet<_>>().len(), 13);
-    for (number, words) in (1..).zip(&said) {
-        assert!(words.starts_with(&format!("refusal {}: ", number)), "{}", words);
-        // Where the paper's value is 0, it says nothing.
-        assert_eq!(words.contains("98765"), ![1, 8, 10, 11].contains(&number), "{}", words);
+fn refusals_by_name() {
+    let (roll, buf) = abracadabra();
+    let table = roll.table();
+    let with = |n, h| Roll::new(table.clone(), n, h);
+    let bad = |k, s, characters: &[u8]| Table::new(k, s, characters).codeword_of(b'a').map(|_| ());
+    let range = |range: std::ops::Range<usize>| roll.unpack(&buf, range, &mut [0; 4]);
+    let no_place = roll.read_one(&buf, &[0], 11).map(|_| ());
+    let search = |pattern: &[u8]| roll.search(&buf, pattern, &mut []).map(|_| ());
+    let edit = |directory: &mut [u32]| roll.clone().edit(&mut buf.clone(), directory, 4..5, b"d");
+
+    #[rustfmt::skip]
+    let cases = [
+        (bad(3, 1, b"a"), Refusal::BadTable { fault: TableFault::Width { k: 3 } },
+            "1: the table is not good: k is 3, and must be 2 or 4"),
+        (bad(2, 4, b"a"), Refusal::BadTable { fault: TableFault::Stoppers { s: 4, most: 3 } },
+            "1: the table is not good: s is 4, and must be from 1 to 3"),
+        (bad(4, 0, b"a"), Refusal::BadTable { fault: TableFault::Stoppers { s: 0, most: 15 } },
+            "1: the table is not good: s is 0, and must be from 1 to 15"),
+        (bad(2, 1, &[b'a'; 257]), Refusal::BadTable { fault: TableFault::Characters { sigma: 257 } },
+            "1: the table is not good: it has 257 characters, more than 256"),
+        (bad(2, 3, b"abb"), Refusal::BadTable { fault: TableFault::Twice { character: b'b' } },
+            "1: the table is not good: it has the character 'b' twice"),
+        (count(b"abc", &mut [0; 255]), Refusal::BadCounts { length: 255 },
+            "2: the length of the counts is 255, and must be 256"),
+        (Roll::pack(table, b"ab\na", &mut [0; 16]).map(|_| ()), Refusal::NotInTable { place: 2, character: b'\n' },
+            "3: the character '\\n' at place 2 is not in the table"),
+        (Roll::pack(table, b"abracadabra", &mut [0; 3]).map(|_| ()), Refusal::NoRoom { character: 10 },
+            "4: the packed text has no room in the buffer, from its character 10 on"),
+        (count(&[b'a'; 70_000], &mut [0; 256]), Refusal::LongText { length: 70_000 },
+            "4: a text of 70000 characters is too long to be counted: at most 65536 can be"),
+        (with(11, 17).check(&buf), Refusal::BadSymbolCount { h: 17 },
+            "5: h is 17, more symbols than the buffer has room for"),
+        (with(11, 8).check(&buf), Refusal::BadCodeword { symbol: 7 },
+            "6: the codeword at symbol 7 is bad: unfinished at the roll's end, or of a rank not in the table"),
+        (table.character_of(&Codeword::new(&[3, 2])).map(|_| ()), Refusal::NotOneCodeword,
+            "6: the symbols are not exactly one codeword of a rank in the table"),
+        (with(10, 13).check(&buf), Refusal::BadCharacterCount { read: 11, n: 10 },
+            "7: n is 10, and the characters read are 11"),
+        (roll.check(&[0x18, 0xc3, 0x46, 0x01]), Refusal::BadUnused,
+            "8: an unused symbol of the last byte is not 0"),
+        (edit(&mut []), Refusal::BadEntry { entry: 0, missing: true },
+            "9: entry 0 of the directory is missing"),
+        (edit(&mut [1]), Refusal::BadEntry { entry: 0, missing: false },
+            "9: entry 0 of the directory is wrong"),
+        (range(4..12), Refusal::BadRange { start: 4, end: 12, n: 11 },
+            "10: the range 4..12 ends behind the text, whose length is 11"),
+        (range(std::ops::Range { start: 5, end: 4 }), Refusal::BadRange { start: 5, end: 4, n: 11 },
+            "10: the range 5..4 starts behind its end"),
+        (no_place, Refusal::BadPlace { place: 11, n: 11 },
+            "10: place 11 is behind the text, whose length is 11"),
+        (search(b""), Refusal::BadPattern { length: 0 },
+            "11: the pattern is empty"),
+        (search(&[b'a'; 65]), Refusal::BadPattern { length: 65 },
+            "11: the pattern has 65 characters, more than 64"),
+        (roll.make_directory(&buf, &mut []), Refusal::ShortDirectory { needed: 1 },
+            "12: the directory is too short: entries needed are 1"),
+        (range(2..7), Refusal::ShortOutput { needed: 5 },
+            "13: the output is too short: the length of the range is 5"),
+    ];
+    let mut numbers = HashSet::new();
+    for (answer, refusal, words) in cases {
+        assert_eq!(answer, Err(refusal));
+        assert_eq!(refusal.to_string(), format!("refusal {}", words));
+        // What `main` prints.
+        assert_eq!(format!("{:?}", refusal), refusal.to_string());
+        numbers.insert(refusal.number());
     }
-    assert_eq!(said[8], "refusal 9: a directory entry missing or wrong; number of the first such: 98765");
-    assert_eq!(said[10], "refusal 11: pattern empty or over 64");
+    assert_eq!(numbers, (1..=13).collect());
 
     fn answer() -> Result<(), Box<dyn Error + Send + Sync>> {
         count(b"", &mut [])?;
         Ok(())
     }
-    assert_eq!(answer().unwrap_err().to_string(), "refusal 2: counts slice not 256 long; its length: 0");
+    assert_eq!(answer().unwrap_err().to_string(), "refusal 2: the length of the counts is 0, and must be 256");
 }
