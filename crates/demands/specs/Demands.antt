@@ -49,8 +49,8 @@ use Rattle.sound.specs.Laws.Holding.{Holds, holds-row, sound-h, sound-record, s
 use Rattle.sound.specs.declared.records.Roll.{Roll}
 use Rattle.store.specs.Paper.Stored.{packedInto}
 use Rattle.store.specs.Laws.Edited.{edit-sound, edit-text, edit-right, edit-before, edit-even, edit-cleared, edit-kept, edit-cleared-directory, edit-kept-directory}
-use Rattle.roll.specs.Paper.Operations.{packRows, packSays, Packing, fitRows, Checking, unpackRows, unpackSays, Unpacking, makeRows, makeSays, Making, readRows, oneRead, readSays, ReadingOne, searchRows, searchSays, Searching, editRows, editSays, Editing}
-use Rattle.roll.specs.Laws.Accepting.{accepted-sound, accepted-packs, makes-is, searches-is}
+use Rattle.roll.specs.Paper.Operations.{packRows, packSays, Packing, fitRows, Checking, unpackRows, unpackSays, Unpacking, makeRows, makeSays, Making, readRows, oneRead, readSays, ReadingOne, searchRows, searchSays, Searching, directorySays, editRows, editSays, Editing}
+use Rattle.roll.specs.Laws.Accepting.{sound-accepted, accepted-sound, accepted-packs, unpacks-is, makes-is, searches-is}
 use Rattle.roll.specs.declared.pack.Packed.{Packed}
 use Rattle.roll.specs.declared.edit.Edited.{Edited}
 use Rattle.demands.specs.Counted.{counted-total, counted-packs}
@@ -112,6 +112,42 @@ pub order-edit : {r : Roll} {buf dir new after dirAfter : List ℕ} {start end n
 unfolding editSays
 order-edit {r} {buf} {dir} {new} {after} {dirAfter} {start} {end} p y =
     then-refuses (directory-decided r buf dir) (editRows r buf dir start end new) tt (says-as (p .says) y)
+
+-- what check refuses is refused first, with the same number and value, by every operation that checks
+pub unpack-checks : {r : Roll} {buf out after : List ℕ} {start end n v : ℕ} {answer : Done} → Checking r buf (Refused n v) → Unpacking r buf start end out answer after
+    → answer ≡ Refused n v
+unfolding unpackSays
+unpack-checks {n = n} {v = v} {answer = answer} c p = done-one answer (Refused n v) (p .says ∙ rw (sym (c .says)))
+
+pub make-checks : {r : Roll} {buf dir after : List ℕ} {n v : ℕ} {answer : Done} → Checking r buf (Refused n v) → Making r buf dir answer after → answer ≡ Refused n v
+unfolding makeSays
+make-checks {n = n} {v = v} {answer = answer} c p = done-one answer (Refused n v) (p .says ∙ rw (sym (c .says)))
+
+pub search-checks : {r : Roll} {buf pattern slice after : List ℕ} {n v : ℕ} {answer : Total} → Checking r buf (Refused n v) → Searching r buf pattern slice answer after
+    → answer ≡ total-refused n v
+unfolding searchSays
+search-checks {n = n} {v = v} {answer = answer} c p = total-one answer (total-refused n v) (p .says ∙ rw (sym (c .says)))
+
+pub edit-checks : {r : Roll} {buf dir new after dirAfter : List ℕ} {start end n v : ℕ} {e : Edited} → Checking r buf (Refused n v)
+    → Editing r buf dir start end new e after dirAfter → e .answer ≡ Refused n v
+unfolding editSays directorySays
+edit-checks {n = n} {v = v} {e = e} c p = done-one (e .answer) (Refused n v) (p .says ∙ rw (sym (c .says)))
+
+-- and what is accepted was good
+pub unpack-good : {r : Roll} {buf out after : List ℕ} {start end : ℕ} → Unpacking r buf start end out Yes after
+    → Checking r buf Yes × (start ≤ end) × (end ≤ r .n) × (end - start ≤ length out)
+unpack-good {r} {buf} {out} {after} {start} {end} p =
+    let u = unpacks-is r buf start end out .1 (sym (p .says)) in
+    (record { says = sym (sound-accepted (u .sound)) }, u .ordered, u .inside, u .fits)
+
+pub make-good : {r : Roll} {buf dir after : List ℕ} → Making r buf dir Yes after → Checking r buf Yes × (entries (r .n) ≤ length dir)
+make-good {r} {buf} {dir} p = let (s, h) = makes-is r buf dir .1 (sym (p .says)) in (record { says = sym (sound-accepted s) }, h)
+
+pub edit-good : {r : Roll} {buf dir new after dirAfter : List ℕ} {start end : ℕ} {e : Edited} → Editing r buf dir start end new e after dirAfter → e .answer ≡ Yes
+    → Checking r buf Yes × DirectoryIs r buf dir × (start ≤ end) × (end ≤ r .n)
+edit-good p y =
+    let u = editing-yes p y .0 in
+    (record { says = sym (sound-accepted (u .sound)) }, right-directory (u .sound) (u .right), u .ordered, u .inside)
 
 -- check's 6, and that of every operation that checks, names the first symbol of the first bad codeword: good codewords stand before it, and there one does not end
 -- by symbol h or has a rank of σ or more (`FaultAt`)

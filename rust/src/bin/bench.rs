@@ -537,7 +537,15 @@ const LEFT: usize = 360;
 const WIDTH: usize = 560;
 const TOP: usize = 100;
 
-/// Groups of bars, one bar for each case, and a line at the mark.
+/// The machine that this runs on, as it calls itself, in letters that a picture can hold.
+fn machine() -> String {
+    let told = std::fs::read_to_string("/proc/cpuinfo").unwrap_or_default();
+    let model = told.lines().find(|line| line.starts_with("model name")).and_then(|line| line.split(':').nth(1));
+    let name = model.map_or(String::new(), |model| format!(", {}", model.trim()));
+    format!("{}{}", std::env::consts::ARCH, name).replace(['&', '<'], " ")
+}
+
+/// Groups of bars, one bar for each case, the machine, and a line at the mark.
 fn drawing(cases: &[Case], rows: &[Vec<Row>]) -> String {
     let groups = rows[0].len();
     let group = cases.len() * BAR + 12;
@@ -560,6 +568,7 @@ fn drawing(cases: &[Case], rows: &[Vec<Row>]) -> String {
         let _ = writeln!(svg, "<rect x=\"{}\" y=\"46\" width=\"12\" height=\"12\" fill=\"{}\"/>", left, colour);
         let _ = writeln!(svg, "<text x=\"{}\" y=\"57\">{}</text>", left + 18, case.name);
     }
+    let _ = writeln!(svg, "<text x=\"16\" y=\"80\" fill=\"#555555\">Measured on {}.</text>", machine());
     let step = if most > 12.0 { 2.0 } else { 1.0 };
     let mut tick = 0.0;
     while tick <= most {
@@ -613,7 +622,7 @@ fn drawing(cases: &[Case], rows: &[Vec<Row>]) -> String {
     let _ = writeln!(
         svg,
         "<line x1=\"{0:.1}\" y1=\"{1}\" x2=\"{0:.1}\" y2=\"{2}\" stroke=\"#c00000\" stroke-width=\"1.5\" \
-         stroke-dasharray=\"5 3\"/><text x=\"{0:.1}\" y=\"{3}\" text-anchor=\"middle\" fill=\"#c00000\">{4}</text>",
+         stroke-dasharray=\"5 3\"/><text x=\"{0:.1}\" y=\"{3}\" text-anchor=\"middle\" fill=\"#c00000\">the mark, {4}</text>",
         x(MARK),
         TOP - 6,
         height - 24,
