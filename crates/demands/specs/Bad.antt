@@ -20,7 +20,8 @@ use Rattle.stopper.specs.Helpers.First.{firstWord, broken}
 use Rattle.stopper.specs.Laws.Reading.{read-write, read-bad, unfinished-open, beyond-word}
 use Rattle.stopper.specs.Laws.Table.{table-code, code-good}
 use Rattle.symbols.specs.Laws.Rows.{symbols-below}
-use Rattle.sound.specs.Paper.Roll.{rowUpto, readingFrom, reading, isBad, firstBad}
+use Rattle.reading.specs.Paper.Reading.{rowUpto, isBad, firstBad}
+use Rattle.sound.specs.Paper.Roll.{readingFrom, reading}
 use Rattle.sound.specs.Laws.Sound.{row-length}
 use Rattle.sound.specs.declared.records.Roll.{Roll}
 use Rattle.roll.specs.Paper.Operations.{fitRows, fitSays, checkRows, checkSays, Checking}
