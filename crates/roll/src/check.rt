@@ -1,8 +1,8 @@
 // Checking a roll. Sound means that all checks pass.
 use crate::fits::fits;
 use ground::answers::Done;
+use moves::passing::read_all;
 use reading::codewords::Scan;
-use reading::codewords::read_each;
 use sound::records::Roll;
 use symbols::run::all_zero;
 use symbols::size::unused;
@@ -21,7 +21,7 @@ pub fn check(roll: Roll, buf: &[u8]) -> Done
     let k = code.k;
     let h = roll.h as usize;
     let sigma = table.sigma as u32;
-    let read = read_each(code, sigma, buf, h);
+    let read = read_all(code, sigma, buf, h);
     match read {
         Scan::Bad(first) => Done::Refused(6, first as u64),
         Scan::Whole(count) => {

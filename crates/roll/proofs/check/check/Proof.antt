@@ -26,7 +26,7 @@ use Rattle.roll.proofs.check.check.Tie as tie
 abbrev start : tie.After-enum-told → tie.Start
 start c = c .before .before .before .before
 
-abbrev asked : tie.After-read-each → tie.After-enum-told
+abbrev asked : tie.After-read-all → tie.After-enum-told
 asked c = c .before .before .before .before .before
 
 abbrev fitted : tie.After-read2 → tie.After-enum-told
@@ -48,7 +48,7 @@ width c = code-width (start c .args .roll .table .code) (reads c .good)
 -- all codewords are read
 whole : (c : tie.After-read2) → let a = start (fitted c) .args in Whole (c .read2 .given .0 .0) ≡ scanned (reading (a .roll) (a .buf .now))
 unfolding readingFrom
-whole c = sym (c .read2 .given .1) ∙ c .before .before .read-each .ensures
+whole c = sym (c .read2 .given .1) ∙ c .before .before .read-all .ensures
 
 -- the unused symbols end with the last byte
 end-is : (c : tie.After-unused) → let a = start (fitted (counted c)) .args in
@@ -87,7 +87,7 @@ returns-4 : tie.Need-returns-4
 unfolding readingFrom
 returns-4 c =
     let y = c .before .before .before in
-    record { says = sym (check-6 _ _ (fits (asked y)) (sym (c .before .read .given .1) ∙ y .read-each .ensures)) }
+    record { says = sym (check-6 _ _ (fits (asked y)) (sym (c .before .read .given .1) ∙ y .read-all .ensures)) }
 
 returns-5 : tie.Need-returns-5
 returns-5 c =
