@@ -24,7 +24,8 @@ use Rattle.stopper.specs.Laws.Reading.{read-write, read-bad, unfinished-open, b
 use Rattle.stopper.specs.Laws.Table.{table-code, code-good}
 use Rattle.symbols.specs.Laws.Rows.{symbols-below}
 use Rattle.texts.specs.Paper.Hits.{hits}
-use Rattle.sound.specs.Paper.Roll.{textOf, rowUpto, readingFrom, reading, isBad, firstBad}
+use Rattle.reading.specs.Paper.Reading.{rowUpto, isBad, firstBad}
+use Rattle.sound.specs.Paper.Roll.{textOf, readingFrom, reading}
 use Rattle.sound.specs.Laws.Sound.{row-length}
 use Rattle.sound.specs.declared.records.Roll.{Roll}
 use Rattle.roll.specs.Paper.Operations.{fitRows, fitSays, checkRows, checkSays, Checking, unpackRows, unpackSays, Unpacking, makeRows, makeSays, Making, searchRows, searchSays, Searching, directoryRows, directorySays, editRows, editSays, Editing}

@@ -13,9 +13,10 @@ use Rattle.ground.specs.declared.answers.Done.the-variants.{Yes}
 use Rattle.ground.specs.declared.answers.Answer.{Answer}
 use Rattle.ground.specs.declared.answers.Answer.the-variants.{Read}
 use Rattle.texts.specs.Paper.Directory.{entries, directoryOf}
-use Rattle.sound.specs.Paper.Roll.{rowUpto, readingFrom, reading, ranksRead, textOf, Sound}
+use Rattle.reading.specs.Paper.Reading.{rowUpto, ranksRead}
+use Rattle.reading.specs.Laws.Codewords.{passed-word}
+use Rattle.sound.specs.Paper.Roll.{readingFrom, reading, textOf, Sound}
 use Rattle.sound.specs.Paper.Lengths.{lengthsOf, Right}
-use Rattle.sound.specs.Laws.Codewords.{passed-word}
 use Rattle.sound.specs.Laws.Sound.{sound-code, sound-found, sound-length}
 use Rattle.sound.specs.Laws.Directory.{sound-entries, right-held, right-passed, right-before}
 use Rattle.sound.specs.declared.records.Roll.{Roll}

@@ -1,8 +1,8 @@
 // Checking a roll. Sound means that all checks pass.
 use crate::fits::fits;
 use ground::answers::Done;
-use sound::reading::Scan;
-use sound::reading::read_all;
+use moves::passing::read_all;
+use reading::codewords::Scan;
 use sound::records::Roll;
 use symbols::run::all_zero;
 use symbols::size::unused;

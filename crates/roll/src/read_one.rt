@@ -2,10 +2,10 @@
 use crate::fits::fits;
 use ground::answers::Answer;
 use ground::answers::Done;
-use sound::reading::Found;
-use sound::reading::Passed;
-use sound::reading::codeword_at;
-use sound::reading::pass_over;
+use reading::codewords::Found;
+use reading::codewords::Passed;
+use reading::codewords::codeword_at;
+use reading::codewords::pass_over;
 use sound::records::Roll;
 ghost use Rattle.roll.specs.Paper.Operations.{ReadingOne};
 

@@ -1,4 +1,3 @@
 -- What helpers ask and answer. No promise of an operation speaks of it.
-pub mod Codewords
 pub mod Ends
 pub mod Held

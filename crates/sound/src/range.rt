@@ -1,8 +1,8 @@
 // A range of a sound roll's text.
 use crate::ends::pass_first;
-use crate::reading::Found;
-use crate::reading::codeword_at;
 use crate::records::Roll;
+use reading::codewords::Found;
+use reading::codewords::codeword_at;
 ghost use mathlib.Core.Path.{_≡_};
 ghost use mathlib.Core.List.{_++_};
 ghost use Prim.Native.Nat.{_-_, _≤_};

@@ -20,7 +20,8 @@ use Rattle.symbols.specs.Paper.Symbols.{per, bytesFor, room, shift, symbolAt, s
 use Rattle.texts.specs.Paper.Characters.{firstForeign}
 use Rattle.texts.specs.Paper.Directory.{entries, sum, startAt, directoryOf, firstWrong}
 use Rattle.texts.specs.Paper.Hits.{stands, hitsFrom, hits, goodPattern}
-use Rattle.sound.specs.Paper.Roll.{textRow, symbolsFor, readingFrom, isBad, ranksRead, firstBad, textOf}
+use Rattle.reading.specs.Paper.Reading.{isBad, ranksRead, firstBad}
+use Rattle.sound.specs.Paper.Roll.{textRow, symbolsFor, readingFrom, textOf}
 use Rattle.sound.specs.Paper.Lengths.{lengthsOf, lengthsFor}
 use Rattle.sound.specs.declared.records.Roll.{Roll}
 use Rattle.store.specs.Paper.Fitting.{firstOver}

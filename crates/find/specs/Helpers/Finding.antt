@@ -10,7 +10,8 @@ use Rattle.stopper.specs.declared.code.Code.{Code}
 use Rattle.texts.specs.Paper.Characters.{firstForeign}
 use Rattle.texts.specs.Paper.Hits.{stands}
 use Rattle.texts.specs.Helpers.Passing.{passing}
-use Rattle.sound.specs.Paper.Roll.{textRow, reading, ranksRead}
+use Rattle.reading.specs.Paper.Reading.{ranksRead}
+use Rattle.sound.specs.Paper.Roll.{textRow, reading}
 use Rattle.sound.specs.declared.records.Roll.{Roll}
 
 -- the symbols of a pattern; none if a character of it is not in the row

@@ -24,10 +24,11 @@ use Rattle.texts.specs.Paper.Hits.{stands, hits}
 use Rattle.texts.specs.Paper.Directory.{startAt}
 use Rattle.texts.specs.Laws.Characters.{InTable, ranks-below, known-drop}
 use Rattle.texts.specs.Laws.Hits.{stands-ranks, Front, hit-is, stands-front, front-stands}
-use Rattle.sound.specs.Paper.Roll.{textRow, symbolsFor, rowUpto, reading, ranksRead, textOf, Sound}
+use Rattle.reading.specs.Paper.Reading.{rowUpto, ranksRead}
+use Rattle.sound.specs.Paper.Roll.{textRow, symbolsFor, reading, textOf, Sound}
 use Rattle.sound.specs.Paper.Lengths.{lengthsOf}
 use Rattle.sound.specs.Helpers.Held.{Held}
-use Rattle.sound.specs.Laws.Codewords.{start-at, drop-start}
+use Rattle.sound.specs.Laws.Starts.{start-at, drop-start}
 use Rattle.sound.specs.Laws.Sound.{sound-code, sound-row, sound-length}
 use Rattle.sound.specs.Laws.Holding.{sound-known, sound-ranked}
 use Rattle.sound.specs.declared.records.Roll.{Roll}

@@ -21,7 +21,8 @@ use Rattle.texts.specs.Paper.Hits.{hits, goodPattern}
 use Rattle.texts.specs.Paper.Edited.{edited}
 use Rattle.texts.specs.Laws.Directory.{wrong-within}
 use Rattle.texts.specs.Laws.Characters.{InTable, known-foreign, foreign-known, foreign-within}
-use Rattle.sound.specs.Paper.Roll.{symbolsFor, reading, ranksRead, textOf, unusedOf, Sound}
+use Rattle.reading.specs.Paper.Reading.{ranksRead}
+use Rattle.sound.specs.Paper.Roll.{symbolsFor, reading, textOf, unusedOf, Sound}
 use Rattle.sound.specs.Paper.Lengths.{lengthsOf, Right}
 use Rattle.sound.specs.Laws.Directory.{sound-entries, right-none, none-right}
 use Rattle.sound.specs.declared.records.Roll.{Roll}

@@ -25,12 +25,13 @@ use Rattle.texts.specs.Paper.Characters.{firstForeign}
 use Rattle.texts.specs.Paper.Directory.{entries, directoryOf}
 use Rattle.texts.specs.Paper.Edited.{edited}
 use Rattle.texts.specs.Paper.Hits.{hits, goodPattern, listed}
-use Rattle.sound.specs.Paper.Roll.{reading, isBad, firstBad, ranksRead, textOf, unusedOf, symbolsFor, recordOf, Sound}
+use Rattle.reading.specs.Paper.Reading.{isBad, firstBad, ranksRead}
+use Rattle.reading.specs.Helpers.Codewords.{Reads, scanned}
+use Rattle.reading.specs.declared.codewords.Scan.the-variants.{Whole, Bad}
+use Rattle.sound.specs.Paper.Roll.{reading, textOf, unusedOf, symbolsFor, recordOf, Sound}
 use Rattle.sound.specs.Paper.Lengths.{lengthsOf, Right}
-use Rattle.sound.specs.Helpers.Codewords.{Reads, scanned}
 use Rattle.sound.specs.Laws.Sound.{table-reads}
 use Rattle.sound.specs.declared.records.Roll.{Roll}
-use Rattle.sound.specs.declared.reading.Scan.the-variants.{Whole, Bad}
 use Rattle.store.specs.Paper.Fitting.{firstOver}
 use Rattle.store.specs.Paper.Stored.{packedInto, bytesAfter, directoryAfter}
 use Rattle.roll.specs.Paper.Operations.{packSays, Packing, fitSays, checkSays, Checking, unpackSays, Unpacking, makeSays, Making, searchSays, Searching, editSays, Editing}

@@ -21,7 +21,8 @@ use Rattle.texts.specs.Paper.Characters.{firstForeign}
 use Rattle.texts.specs.Paper.Directory.{entries, directoryOf, firstWrong}
 use Rattle.texts.specs.Paper.Hits.{hits, goodPattern, listed}
 use Rattle.texts.specs.Paper.Edited.{edited}
-use Rattle.sound.specs.Paper.Roll.{symbolsFor, recordOf, readingFrom, reading, isBad, ranksRead, firstBad, textOf, unusedOf}
+use Rattle.reading.specs.Paper.Reading.{isBad, ranksRead, firstBad}
+use Rattle.sound.specs.Paper.Roll.{symbolsFor, recordOf, readingFrom, reading, textOf, unusedOf}
 use Rattle.sound.specs.Paper.Lengths.{lengthsOf}
 use Rattle.sound.specs.declared.records.Roll.{Roll}
 use Rattle.store.specs.Paper.Fitting.{firstOver}

@@ -16,16 +16,18 @@ use Rattle.stopper.specs.Paper.Reading.{write}
 use Rattle.stopper.specs.declared.code.Code.{Code}
 use Rattle.texts.specs.Paper.Directory.{entries, startAt, directoryOf, firstWrong}
 use Rattle.texts.specs.Laws.Directory.{entries-upto, entries-before, directory-length, directory-at, entries-inside, none-wrong, wrong-none}
-use Rattle.sound.specs.Paper.Roll.{rowUpto, reading, ranksRead, Sound}
+use Rattle.reading.specs.Paper.Reading.{rowUpto, ranksRead}
+use Rattle.reading.specs.Helpers.Codewords.{passedFrom}
+use Rattle.reading.specs.Laws.Codewords.{found-word}
+use Rattle.reading.specs.declared.codewords.Passed.{Passed}
+use Rattle.reading.specs.declared.codewords.Passed.the-variants.{At}
+use Rattle.sound.specs.Paper.Roll.{reading, Sound}
 use Rattle.sound.specs.Paper.Lengths.{lengthsOf, Right}
-use Rattle.sound.specs.Helpers.Codewords.{passedFrom}
 use Rattle.sound.specs.Helpers.Ends.{Ending, endFrom}
-use Rattle.sound.specs.Laws.Codewords.{start-at, found-word, passed-ranks}
+use Rattle.sound.specs.Laws.Starts.{start-at, passed-ranks}
 use Rattle.sound.specs.Laws.Sound.{row-length, sound-code, sound-length, sound-below, sound-row, sound-found, sound-start}
 use Rattle.sound.specs.Laws.Ends.{sound-end, sound-ends, sound-ending}
 use Rattle.sound.specs.declared.records.Roll.{Roll}
-use Rattle.sound.specs.declared.reading.Passed.{Passed}
-use Rattle.sound.specs.declared.reading.Passed.the-variants.{At}
 
 -- ---- the directory of a sound roll
 

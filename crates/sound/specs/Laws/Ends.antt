@@ -19,10 +19,11 @@ use Rattle.stopper.specs.Laws.Table.{code-good}
 use Rattle.stopper.specs.Laws.Reading.{write-append}
 use Rattle.symbols.specs.Paper.Symbols.{symbolsOf}
 use Rattle.texts.specs.Paper.Directory.{sum, startAt}
-use Rattle.sound.specs.Paper.Roll.{reading, ranksRead, Sound}
+use Rattle.reading.specs.Paper.Reading.{ranksRead}
+use Rattle.sound.specs.Paper.Roll.{reading, Sound}
 use Rattle.sound.specs.Paper.Lengths.{lengthsOf}
 use Rattle.sound.specs.Helpers.Ends.{stops, endOf, symbolsFrom, Ending, endFrom}
-use Rattle.sound.specs.Laws.Codewords.{start-at, start-upto, drop-start}
+use Rattle.sound.specs.Laws.Starts.{start-at, start-upto, drop-start}
 use Rattle.sound.specs.Laws.Sound.{sound-code, sound-reads, sound-row, sound-start}
 use Rattle.sound.specs.declared.records.Roll.{Roll}
 

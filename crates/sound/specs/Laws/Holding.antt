@@ -20,10 +20,11 @@ use Rattle.symbols.specs.Laws.Sizes.{bytesFor-enough}
 use Rattle.symbols.specs.Laws.Rows.{room-row, symbols-below, ends-inside, symbols-append, symbols-take}
 use Rattle.symbols.specs.Laws.Packing.{bytes-below, symbols-bytes, symbols-one}
 use Rattle.texts.specs.Laws.Characters.{InTable, ranks-below, characters-back, ranks-back, ranks-known, characters-few, characters-length, places-characters}
-use Rattle.sound.specs.Paper.Roll.{textRow, symbolsFor, recordOf, rowUpto, rowReading, readingFrom, reading, ranksRead, textOf, unusedOf, Sound}
+use Rattle.reading.specs.Paper.Reading.{rowUpto, rowReading, ranksRead}
+use Rattle.reading.specs.Laws.Reading.{done-whole, done-ranks}
+use Rattle.sound.specs.Paper.Roll.{textRow, symbolsFor, recordOf, readingFrom, reading, textOf, unusedOf, Sound}
 use Rattle.sound.specs.Helpers.Held.{Held}
 use Rattle.sound.specs.Laws.Texts.{text-below}
-use Rattle.sound.specs.Laws.Reading.{done-whole, done-ranks}
 use Rattle.sound.specs.Laws.Sound.{text-length, sound-width, sound-below, sound-row, sound-length}
 use Rattle.sound.specs.declared.records.Roll.{Roll}
 

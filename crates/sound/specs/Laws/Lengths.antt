@@ -9,10 +9,11 @@ use Rattle.stopper.specs.Paper.Reading.{write}
 use Rattle.stopper.specs.declared.code.Code.{Code}
 use Rattle.stopper.specs.declared.table.Table.{Table}
 use Rattle.texts.specs.Paper.Directory.{startAt}
-use Rattle.sound.specs.Paper.Roll.{textRow, symbolsFor, reading, ranksRead, textOf}
+use Rattle.reading.specs.Paper.Reading.{ranksRead}
+use Rattle.sound.specs.Paper.Roll.{textRow, symbolsFor, reading, textOf}
 use Rattle.sound.specs.Paper.Lengths.{lengthsOf, lengthsFor}
 use Rattle.sound.specs.Helpers.Held.{Held}
-use Rattle.sound.specs.Laws.Codewords.{start-at}
+use Rattle.sound.specs.Laws.Starts.{start-at}
 use Rattle.sound.specs.Laws.Holding.{sound-ranked}
 use Rattle.sound.specs.declared.records.Roll.{Roll}
 

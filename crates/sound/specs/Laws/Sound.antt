@@ -18,13 +18,14 @@ use Rattle.symbols.specs.Helpers.Widths.{Width}
 use Rattle.symbols.specs.Laws.Sizes.{room-limit}
 use Rattle.symbols.specs.Laws.Rows.{symbols-below, room-row}
 use Rattle.texts.specs.Paper.Directory.{startAt}
-use Rattle.sound.specs.Paper.Roll.{rowUpto, readingFrom, reading, ranksRead, textOf, Sound}
+use Rattle.reading.specs.Paper.Reading.{rowUpto, ranksRead}
+use Rattle.reading.specs.Helpers.Codewords.{Reads, foundAt}
+use Rattle.reading.specs.Laws.Reading.{whole-is}
+use Rattle.reading.specs.declared.codewords.Found.the-variants.{Word}
+use Rattle.sound.specs.Paper.Roll.{readingFrom, reading, textOf, Sound}
 use Rattle.sound.specs.Paper.Lengths.{lengthsOf}
-use Rattle.sound.specs.Helpers.Codewords.{Reads, foundAt}
-use Rattle.sound.specs.Laws.Reading.{whole-is}
-use Rattle.sound.specs.Laws.Codewords.{found-rank, start-upto}
+use Rattle.sound.specs.Laws.Starts.{found-rank, start-upto}
 use Rattle.sound.specs.declared.records.Roll.{Roll}
-use Rattle.sound.specs.declared.reading.Found.the-variants.{Word}
 
 -- ---- a sound roll
 

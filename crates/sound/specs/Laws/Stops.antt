@@ -11,7 +11,7 @@ use lib.ListN.{length, drop, getD}
 use lib.Seq.{drop-cons}
 use Rattle.ground.specs.Laws.Rows.{length-tab, tab-at}
 use Rattle.stopper.specs.Paper.Table.{stoppers, goodCode}
-use Rattle.stopper.specs.Laws.Table.{one-number, code-width}
+use Rattle.stopper.specs.Laws.Table.{one-place, code-width}
 use Rattle.stopper.specs.declared.code.Code.{Code}
 use Rattle.symbols.specs.Paper.Symbols.{per, symbolsOf}
 use Rattle.symbols.specs.Helpers.Widths.{Width}
@@ -23,20 +23,17 @@ module _ (c : Code) where
   abbrev st : ℕ → ℕ
   st = stoppers c
 
-  one-place : (i : ℕ) → st i ≡ st 0
-  one-place i = one-number c i ∙ sym (one-number c 0)
-
   -- with one stopper count for all places the place of the next symbol does not matter
   pub stops-place : (i : ℕ) (ys : List ℕ) → stops st i ys ≡ stops st 0 ys
   unfolding stops
   stops-place i [] = refl
-  stops-place i (y ∷ ys) = rw (one-place i, stops-place (suc i) ys, stops-place 1 ys)
+  stops-place i (y ∷ ys) = rw (one-place c i, stops-place (suc i) ys, stops-place 1 ys)
 
   pub end-place : (n i : ℕ) (ys : List ℕ) → endOf st n i ys ≡ endOf st n 0 ys
   unfolding endOf
   end-place zero i ys = refl
   end-place (suc n) i [] = refl
-  end-place (suc n) i (y ∷ ys) = rw (one-place i, end-place (suc n) (suc i) ys, end-place (suc n) 1 ys)
+  end-place (suc n) i (y ∷ ys) = rw (one-place c i, end-place (suc n) (suc i) ys, end-place (suc n) 1 ys)
 
   -- a continuer
   module _ (y : ℕ) (ys : List ℕ) (h : st 0 ≤ y) where

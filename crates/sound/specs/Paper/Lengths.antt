@@ -6,7 +6,8 @@ use lib.ListN.{take}
 use Rattle.stopper.specs.Paper.Table.{characters, rankIn, lengthOf}
 use Rattle.stopper.specs.declared.table.Table.{Table}
 use Rattle.texts.specs.Paper.Directory.{directoryOf, entries}
-use Rattle.sound.specs.Paper.Roll.{reading, ranksRead}
+use Rattle.reading.specs.Paper.Reading.{ranksRead}
+use Rattle.sound.specs.Paper.Roll.{reading}
 use Rattle.sound.specs.declared.records.Roll.{Roll}
 
 -- the lengths of a sound roll's codewords: n of them

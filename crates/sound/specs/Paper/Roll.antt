@@ -1,17 +1,18 @@
 -- A text packed under a table, and a roll in its buffer.
 use mathlib.Core.Path.{_≡_}
-use mathlib.Core.Bool.{Bool, true, false}
+use mathlib.Core.Bool.{false}
 use mathlib.Core.List.{List, map}
 use Prim.Native.Nat.{ℕ, _*_, _≤_}
 use lib.Dec.{T}
-use lib.ListN.{length, take, drop, getD}
+use lib.ListN.{length, getD}
 use Rattle.ground.specs.Paper.Runs.{run}
 use Rattle.ground.specs.Paper.Rows.{allZero}
 use Rattle.stopper.specs.Paper.Table.{base, stoppers, goodTable, characters, rankIn}
-use Rattle.stopper.specs.Paper.Reading.{Reading, done, bad, readFrom, write}
+use Rattle.stopper.specs.Paper.Reading.{Reading, write}
 use Rattle.stopper.specs.declared.code.Code.{Code}
 use Rattle.stopper.specs.declared.table.Table.{Table}
 use Rattle.symbols.specs.Paper.Symbols.{per, bytesFor, room, symbolsOf}
+use Rattle.reading.specs.Paper.Reading.{rowUpto, rowReading, isBad, ranksRead}
 use Rattle.sound.specs.declared.records.Roll.{Roll}
 
 -- ---- a text under a table
@@ -29,34 +30,12 @@ recordOf t text = record { table = t; n = length text; h = length (symbolsFor t 
 
 -- ---- a roll in its buffer
 
--- the symbols of a buffer up to symbol h
-abbrev pub rowUpto : Code → ℕ → List ℕ → List ℕ
-rowUpto c h buf = take h (symbolsOf (c .k) buf)
-
--- what reading a row as codewords from symbol p on gives
-abbrev pub rowReading : Code → ℕ → List ℕ → ℕ → Reading
-rowReading c σ row p = readFrom (base c) (stoppers c) σ p 0 0 (drop p row)
-
 -- a roll read from symbol p on, and from its first
 unfoldable pub readingFrom : Roll → List ℕ → ℕ → Reading
 readingFrom r buf p = rowReading (r .table .code) (r .table .sigma) (rowUpto (r .table .code) (r .h) buf) p
 
 abbrev pub reading : Roll → List ℕ → Reading
 reading r buf = readingFrom r buf 0
-
--- whether there is a bad codeword, and the ranks read: all of them, or those before the bad one
-unfoldable pub isBad : Reading → Bool
-isBad (done rs) = false
-isBad (bad f p rs) = true
-
-unfoldable pub ranksRead : Reading → List ℕ
-ranksRead (done rs) = rs
-ranksRead (bad f p rs) = rs
-
--- the first symbol of the bad codeword: if there is none, of one that would start at symbol h
-unfoldable pub firstBad : ℕ → Reading → ℕ
-firstBad h (done rs) = h
-firstBad h (bad f p rs) = p
 
 -- the text of a sound roll
 unfoldable pub textOf : Roll → List ℕ → List ℕ

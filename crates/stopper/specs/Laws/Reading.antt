@@ -48,7 +48,7 @@ module _ (m : ℕ) (s : ℕ → ℕ) where
 -- ---- a symbol, place by place
 
 module _ (m : ℕ) (s : ℕ → ℕ) (g : Good m s) (σ : ℕ) where
-  read-stop : (from i x y : ℕ) (w : List ℕ) → y < s i → rankAt m s i x y < σ
+  pub read-stop : (from i x y : ℕ) (w : List ℕ) → y < s i → rankAt m s i x y < σ
       → readFrom m s σ from i x (y ∷ w) ≡ ahead (rankAt m s i x y) (readFrom m s σ (from + suc i) 0 0 w)
   unfolding readFrom
   read-stop from i x y w h k = cond-yes (ltb y (s i)) _ _ (yes-ltb h) ∙ cond-yes (ltb (rankAt m s i x y) σ) _ _ (yes-ltb k)
@@ -57,7 +57,7 @@ module _ (m : ℕ) (s : ℕ → ℕ) (g : Good m s) (σ : ℕ) where
   unfolding readFrom
   read-stuck from i x y w h k = cond-yes (ltb y (s i)) _ _ (yes-ltb h) ∙ cond-no (ltb (rankAt m s i x y) σ) _ _ (no-ltb k)
 
-  read-more : (from i x y : ℕ) (w : List ℕ) → s i ≤ y
+  pub read-more : (from i x y : ℕ) (w : List ℕ) → s i ≤ y
       → readFrom m s σ from i x (y ∷ w) ≡ readFrom m s σ from (suc i) (x * (m - s i) + (y - s i)) w
   unfolding readFrom
   read-more from i x y w h = cond-no (ltb y (s i)) _ _ (no-ltb h)

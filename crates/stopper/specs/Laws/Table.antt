@@ -30,6 +30,9 @@ pub one-number : (c : Code) (i : ℕ) → stoppers c i ≡ c .s
 unfolding stoppers
 one-number c i = refl
 
+pub one-place : (c : Code) (i : ℕ) → stoppers c i ≡ stoppers c 0
+one-place c i = one-number c i ∙ sym (one-number c 0)
+
 module _ (c : Code) (g : T (goodCode c)) where
   code-parts : T (goodWidth (c .k)) × T (leb 1 (c .s)) × T (leb (c .s) (base c - 1))
   unfolding goodCode

@@ -15,7 +15,8 @@ use Rattle.symbols.specs.Paper.Symbols.{symbolsOf}
 use Rattle.texts.specs.Paper.Hits.{stands, listed}
 use Rattle.texts.specs.Helpers.Passing.{grown, passing}
 use Rattle.texts.specs.Laws.Finding.{stands-end, stands-past, stands-same, stands-differ, passing-more, passing-same, listed-none, listed-more, listed-full}
-use Rattle.sound.specs.Paper.Roll.{rowUpto, reading, ranksRead}
+use Rattle.reading.specs.Paper.Reading.{rowUpto, ranksRead}
+use Rattle.sound.specs.Paper.Roll.{reading}
 use Rattle.sound.specs.Helpers.Ends.{endOf, endFrom}
 use Rattle.sound.specs.Laws.Sound.{sound-width, sound-reads, sound-start, sound-length}
 use Rattle.sound.specs.Laws.Ends.{sound-end, sound-one, sound-next}

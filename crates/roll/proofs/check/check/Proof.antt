@@ -14,9 +14,9 @@ use Rattle.symbols.specs.Helpers.Widths.{Width}
 use Rattle.symbols.specs.Laws.Width.{per-few}
 use Rattle.symbols.specs.Laws.Sizes.{bytesFor-enough, bytesFor-least}
 use Rattle.symbols.specs.Laws.Rows.{ends-inside}
+use Rattle.reading.specs.Helpers.Codewords.{Reads, scanned}
+use Rattle.reading.specs.declared.codewords.Scan.the-variants.{Whole}
 use Rattle.sound.specs.Paper.Roll.{readingFrom, reading, unusedOf}
-use Rattle.sound.specs.Helpers.Codewords.{Reads, scanned}
-use Rattle.sound.specs.declared.reading.Scan.the-variants.{Whole}
 use Rattle.roll.specs.Paper.Operations.{fitSays, checkSays}
 use Rattle.roll.specs.Laws.Operations.{fits-reads, check-6, check-7, check-last}
 use Rattle.roll.proofs.check.check.Statement.{statement}

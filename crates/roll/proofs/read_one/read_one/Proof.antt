@@ -11,12 +11,13 @@ use Rattle.ground.specs.Laws.Answers.{says-as}
 use Rattle.ground.specs.Laws.Refusals.{Accepted}
 use Rattle.ground.specs.declared.answers.Answer.the-variants.{Refused}
 use Rattle.stopper.specs.Paper.Table.{goodCode}
-use Rattle.sound.specs.Paper.Roll.{rowUpto, readingFrom, ranksRead, firstBad}
-use Rattle.sound.specs.Helpers.Codewords.{Reads, foundAt, passedFrom}
-use Rattle.sound.specs.Laws.Codewords.{found-word, passed-upto, passed-over, passed-none, passed-word}
+use Rattle.reading.specs.Paper.Reading.{rowUpto, ranksRead, firstBad}
+use Rattle.reading.specs.Helpers.Codewords.{Reads, foundAt, passedFrom}
+use Rattle.reading.specs.Laws.Codewords.{found-word, passed-upto, passed-over, passed-none, passed-word}
+use Rattle.reading.specs.declared.codewords.Found.the-variants.{Word}
+use Rattle.reading.specs.declared.codewords.Passed.the-variants.{At}
+use Rattle.sound.specs.Paper.Roll.{readingFrom}
 use Rattle.sound.specs.Laws.Sound.{row-length}
-use Rattle.sound.specs.declared.reading.Found.the-variants.{Word}
-use Rattle.sound.specs.declared.reading.Passed.the-variants.{At}
 use Rattle.roll.specs.Paper.Operations.{fitSays, fromEntry, readSays, ReadingOne}
 use Rattle.roll.specs.Laws.Accepting.{fits-is, ReadsOne, reads-is}
 use Rattle.roll.specs.Laws.Operations.{fits-reads}

@@ -15,12 +15,13 @@ use Rattle.stopper.specs.Paper.Table.{lengthOf}
 use Rattle.stopper.specs.Laws.Table.{table-few}
 use Rattle.stopper.specs.declared.code.Code.{Code}
 use Rattle.texts.specs.Paper.Directory.{startAt}
-use Rattle.sound.specs.Paper.Roll.{rowUpto, rowReading, readingFrom, ranksRead, textOf}
+use Rattle.reading.specs.Paper.Reading.{rowUpto, rowReading, ranksRead}
+use Rattle.reading.specs.Helpers.Codewords.{foundAt}
+use Rattle.reading.specs.declared.codewords.Found.the-variants.{Word}
+use Rattle.sound.specs.Paper.Roll.{readingFrom, textOf}
 use Rattle.sound.specs.Paper.Lengths.{lengthsOf}
-use Rattle.sound.specs.Helpers.Codewords.{foundAt}
 use Rattle.sound.specs.Laws.Sound.{sound-reads, sound-below, sound-found, sound-start}
 use Rattle.sound.specs.Laws.Ends.{sound-end, sound-first}
-use Rattle.sound.specs.declared.reading.Found.the-variants.{Word}
 use Rattle.sound.proofs.range.unpack_sound.Statement.{statement}
 use Rattle.sound.proofs.range.unpack_sound.Tie as tie
 

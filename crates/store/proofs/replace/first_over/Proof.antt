@@ -8,10 +8,11 @@ use borrow.Author.Needs.{needs}
 use lib.ListN.{drop}
 use Rattle.stopper.specs.Paper.Table.{characters}
 use Rattle.texts.specs.Paper.Directory.{startAt}
-use Rattle.sound.specs.Paper.Roll.{reading, ranksRead, textOf}
+use Rattle.reading.specs.Paper.Reading.{ranksRead}
+use Rattle.sound.specs.Paper.Roll.{reading, textOf}
 use Rattle.sound.specs.Paper.Lengths.{lengthsOf}
 use Rattle.sound.specs.Helpers.Ends.{endFrom}
-use Rattle.sound.specs.Laws.Codewords.{start-next}
+use Rattle.sound.specs.Laws.Starts.{start-next}
 use Rattle.sound.specs.Laws.Ends.{sound-end, sound-one, sound-next}
 use Rattle.store.specs.Paper.Fitting.{firstOver}
 use Rattle.store.specs.Laws.Editing.{over-from}

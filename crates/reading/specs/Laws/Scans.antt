@@ -6,13 +6,13 @@ use native.Mathlib.Omega.{arith}
 use lib.ListN.{length, drop-of-length-le}
 use Rattle.stopper.specs.Paper.Reading.{Fault, Reading, done, bad, ahead, readFrom}
 use Rattle.stopper.specs.declared.code.Code.{Code}
-use Rattle.sound.specs.Paper.Roll.{rowReading}
-use Rattle.sound.specs.Helpers.Codewords.{foundAt, passedFrom, scanned}
-use Rattle.sound.specs.Laws.Codewords.{Stands}
-use Rattle.sound.specs.declared.reading.Found.the-variants.{Word, Bad as none-found}
-use Rattle.sound.specs.declared.reading.Scan.{Scan}
-use Rattle.sound.specs.declared.reading.Scan.the-variants.{Whole, Bad}
-use Rattle.sound.specs.declared.reading.Passed.the-variants.{At, Bad as passed-bad}
+use Rattle.reading.specs.Paper.Reading.{rowReading}
+use Rattle.reading.specs.Helpers.Codewords.{foundAt, passedFrom, scanned}
+use Rattle.reading.specs.Laws.Codewords.{Stands}
+use Rattle.reading.specs.declared.codewords.Found.the-variants.{Word, Bad as none-found}
+use Rattle.reading.specs.declared.codewords.Scan.{Scan}
+use Rattle.reading.specs.declared.codewords.Scan.the-variants.{Whole, Bad}
+use Rattle.reading.specs.declared.codewords.Passed.the-variants.{At, Bad as passed-bad}
 
 -- with so many codewords before
 unfoldable pub plus : ℕ → Scan → Scan
@@ -23,12 +23,12 @@ plus count (Bad p) = Bad p
 unfoldable pub scanFrom : Code → ℕ → List ℕ → ℕ → ℕ → Scan
 scanFrom c σ row p count = plus count (scanned (rowReading c σ row p))
 
-plus-ahead : (n r : ℕ) (o : Reading) → plus n (scanned (ahead r o)) ≡ plus (n + 1) (scanned o)
+pub plus-ahead : (n r : ℕ) (o : Reading) → plus n (scanned (ahead r o)) ≡ plus (n + 1) (scanned o)
 unfolding plus scanned ahead
 plus-ahead n r (done rs) = ap {B = Scan} (λ (k : ℕ). Whole k) (omega arith)
 plus-ahead n r (bad f p rs) = refl
 
-plus-none : (v : Scan) → v ≡ plus 0 v
+pub plus-none : (v : Scan) → v ≡ plus 0 v
 unfolding plus
 plus-none (Whole n) = ap {B = Scan} (λ (k : ℕ). Whole k) (omega arith)
 plus-none (Bad p) = refl

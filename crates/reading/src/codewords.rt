@@ -5,8 +5,8 @@ use stopper::reading::opening;
 use stopper::reading::read_symbol;
 use symbols::symbol::get;
 ghost use mathlib.Core.Path.{_≡_};
-ghost use Rattle.sound.specs.Paper.Roll.{rowUpto, rowReading};
-ghost use Rattle.sound.specs.Helpers.Codewords.{Reads, foundAt, passedFrom, scanned};
+ghost use Rattle.reading.specs.Paper.Reading.{rowUpto, rowReading};
+ghost use Rattle.reading.specs.Helpers.Codewords.{Reads, foundAt, passedFrom, scanned};
 
 // A codeword: its rank, and the symbol after it; or a bad one.
 pub enum Found {
@@ -58,7 +58,7 @@ pub fn codeword_at(code: Code, sigma: u32, buf: &[u8], h: usize, p: usize) -> Fo
 }
 
 // All codewords from the first on.
-pub fn read_all(code: Code, sigma: u32, buf: &[u8], h: usize) -> Scan
+pub fn read_each(code: Code, sigma: u32, buf: &[u8], h: usize) -> Scan
     requires { ⌜ Reads code sigma (now buf) h 0 ⌝ }
     ensures { λ r. ⌜ r ≡ scanned (rowReading code sigma (rowUpto code h (now (buf .entry))) 0) ⌝ }
 {

@@ -1,4 +1,4 @@
--- `sound::reading::read_all` meets its contract: what is scanned is what the codewords from symbol p on add to the `count` before.
+-- `reading::codewords::read_each` meets its contract: what is scanned is what the codewords from symbol p on add to the `count` before.
 use mathlib.Core.Path.{_≡_, sym, _∙_}
 use mathlib.Core.List.{List}
 use Prim.Native.Nat.{ℕ, _-_, _≤_}
@@ -7,12 +7,12 @@ use borrow.Author.Needs.{needs}
 use lib.ListN.{length}
 use lib.Seq.{length-take-le}
 use Rattle.symbols.specs.Paper.Symbols.{symbolsOf}
-use Rattle.sound.specs.Paper.Roll.{rowUpto, rowReading}
-use Rattle.sound.specs.Helpers.Codewords.{scanned}
-use Rattle.sound.specs.Laws.Codewords.{Stands, found-word, found-bad}
-use Rattle.sound.specs.Laws.Scans.{scanFrom, scan-first, scan-word, scan-bad, scan-end}
-use Rattle.sound.proofs.reading.read_all.Statement.{statement}
-use Rattle.sound.proofs.reading.read_all.Tie as tie
+use Rattle.reading.specs.Paper.Reading.{rowUpto, rowReading}
+use Rattle.reading.specs.Helpers.Codewords.{scanned}
+use Rattle.reading.specs.Laws.Codewords.{Stands, found-word, found-bad}
+use Rattle.reading.specs.Laws.Scans.{scanFrom, scan-first, scan-word, scan-bad, scan-end}
+use Rattle.reading.proofs.codewords.read_each.Statement.{statement}
+use Rattle.reading.proofs.codewords.read_each.Tie as tie
 
 abbrev Inv-loop : tie.InvT-loop
 Inv-loop code sigma buf h p₀ count₀ p count =
@@ -67,8 +67,8 @@ returns-2 c =
     let s = l .before .before in
     sym (l .loop .inv .2 ∙ scan-end (s .args .code) (s .args .sigma) (row s) (l .loop .p) (l .loop .count) (omega (arith, long s, c .loop-test .left)))
 
-pub read-all-spec : {M : Type 1} → statement M
-read-all-spec =
+pub read-each-spec : {M : Type 1} → statement M
+read-each-spec =
     tie.close
     (tie.spec
     Inv-loop

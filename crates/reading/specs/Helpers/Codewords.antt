@@ -9,12 +9,12 @@ use Rattle.stopper.specs.Paper.Reading.{Reading, done, bad}
 use Rattle.stopper.specs.Helpers.First.{First, whole, broken, firstWord}
 use Rattle.stopper.specs.declared.code.Code.{Code}
 use Rattle.symbols.specs.Paper.Symbols.{symbolsOf}
-use Rattle.sound.specs.declared.reading.Found.{Found}
-use Rattle.sound.specs.declared.reading.Found.the-variants.{Word, Bad}
-use Rattle.sound.specs.declared.reading.Scan.{Scan}
-use Rattle.sound.specs.declared.reading.Scan.the-variants.{Whole, Bad as scan-bad}
-use Rattle.sound.specs.declared.reading.Passed.{Passed}
-use Rattle.sound.specs.declared.reading.Passed.the-variants.{At, Bad as passed-bad}
+use Rattle.reading.specs.declared.codewords.Found.{Found}
+use Rattle.reading.specs.declared.codewords.Found.the-variants.{Word, Bad}
+use Rattle.reading.specs.declared.codewords.Scan.{Scan}
+use Rattle.reading.specs.declared.codewords.Scan.the-variants.{Whole, Bad as scan-bad}
+use Rattle.reading.specs.declared.codewords.Passed.{Passed}
+use Rattle.reading.specs.declared.codewords.Passed.the-variants.{At, Bad as passed-bad}
 
 -- a place up to symbol h of a buffer that holds so many (the limit is at most 2 ^ 24, so h is)
 pub record Reads (c : Code) (σ : ℕ) (buf : List ℕ) (h p : ℕ) : Type 0 where

@@ -1,4 +1,4 @@
--- `sound::reading::pass_over` meets its contract: what is passed over from symbol `at` on is `left` codewords.
+-- `reading::codewords::pass_over` meets its contract: what is passed over from symbol `at` on is `left` codewords.
 use mathlib.Core.Path.{_≡_, refl, sym, _∙_}
 use mathlib.Core.List.{List}
 use Prim.Native.Nat.{ℕ, _≤_}
@@ -6,12 +6,12 @@ use native.Mathlib.Omega.{arith}
 use borrow.Author.Needs.{needs}
 use lib.Seq.{length-take-le}
 use Rattle.symbols.specs.Paper.Symbols.{symbolsOf}
-use Rattle.sound.specs.Paper.Roll.{rowUpto}
-use Rattle.sound.specs.Helpers.Codewords.{passedFrom}
-use Rattle.sound.specs.Laws.Codewords.{found-word}
-use Rattle.sound.specs.Laws.Scans.{pass-word, pass-bad, pass-none}
-use Rattle.sound.proofs.reading.pass_over.Statement.{statement}
-use Rattle.sound.proofs.reading.pass_over.Tie as tie
+use Rattle.reading.specs.Paper.Reading.{rowUpto}
+use Rattle.reading.specs.Helpers.Codewords.{passedFrom}
+use Rattle.reading.specs.Laws.Codewords.{found-word}
+use Rattle.reading.specs.Laws.Scans.{pass-word, pass-bad, pass-none}
+use Rattle.reading.proofs.codewords.pass_over.Statement.{statement}
+use Rattle.reading.proofs.codewords.pass_over.Tie as tie
 
 abbrev Inv-loop : tie.InvT-loop
 Inv-loop code sigma buf h p count at₀ left₀ here left =

@@ -5,7 +5,7 @@ use mathlib.Core.List.{List, _∷_}
 use Prim.Native.Nat.{ℕ}
 use native.Mathlib.Omega.{arith}
 use Rattle.stopper.specs.Paper.Reading.{Reading, done, bad, ahead}
-use Rattle.sound.specs.Paper.Roll.{isBad, ranksRead, firstBad}
+use Rattle.reading.specs.Paper.Reading.{isBad, ranksRead, firstBad}
 
 pub whole-is : (o : Reading) → isBad o ≡ false → o ≡ done (ranksRead o)
 unfolding isBad ranksRead

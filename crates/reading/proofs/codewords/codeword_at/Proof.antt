@@ -1,4 +1,4 @@
--- `sound::reading::codeword_at` meets its contract: `Seen` of the symbols up to h.
+-- `reading::codewords::codeword_at` meets its contract: `Seen` of the symbols up to h.
 use mathlib.Core.Path.{_≡_, sym, ap, _∙_}
 use mathlib.Core.List.{List}
 use Prim.Native.Nat.{ℕ, suc, _+_, _-_, _≤_, _<_}
@@ -13,10 +13,10 @@ use Rattle.stopper.specs.Laws.Table.{code-width}
 use Rattle.stopper.specs.Laws.Seen.{Seen, seen-none, seen-small, seen-all, seen-past, seen-bad, seen-rank, seen-open}
 use Rattle.symbols.specs.Paper.Symbols.{symbolsOf}
 use Rattle.symbols.specs.Laws.Rows.{symbols-below}
-use Rattle.sound.specs.Paper.Roll.{rowUpto}
-use Rattle.sound.specs.Laws.Codewords.{word-found, none-found}
-use Rattle.sound.proofs.reading.codeword_at.Statement.{statement}
-use Rattle.sound.proofs.reading.codeword_at.Tie as tie
+use Rattle.reading.specs.Paper.Reading.{rowUpto}
+use Rattle.reading.specs.Laws.Codewords.{word-found, none-found}
+use Rattle.reading.proofs.codewords.codeword_at.Statement.{statement}
+use Rattle.reading.proofs.codewords.codeword_at.Tie as tie
 
 abbrev Inv-loop : tie.InvT-loop
 Inv-loop code sigma buf h p k r₀ i₀ r i = (i ≤ h) × (p ≤ i) × Seen code sigma (drop p (rowUpto code h buf)) (i - p) r
