@@ -6,7 +6,7 @@ use symbols::bits::per_byte;
 use symbols::symbol::get;
 ghost use mathlib.Core.Path.{_≡_};
 ghost use mathlib.Core.List.{List, _∷_, []};
-ghost use Prim.Native.Nat.{ℕ, _+_, _*_, _/_, _%_, _≤_, _<_};
+ghost use Prim.Native.Nat.{ℕ, _+_, _*_, _≤_, _<_};
 ghost use lib.Dec.{T};
 ghost use Rattle.stopper.specs.Paper.Table.{stoppers, goodCode};
 ghost use Rattle.symbols.specs.Paper.Symbols.{symbolsOf};
@@ -35,7 +35,7 @@ fn never() -> Move
 // How many numbers there are of which d times as much is at most n.
 fn upto(n: u32, d: u32) -> u32
     requires { ⌜ (n < 256) × (0 < d) ⌝ }
-    ensures { λ r. ⌜ (r ≤ n + 1) × ((x : ℕ) → x < r → x * d ≤ n) ⌝ }
+    ensures { λ r. ⌜ ((x : ℕ) → x < r → x * d ≤ n) × (r ≤ n + 1) ⌝ }
 {
     n / d + 1
 }
