@@ -6,7 +6,7 @@ use symbols::bits::per_byte;
 use symbols::symbol::get;
 ghost use mathlib.Core.Path.{_≡_};
 ghost use mathlib.Core.List.{List, _∷_, []};
-ghost use Prim.Native.Nat.{ℕ, _+_, _*_, _/_, _%_, _≤_, _<_};
+ghost use Prim.Native.Nat.{ℕ, _+_, _*_, _≤_, _<_};
 ghost use lib.Dec.{T};
 ghost use Rattle.stopper.specs.Paper.Table.{stoppers, goodCode};
 ghost use Rattle.symbols.specs.Paper.Symbols.{symbolsOf};
@@ -35,7 +35,7 @@ fn never() -> Move
 // How many numbers there are of which d times as much is at most n.
 fn upto(n: u32, d: u32) -> u32
     requires { ⌜ (n < 256) × (0 < d) ⌝ }
-    ensures { λ r. ⌜ (r ≤ n + 1) × ((x : ℕ) → x < r → x * d ≤ n) ⌝ }
+    ensures { λ r. ⌜ ((x : ℕ) → x < r → x * d ≤ n) × (r ≤ n + 1) ⌝ }
 {
     n / d + 1
 }
@@ -51,7 +51,7 @@ fn stop_before(code: Code, sigma: u32, y: u32, m: Move) -> Move
     if sigma <= y {
         return never();
     }
-    if 255 <= m.stops {
+    if 127 <= m.stops {
         return never();
     }
     let s = stoppers_at(code, 0);
@@ -127,26 +127,20 @@ fn move_of(code: Code, sigma: u32, b: u8) -> Move
     m
 }
 
-pub fn wide(x: u32) -> u64
-    ensures { λ r. ⌜ r ≡ x ⌝ }
-{
-    x as u64
-}
-
 // A move in one number: one load fetches it.
-fn in_one(m: Move) -> u64
+fn in_one(m: Move) -> u32
     requires { ⌜ Small m ⌝ }
     ensures { λ r. ⌜ (boundIn r ≡ m .bound) × (timesIn r ≡ m .times) × (plusIn r ≡ m .plus) × (stopsIn r ≡ m .stops) ⌝ }
 {
-    wide(m.bound) + 65536 * wide(m.times) + 16777216 * wide(m.plus) + 4294967296 * wide(m.stops)
+    m.bound + 512 * m.times + 131072 * m.plus + 33554432 * m.stops
 }
 
 // The move of each byte value.
-pub fn moves_by_byte(code: Code, sigma: u32) -> [u64; 256]
+pub fn moves_by_byte(code: Code, sigma: u32) -> [u32; 256]
     requires { ⌜ T (goodCode code) × (sigma ≤ 256) ⌝ }
     ensures { λ r. ⌜ MovesByByte code sigma r 256 ⌝ }
 {
-    let mut t = [0u64; 256];
+    let mut t = [0u32; 256];
     let mut b: usize = 0;
     while b < 256 {
         let m = move_of(code, sigma, b as u8);
@@ -157,16 +151,16 @@ pub fn moves_by_byte(code: Code, sigma: u32) -> [u64; 256]
 }
 
 // How many codewords a byte ends.
-pub fn ended(e: u64) -> u64
-    ensures { λ r. ⌜ (r ≡ stopsIn e) × (r ≤ 4294967295) ⌝ }
+pub fn ended(e: u32) -> usize
+    ensures { λ r. ⌜ (r ≡ stopsIn e) × (r ≤ 127) ⌝ }
 {
-    e / 4294967296
+    (e / 33554432) as usize
 }
 
 // The state after a byte.
-pub fn moved(e: u64, x: u64) -> u64
-    requires { ⌜ x < 65536 ⌝ }
-    ensures { λ r. ⌜ (r ≡ x * timesIn e + plusIn e) × (r < 16777216) ⌝ }
+pub fn moved(e: u32, x: u32) -> u32
+    requires { ⌜ x < 512 ⌝ }
+    ensures { λ r. ⌜ (r ≡ x * timesIn e + plusIn e) × (r < 131072) ⌝ }
 {
-    x * (e / 65536 % 256) + e / 16777216 % 256
+    x * (e / 512 % 256) + e / 131072 % 256
 }

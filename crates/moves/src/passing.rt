@@ -2,7 +2,6 @@
 use crate::byte::ended;
 use crate::byte::moved;
 use crate::byte::moves_by_byte;
-use crate::byte::wide;
 use reading::codewords::Scan;
 use reading::codewords::read_each;
 use stopper::code::Code;
@@ -25,8 +24,8 @@ const FEW: usize = 2048;
 // Whether all symbols so far were taken; the state after them, and how many codewords ended.
 pub struct Way {
     pub through: bool,
-    pub x: u64,
-    pub n: u64,
+    pub x: u32,
+    pub n: usize,
 }
 
 // Refused: what was met is found out by reading.
@@ -41,10 +40,10 @@ fn lost() -> Way
 }
 
 // A byte as a number, and as a place in a row of 256.
-fn byte(b: u8) -> u64
+fn byte(b: u8) -> u32
     ensures { λ r. ⌜ (r ≡ b) × (r < 256) ⌝ }
 {
-    b as u64
+    b as u32
 }
 
 fn index(b: u8) -> usize
@@ -61,21 +60,21 @@ fn even(n: usize) -> usize
 }
 
 // The whole bytes, two by two.
-fn pass(k: u8, s: u8, sigma: u32, t: &[u64; 256], buf: &[u8], h: usize, whole: usize) -> Way
+fn pass(k: u8, s: u8, sigma: u32, t: &[u32; 256], buf: &[u8], h: usize, whole: usize) -> Way
     requires { ⌜ (Reads (evenCode k s) sigma (now buf) h 0) × (MovesByByte (evenCode k s) sigma (now t) 256) × (whole * per k ≤ h) × (whole % 2 ≡ 0) ⌝ }
-    ensures { λ r. ⌜ Taken (evenCode k s) sigma (rowUpto (evenCode k s) h (now (buf .entry))) (whole * per k) r × (r .x < 16777216) × (r .n ≤ whole * 4294967295) ⌝ }
+    ensures { λ r. ⌜ Taken (evenCode k s) sigma (rowUpto (evenCode k s) h (now (buf .entry))) (whole * per k) r × (r .x < 131072) × (r .n ≤ whole * 127) ⌝ }
 {
     let mut j: usize = 0;
-    let mut x: u64 = 0;
-    let mut n: u64 = 0;
+    let mut x: u32 = 0;
+    let mut n: usize = 0;
     while j < whole {
         let e = t[index(buf[j])];
-        if e % 65536 <= x {
+        if e % 512 <= x {
             return lost();
         }
         let y = moved(e, x);
         let f = t[index(buf[j + 1])];
-        if f % 65536 <= y {
+        if f % 512 <= y {
             return lost();
         }
         x = moved(f, y);
@@ -91,26 +90,25 @@ fn pass(k: u8, s: u8, sigma: u32, t: &[u64; 256], buf: &[u8], h: usize, whole: u
 
 // The symbols from the first not passed on, one by one.
 fn finish(k: u8, s: u8, sigma: u32, buf: &[u8], h: usize, first: usize, way: Way) -> Way
-    requires { ⌜ (Reads (evenCode k s) sigma (now buf) h 0) × (first ≤ h) × (Here (evenCode k s) sigma (rowUpto (evenCode k s) h (now buf)) first (way .x) (way .n)) × (way .x < 16777216) × (way .n ≤ first * 4294967295) ⌝ }
+    requires { ⌜ (Reads (evenCode k s) sigma (now buf) h 0) × (first ≤ h) × (Here (evenCode k s) sigma (rowUpto (evenCode k s) h (now buf)) first (way .x) (way .n)) × (way .x < 131072) × (way .n ≤ first * 127) ⌝ }
     ensures { λ r. ⌜ Taken (evenCode k s) sigma (rowUpto (evenCode k s) h (now (buf .entry))) h r ⌝ }
 {
-    let limit = wide(sigma);
     let few = byte(s);
-    let many = wide(base_of(Code { k, s })) - few;
+    let many = base_of(Code { k, s }) - few;
     let mut i = first;
     let mut x = way.x;
     let mut n = way.n;
     while i < h {
         let y = byte(get(k, buf, i));
         if y < few {
-            if limit <= x * few + y {
+            if sigma <= x * few + y {
                 return lost();
             }
             x = 0;
             n += 1;
         } else {
             x = x * many + (y - few + 1);
-            if 16777216 <= x {
+            if 131072 <= x {
                 return lost();
             }
         }
@@ -137,7 +135,7 @@ fn by_bytes(code: Code, sigma: u32, buf: &[u8], h: usize) -> Scan
         let all = finish(k, s, sigma, buf, h, whole * per_byte(k), bytes);
         if all.through {
             if all.x == 0 {
-                return Scan::Whole(all.n as usize);
+                return Scan::Whole(all.n);
             }
         }
     }

@@ -1,5 +1,5 @@
 // The packed roll: a text packed as base symbols in a lent buffer, with its record.
-// Each operation is its refusals, in the paper's order, and then a helper of the crates below: `sound`, `find` or `store`.
+// Each operation is its refusals, in the paper's order, and then a helper of the crates below: `reading`, `moves`, `sound`, `find` or `store`.
 pub mod check;
 pub mod edit;
 mod fits;

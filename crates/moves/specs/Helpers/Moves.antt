@@ -48,20 +48,20 @@ pub record Small (m : Move) : Type 0 where
   pub bound : m .bound ≤ 256
   pub times : m .times ≤ 255
   pub plus : m .plus ≤ 255
-  pub stops : m .stops ≤ 255
+  pub stops : m .stops ≤ 127
 
 -- a move in one number
 abbrev pub boundIn : ℕ → ℕ
-boundIn e = e % 65536
+boundIn e = e % 512
 
 abbrev pub timesIn : ℕ → ℕ
-timesIn e = e / 65536 % 256
+timesIn e = e / 512 % 256
 
 abbrev pub plusIn : ℕ → ℕ
-plusIn e = e / 16777216 % 256
+plusIn e = e / 131072 % 256
 
 abbrev pub stopsIn : ℕ → ℕ
-stopsIn e = e / 4294967296
+stopsIn e = e / 33554432
 
 -- that of byte b
 abbrev pub MoveIn : Code → ℕ → ℕ → ℕ → Type 0

@@ -71,10 +71,10 @@ returns-4 c =
     let b = e3 .before .before .before .before .before .before .before in
     let s = b .before .before in
     let k = s .args .code in (
-      record { bound = omega (arith, c .upto .ensures .0, s .pre .1 .bound); times = e3 .before .if2 .left; plus = e3 .if3 .left; stops = s .pre .1 .stops },
+      record { bound = omega (arith, c .upto .ensures .1, s .pre .1 .bound); times = e3 .before .if2 .left; plus = e3 .if3 .left; stops = s .pre .1 .stops },
       λ w h. rw (few b, b .base-of .ensures) (goes-more k (s .pre .0) (s .args .sigma) (s .args .y) (c .upto .result) h (s .pre .2)
           (λ x l.
-          let a = c .upto .ensures .1 x l in
+          let a = c .upto .ensures .0 x l in
           let f : x * (b .base-of .result - b .before .stoppers-at .result) ≡ x * (base k - stoppers k 0) = rw (few b, b .base-of .ensures) in
           omega (arith, a, f, few b, e3 .before .before .if1 .left))),
     )

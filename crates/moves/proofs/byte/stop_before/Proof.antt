@@ -42,9 +42,9 @@ returns-4 c =
     let u = c .before in
     let s = u .before .before .before .before .before .before .before in
     let e : u .before .stoppers-at .result ≡ stoppers (s .args .code) 0 = u .before .stoppers-at .ensures in (
-      record { bound = omega (arith, u .upto .ensures .0, s .pre .1); times = omega arith; plus = s .pre .2 .plus; stops = omega arith },
+      record { bound = omega (arith, u .upto .ensures .1, s .pre .1); times = omega arith; plus = s .pre .2 .plus; stops = omega arith },
       λ w h. goes-stop (s .args .code) (s .pre .0) (s .args .sigma) (s .args .y) (u .upto .result) h (s .pre .3) (omega arith)
-          (λ x l. let k = u .upto .ensures .1 x l in let f : x * u .before .stoppers-at .result ≡ x * stoppers (s .args .code) 0 = ap (λ (n : ℕ). x * n) e in omega arith),
+          (λ x l. let k = u .upto .ensures .0 x l in let f : x * u .before .stoppers-at .result ≡ x * stoppers (s .args .code) 0 = ap (λ (n : ℕ). x * n) e in omega arith),
     )
 
 pub stop-before-spec : {M : Type 1} → statement M

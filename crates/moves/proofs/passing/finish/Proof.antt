@@ -18,40 +18,37 @@ use Rattle.moves.proofs.passing.finish.Statement.{statement}
 use Rattle.moves.proofs.passing.finish.Tie as tie
 
 abbrev Inv-loop : tie.InvT-loop
-Inv-loop k s sigma buf h first limit few many i₀ x₀ n₀ i x n =
-    (i ≤ h) × (x < 16777216) × (n ≤ i * 4294967295) × Here (evenCode k s) sigma (rowUpto (evenCode k s) h buf) i x n
+Inv-loop k s sigma buf h first few many i₀ x₀ n₀ i x n =
+    (i ≤ h) × (x < 131072) × (n ≤ i * 127) × Here (evenCode k s) sigma (rowUpto (evenCode k s) h buf) i x n
 
 abbrev μ-loop : tie.MeasureT-loop
-μ-loop k s sigma buf h first limit few many i₀ x₀ n₀ i x n = h - i
+μ-loop k s sigma buf h first few many i₀ x₀ n₀ i x n = h - i
 
 -- the place before the loop
 abbrev begun : (c : tie.At-loop Inv-loop μ-loop) → tie.Start Inv-loop μ-loop
-begun c = c .before .before .before .before .before .before
+begun c = c .before .before .before .before
 
 same-sum : {w b f s y r : ℕ} (x : ℕ) → w ≡ b → f ≡ s → y ≡ r → x * (w - f) + (y - f + 1) ≡ x * (b - s) + (r - s + 1)
 same-sum x d e g = rw (d, e, g)
 
 -- the code's numbers
-few-is : (a : tie.After-wide2 Inv-loop μ-loop) → let s = a .before .before .before .before .before in a .before .before .byte .result ≡ stoppers (evenCode (s .args .k) (s .args .s)) 0
-few-is a = let s = a .before .before .before .before .before in a .before .before .byte .ensures .0 ∙ sym (one-number (evenCode (s .args .k) (s .args .s)) 0)
+few-is : (a : tie.After-base-of Inv-loop μ-loop) → let s = a .before .before .before in a .before .byte .result ≡ stoppers (evenCode (s .args .k) (s .args .s)) 0
+few-is a = let s = a .before .before .before in a .before .byte .ensures .0 ∙ sym (one-number (evenCode (s .args .k) (s .args .s)) 0)
 
-many-is : (a : tie.After-wide2 Inv-loop μ-loop) → let s = a .before .before .before .before .before in a .wide2 .result ≡ base (evenCode (s .args .k) (s .args .s))
-many-is a = a .wide2 .ensures ∙ a .before .base-of .ensures
+high : (a : tie.After-base-of Inv-loop μ-loop) → let s = a .before .before .before in let code = evenCode (s .args .k) (s .args .s) in stoppers code 0 < base code
+high a = let s = a .before .before .before in code-good (evenCode (s .args .k) (s .args .s)) (s .pre .0 .good) .high 0
 
-high : (a : tie.After-wide2 Inv-loop μ-loop) → let s = a .before .before .before .before .before in let code = evenCode (s .args .k) (s .args .s) in stoppers code 0 < base code
-high a = let s = a .before .before .before .before .before in code-good (evenCode (s .args .k) (s .args .s)) (s .pre .0 .good) .high 0
-
-stop-small : (i : tie.In-loop Inv-loop μ-loop) → i .before .loop .x * i .before .before .before .before .byte .result ≤ 16777216 * 256
+stop-small : (i : tie.In-loop Inv-loop μ-loop) → i .before .loop .x * i .before .before .before .byte .result ≤ 131072 * 256
 stop-small i =
     let l = i .before in
-    mul-le-mul {n₁ = l .loop .x} {m₁ = l .before .before .before .byte .result} {n₂ = 16777216} {m₂ = 256} (omega (arith, l .loop .inv .1)) (omega (arith, l .before .before .before .byte .ensures .1))
+    mul-le-mul {n₁ = l .loop .x} {m₁ = l .before .before .byte .result} {n₂ = 131072} {m₂ = 256} (omega (arith, l .loop .inv .1)) (omega (arith, l .before .before .byte .ensures .1))
 
-more-small : (i : tie.In-loop Inv-loop μ-loop) → let l = i .before in l .loop .x * (l .before .wide2 .result - l .before .before .before .byte .result) ≤ 16777216 * 16
+more-small : (i : tie.In-loop Inv-loop μ-loop) → let l = i .before in l .loop .x * (l .before .base-of .result - l .before .before .byte .result) ≤ 131072 * 16
 more-small i =
     let l = i .before in
     let s = begun l in
-    mul-le-mul {n₁ = l .loop .x} {m₁ = l .before .wide2 .result - l .before .before .before .byte .result} {n₂ = 16777216} {m₂ = 16} (omega (arith, l .loop .inv .1))
-    (omega (arith, many-is (l .before), code-base (evenCode (s .args .k) (s .args .s)) (s .pre .0 .good) .1))
+    mul-le-mul {n₁ = l .loop .x} {m₁ = l .before .base-of .result - l .before .before .byte .result} {n₂ = 131072} {m₂ = 16} (omega (arith, l .loop .inv .1))
+    (omega (arith, l .before .base-of .ensures, code-base (evenCode (s .args .k) (s .args .s)) (s .pre .0 .good) .1))
 
 -- the symbol in hand
 symbol-is : (y : tie.After-byte2 Inv-loop μ-loop) → let l = y .before .before .before in let s = begun l in
@@ -64,15 +61,15 @@ symbol-is y =
 
 base-of-requires : tie.Need-base-of-requires Inv-loop μ-loop
 base-of-requires c κs =
-    c .before .before .before .pre .0 .good
+    c .before .before .pre .0 .good
 
 sub-many : tie.Need-sub-many Inv-loop μ-loop
 sub-many c =
-    omega (arith, few-is c, many-is c, high c)
+    omega (arith, few-is c, c .base-of .ensures, high c)
 
 loop-holds : tie.Need-loop-holds Inv-loop μ-loop
 loop-holds c =
-    let p = c .before .before .before .before .before .pre in
+    let p = c .before .before .before .pre in
     (p .1, p .3, p .4, p .2)
 
 get-requires : tie.Need-get-requires Inv-loop μ-loop
@@ -134,20 +131,20 @@ loop-again c =
     let a : l .loop .i + 1 ≡ suc (l .loop .i) = omega arith in
     let inside : l .loop .i < length row = omega (arith, length-take-le (s .args .h) (symbolsOf (s .args .k) (s .args .buf .now)) (s .pre .0 .held), i .loop-test .taken) in
     let r : y .byte2 .result ≡ getD row (l .loop .i) 0 = symbol-is y in
-    let f : l .before .before .before .byte .result ≡ stoppers k 0 = few-is (l .before) in
-    let b : l .before .wide2 .result ≡ base k = many-is (l .before) in
+    let f : l .before .before .byte .result ≡ stoppers k 0 = few-is (l .before) in
+    let b : l .before .base-of .result ≡ base k = l .before .base-of .ensures in
     ⊎-elim
     (λ p.
-    let m : l .loop .x * l .before .before .before .byte .result ≡ l .loop .x * stoppers k 0 = ap (λ (n : ℕ). l .loop .x * n) f in
+    let m : l .loop .x * l .before .before .byte .result ≡ l .loop .x * stoppers k 0 = ap (λ (n : ℕ). l .loop .x * n) f in
     rw (p .2, p .3, a) (
       omega (arith, i .loop-test .taken),
       omega arith,
       omega (arith, l .loop .inv .2),
       here-stop k (s .pre .0 .good) (s .args .sigma) row (l .loop .inv .3) inside (omega (arith, r, f, p .0 .taken))
-          (omega (arith, r, m, p .1 .left, l .before .before .before .before .wide .ensures)),
+          (omega (arith, r, m, p .1 .left)),
     ))
     (λ p.
-    let u : c .if1 .x < 16777216 = rw (p .2) (p .1 .left) in (
+    let u : c .if1 .x < 131072 = rw (p .2) (p .1 .left) in (
       omega (arith, i .loop-test .taken),
       u,
       omega (arith, l .loop .inv .2, p .3),
@@ -168,9 +165,7 @@ finish-spec =
     Inv-loop
     μ-loop
     (λ c κs. search needs)
-    (λ c κs. search needs)
     base-of-requires
-    (λ c κs. search needs)
     sub-many
     loop-holds
     get-requires

@@ -1,7 +1,7 @@
 -- `moves::passing::pass` meets its contract: `Here` after every two bytes.
 use mathlib.Core.Path.{_≡_, refl, sym, _∙_, ap}
 use mathlib.Core.Bool.{true, false}
-use Prim.Native.Nat.{ℕ, suc, _+_, _-_, _*_, _/_, _%_, _≤_, _<_}
+use Prim.Native.Nat.{ℕ, suc, _+_, _-_, _*_, _%_, _≤_, _<_}
 use native.Mathlib.Nat.{mul-le-mul-right, le-mul-of-pos-right}
 use native.Mathlib.Omega.{arith}
 use borrow.Author.Needs.{needs}
@@ -13,14 +13,14 @@ use Rattle.symbols.specs.Paper.Symbols.{per, symbolsOf}
 use Rattle.symbols.specs.Laws.Width.{per-pos}
 use Rattle.symbols.specs.Laws.Rows.{starts-within}
 use Rattle.reading.specs.Paper.Reading.{rowUpto}
-use Rattle.moves.specs.Helpers.Moves.{Here}
+use Rattle.moves.specs.Helpers.Moves.{boundIn, timesIn, plusIn, stopsIn, Here}
 use Rattle.moves.specs.Laws.Moves.{here-start, here-goes, here-as, byte-split}
 use Rattle.moves.proofs.passing.pass.Statement.{statement}
 use Rattle.moves.proofs.passing.pass.Tie as tie
 
 abbrev Inv-loop : tie.InvT-loop
 Inv-loop k s sigma t buf h whole j₀ x₀ n₀ j x n =
-    (j ≤ whole) × (j % 2 ≡ 0) × (x < 16777216) × (n ≤ j * 4294967295) × Here (evenCode k s) sigma (rowUpto (evenCode k s) h buf) (j * per k) x n
+    (j ≤ whole) × (j % 2 ≡ 0) × (x < 131072) × (n ≤ j * 127) × Here (evenCode k s) sigma (rowUpto (evenCode k s) h buf) (j * per k) x n
 
 abbrev μ-loop : tie.MeasureT-loop
 μ-loop k s sigma t buf h whole j₀ x₀ n₀ j x n = whole - j
@@ -48,11 +48,11 @@ few c =
     let w = code-width (evenCode (s .args .k) (s .args .s)) (s .pre .0 .good) in
     omega (arith, le-mul-of-pos-right (s .args .whole) (per-pos w), s .pre .2, s .pre .0 .small)
 
--- one byte, b, and its entry
+-- one byte, b, and its move
 step : (c : tie.In-loop Inv-loop μ-loop) (j b x n : ℕ) → suc j ≤ c .before .before .before .args .whole → let s = c .before .before .before in
     let code = evenCode (s .args .k) (s .args .s) in let row = rowUpto code (s .args .h) (s .args .buf .now) in let e = getD (s .args .t .now) b 0 in
-    b ≡ getD (s .args .buf .now) j 0 → b < 256 → x < e % 65536 → Here code (s .args .sigma) row (j * per (s .args .k)) x n
-    → Here code (s .args .sigma) row (suc j * per (s .args .k)) (x * (e / 65536 % 256) + e / 16777216 % 256) (n + e / 4294967296)
+    b ≡ getD (s .args .buf .now) j 0 → b < 256 → x < boundIn e → Here code (s .args .sigma) row (j * per (s .args .k)) x n
+    → Here code (s .args .sigma) row (suc j * per (s .args .k)) (x * timesIn e + plusIn e) (n + stopsIn e)
 step c j b x n l q r u z =
     let s = c .before .before .before in
     let k = s .args .k in
@@ -160,10 +160,10 @@ loop-again c =
     let p : j + 1 ≡ suc j = omega arith in
     let e = getD (s .args .t .now) (x .index .result) 0 in
     let f = getD (s .args .t .now) (x2 .index2 .result) 0 in
-    let m : l .loop .n + (d .ended .result + c .ended2 .result) ≡ l .loop .n + e / 4294967296 + f / 4294967296 = omega (arith, d .ended .ensures .0, c .ended2 .ensures .0) in
+    let m : l .loop .n + (d .ended .result + c .ended2 .result) ≡ l .loop .n + stopsIn e + stopsIn f = omega (arith, d .ended .ensures .0, c .ended2 .ensures .0) in
     let g : x2 .index2 .result ≡ getD (s .args .buf .now) (suc j) 0 = x2 .index2 .ensures .0 ∙ ap (λ (o : ℕ). getD (s .args .buf .now) o 0) p in
     let one = step i j (x .index .result) (l .loop .x) (l .loop .n) (omega (arith, two i)) (x .index .ensures .0) (x .index .ensures .1) (v .before .if1 .left) (l .loop .inv .4) in
-    let z = step i (suc j) (x2 .index2 .result) (v .moved .result) (l .loop .n + e / 4294967296) (two i) g (x2 .index2 .ensures .1) (v2 .before .if2 .left) (here-as refl (v .moved .ensures .0) refl one) in (
+    let z = step i (suc j) (x2 .index2 .result) (v .moved .result) (l .loop .n + stopsIn e) (two i) g (x2 .index2 .ensures .1) (v2 .before .if2 .left) (here-as refl (v .moved .ensures .0) refl one) in (
       omega (arith, two i),
       omega (arith, l .loop .inv .1),
       v2 .moved2 .ensures .1,
