@@ -12,19 +12,19 @@ CRATE = pathlib.Path(__file__).resolve().parent.parent / "crates" / "vectors"
 
 # ---- the paper
 
-def codewords(k, s):
-    """The 256 first codewords in rank order: shorter ones first; within a length the stopper is q mod s, the continuers the digits of
+def codewords(k, s, many=256):
+    """The first codewords in rank order: shorter ones first; within a length the stopper is q mod s, the continuers the digits of
     q div s in base c, most significant first, each plus s."""
     c = 2 ** k - s
     out, length = [], 1
-    while len(out) < 256:
+    while len(out) < many:
         for q in range(s * c ** (length - 1)):
             x, digits = q // s, []
             for _ in range(length - 1):
                 digits.append(s + x % c)
                 x //= c
             out.append(tuple(reversed(digits)) + (q % s,))
-            if len(out) == 256:
+            if len(out) == many:
                 break
         length += 1
     return out
@@ -536,6 +536,38 @@ for k, s in ((2, 1), (2, 2), (2, 3), (4, 1), (4, 14), (4, 15)):
         for y in sorted({s, 2 ** k - 1}):
             check_case(f"width {k}, s {s}: {many} times {y}, closed", every, 1, many + 1, packed(k, [y] * many + [0]))
             check_case(f"width {k}, s {s}: {many} times {y}, open", every, 1, many, packed(k, [y] * many), (6, 0))
+
+# rolls of 2,048 symbols and more, near the borders of bytes: sigma where codewords gain a symbol, its last rank taken and rank sigma refused,
+# from each symbol of two bytes on and with each rest that two bytes leave
+turn = 0
+for k, s in [(2, s) for s in range(1, 4)] + [(4, s) for s in range(1, 16)]:
+    words, two = codewords(k, s, 257), 16 // k
+    powers = [r for r in range(1, 257) if len(words[r]) > len(words[r - 1])]
+    for sigma in sorted({1, 256, *(powers[:2] + powers[-1:] if s == 2 ** k - 1 else powers)}):
+        at, h = 1024 + turn % two, 2048 + (turn + turn // two) % two
+        row = [0] * (512 + turn % 3) + list(words[sigma - 1])
+        row += [0] * (at - len(row)) + list(words[sigma])
+        check_case(f"width {k}, s {s}, sigma {sigma}: 6 at {at}", table(k, s, ALL, sigma), 1, h, packed(k, row + [0] * (h - len(row))), (6, at))
+        turn += 1
+# a codeword over each border of bytes
+for k, s in ((2, 2), (2, 3), (4, 1), (4, 15)):
+    per, y = 8 // k, 2 ** k - 1
+    t = table(k, s, ALL, codewords(k, s).index((y,) * (per - 1) + (0,)) + 1)
+    for h in (2047, 2048, 2049, 2047 + 2 * per, 65535, 65536):
+        w = f"width {k}, s {s}, {h} symbols: "
+        row = (([0] + [y] * (per - 1)) * (h // per + 1))[:h - 1]
+        n = sum(x < s for x in row) + 1
+        check_case(w + "over each border", t, n, h, packed(k, row + [0]), None)
+        if h in (2048, 2049, 65536):
+            check_case(w + "6, unfinished", t, n, h, packed(k, row + [y]), (6, (h - 2) // per * per + 1))
+        if h in (2048, 65536):
+            check_case(w + "7", t, n - 1, h, packed(k, row + [0]), (7, n))
+            check_case(w + "6, no stopper from byte 301 on", t, n, h, packed(k, row[:301 * per] + [y] * (h - 301 * per)), (6, 300 * per + 1))
+        if h in (2049, 65535):
+            check_case(w + "8", t, n, h, packed(k, row + [0, 1]), (8, 0))
+        for at in (300, 301, h // per - 2, h // per - 1) if h == 2049 else ():
+            longer = row[:at * per] + [y] * per + row[(at + 1) * per:] + [0]
+            check_case(w + f"6, no stopper in byte {at}", t, n - 1, h, packed(k, longer), (6, at * per - per + 1))
 
 # the longest codewords there and back
 for k, s in ((2, 3), (2, 2), (4, 15), (4, 14), (4, 1)):

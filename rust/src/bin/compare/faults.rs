@@ -14,6 +14,10 @@ pub enum Fault {
     Rank,
     /// 6: no stopper before h.
     Unfinished,
+    /// 6: continuers alone from some symbol on.
+    Endless,
+    /// 6 or 7, or none: a continuer for a stopper or the other way round.
+    Turned,
     /// 7: wrong n.
     Count,
     /// 6, 7 or 8: another h in the same buffer.

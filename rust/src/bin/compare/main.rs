@@ -13,8 +13,11 @@ use std::time::Duration;
 
 use crate::operation::{make, Library, Listed};
 
+#[cfg(test)]
+mod by_bytes;
 mod faults;
 mod lent;
+mod long_rolls;
 mod operation;
 mod operations;
 #[cfg(test)]

@@ -25,7 +25,7 @@ pub fn symbols_in(table: &Table, text: &[u8]) -> usize {
 }
 
 /// The greatest σ whose codewords have at most this length.
-fn ranks_up_to(k: u8, s: u8, length: usize) -> usize {
+pub fn ranks_up_to(k: u8, s: u8, length: usize) -> usize {
     listing(k, s).codewords.iter().filter(|codeword| codeword.len() <= length).count()
 }
 

@@ -60,21 +60,26 @@ pub fn strange_codeword(rng: &mut Rng, table: &Table) -> Vec<u8> {
 }
 
 pub fn run_of_continuers(rng: &mut Rng, table: &Table) -> Vec<u8> {
-    let c = (1usize << table.k) - usize::from(table.s);
     let length = match rng.below(200) {
         0..=99 => rng.below(20),
         100..=179 => rng.pick(&[7, 8, 9, 15, 16, 17, 30, 31, 32, 33, 62, 63, 64, 65, 84, 85, 86, 87, 127, 128, 129]),
         180..=197 => rng.pick(&[255, 256, 257, 258, 300, 511, 512, 513]),
         _ => rng.pick(&[1_024, 4_096, 21_845, 32_768, 65_534, 65_535]),
     };
+    let mut run = continuers(rng, table, length);
+    run.push(rng.below(usize::from(table.s)) as u8);
+    run
+}
+
+/// So many continuers: the least, the greatest, or any.
+pub fn continuers(rng: &mut Rng, table: &Table, length: usize) -> Vec<u8> {
+    let c = (1usize << table.k) - usize::from(table.s);
     let kind = rng.below(3);
-    let mut run: Vec<u8> = (0..length)
+    (0..length)
         .map(|_| match kind {
             0 => table.s,
             1 => table.s + (c - 1) as u8,
             _ => table.s + rng.below(c) as u8,
         })
-        .collect();
-    run.push(rng.below(usize::from(table.s)) as u8);
-    run
+        .collect()
 }

@@ -4,13 +4,16 @@ use monterculo::sys::{self, Answer, Roll};
 use monterculo_reference::library::done;
 use monterculo_reference::reference::{self, symbols_of, LIMIT};
 
+#[cfg(test)]
+use crate::by_bytes;
 use crate::faults::{faults, Fault};
 use crate::lent::Lent;
+use crate::long_rolls::{long_roll, LONG};
 use crate::operation::{Cases, Corners, Operation};
 #[cfg(test)]
 use crate::planted::{good_if_wrapped, says};
 use crate::rng::Rng;
-use crate::rolls;
+use crate::rolls::{self, per_byte};
 
 #[derive(Clone, Debug, PartialEq)]
 pub struct Check {
@@ -21,7 +24,7 @@ pub struct Check {
 impl Operation for Check {
     const NAME: &'static str = "check";
     const LISTED: &'static [u32] = &[0, 1, 5, 6, 7, 8];
-    const CASES: Cases<Self> = &[(11, make)];
+    const CASES: Cases<Self> = &[(11, make), (5, make_long)];
     type Answer = Answer;
 
     fn archive(&mut self) -> Answer {
@@ -37,15 +40,37 @@ impl Operation for Check {
     }
 
     fn corners(&self, answer: &Answer, met: &mut Corners) {
+        let (k, s, h) = (self.roll.table.k, self.roll.table.s, self.roll.h as usize);
+        let long = h >= LONG;
         match answer.number {
-            0 => met.meet(self.roll.h as usize == LIMIT, "rolls of 65,536 symbols read"),
+            0 => {
+                met.meet(long, "long rolls read");
+                met.meet(h == LIMIT, "rolls of 65,536 symbols read");
+            }
             6 => {
-                let symbols = symbols_of(self.roll.table.k, &self.buf, self.roll.h as usize);
-                let runs = symbols.split(|&symbol| symbol < self.roll.table.s).map(<[u8]>::len);
+                let first = answer.value as usize;
+                let symbols = symbols_of(k, &self.buf, h);
+                let end = symbols[first..].iter().position(|&symbol| symbol < s).map(|continuers| first + continuers);
+                let two = 2 * per_byte(k);
+                met.meet(long, "long rolls refused 6");
+                met.meet(long && h == LIMIT, "long rolls refused 6 that have 65,536 symbols");
+                met.meet(long && end.is_none(), "long rolls refused 6 with a codeword unfinished");
+                if let Some(end) = end.filter(|_| long) {
+                    let (first_byte, last_byte) = (first / per_byte(k), end / per_byte(k));
+                    met.meet(first_byte == last_byte, "long rolls refused 6 with a bad codeword inside one byte");
+                    met.meet(first_byte < last_byte, "long rolls refused 6 with a bad codeword over a border of bytes");
+                    met.meet(
+                        end >= h / two * two,
+                        "long rolls refused 6 with a bad codeword behind all pairs of bytes",
+                    );
+                }
+                let runs = symbols.split(|&symbol| symbol < s).map(<[u8]>::len);
                 let longest = runs.max().unwrap_or(0);
                 met.meet(longest > 250, "rolls refused 6 with a run of over 250 continuers");
                 met.meet((31..=250).contains(&longest), "rolls refused 6 with a run of 31 to 250 continuers");
             }
+            7 => met.meet(long, "long rolls refused 7"),
+            8 => met.meet(long, "long rolls refused 8"),
             _ => {}
         }
     }
@@ -60,11 +85,25 @@ impl Operation for Check {
         "wraps at 16 bits",
         "wraps at 32 bits",
         "wraps at 64 bits",
+        "by bytes: passes every rank in the last symbols",
+        "by bytes: passes an unfinished codeword",
+        "by bytes: passes unused symbols",
+        "by bytes: takes a bound one too great",
+        "by bytes: ranks the first codeword of a byte alone",
+        "by bytes: loses the state between two bytes",
+        "by bytes: loses the state behind two bytes",
+        "by bytes: keeps 8 bits of the state",
+        "by bytes: counts one fewer where a byte ends two",
+        "by bytes: names the first symbol of a byte",
+        "by bytes: takes 65,536 symbols for none",
     ];
 
     #[cfg(test)]
     fn with_error(&mut self, error: &str) -> Answer {
         let answer = self.reference();
+        if let Some(error) = error.strip_prefix("by bytes: ") {
+            return by_bytes::check(&self.roll, &self.buf, answer, error);
+        }
         let good_in = |bits| good_if_wrapped(&self.roll, &self.buf, answer.value as usize, bits);
         match (error, answer.number) {
             ("passes unused symbols", 8) => says(0, 0),
@@ -85,4 +124,46 @@ fn make(rng: &mut Rng) -> Check {
     let faults = faults(rng, &[Table, OtherTable, Room, Rank, Rank, Unfinished, Count, Length, Unused, Unused, Bits]);
     let made = rolls::roll(rng, &faults);
     Check { roll: made.roll(), buf: made.buf.into() }
+}
+
+fn make_long(rng: &mut Rng) -> Check {
+    let (roll, buf) = long_roll(rng);
+    Check { roll, buf: buf.into() }
+}
+
+#[cfg(test)]
+mod tests {
+    use std::collections::BTreeSet;
+
+    use super::*;
+    use crate::operation::{Case, Library};
+
+    #[test]
+    fn by_bytes_without_an_error_it_is_the_reference() {
+        for call in 0..500 {
+            let case = make_long(&mut Rng::of_call(5, call));
+            case.compare(Library::WithError("by bytes: ")).unwrap_or_else(|text| panic!("{}: {}", call, text));
+        }
+    }
+
+    #[test]
+    fn long_rolls_come_in_every_way() {
+        let (mut codes, mut lengths, mut bad) = (BTreeSet::new(), BTreeSet::new(), BTreeSet::new());
+        for call in 0..2_000 {
+            let mut case = make_long(&mut Rng::of_call(5, call));
+            let answer = case.reference();
+            let Roll { table, h, .. } = case.roll;
+            let two = 2 * per_byte(table.k) as u32;
+            codes.insert((table.k, table.s, answer.number == 0));
+            if h >= LONG as u32 {
+                lengths.insert((table.k, h % two, answer.number == 0));
+            }
+            if h >= LONG as u32 && answer.number == 6 {
+                bad.insert((table.k, answer.value as u32 % two));
+            }
+        }
+        assert_eq!(codes.len(), 2 * 18);
+        assert_eq!(lengths.len(), 2 * (8 + 4));
+        assert_eq!(bad.len(), 8 + 4);
+    }
 }
