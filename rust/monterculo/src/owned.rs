@@ -240,13 +240,23 @@ impl OwnedRoll {
     pub fn line_of(&self, place: usize) -> Result<Line, Refusal> {
         // Says that the place is one of the text.
         self.read_one(place)?;
-        let text = self.text();
-        let ends_line = |&character: &u8| character == b'\n';
-        let before = text.iter().take(place).rev().take_while(|&character| !ends_line(character)).count();
-        let behind = text.iter().skip(place).take_while(|&character| !ends_line(character)).count();
-        let range = place.saturating_sub(before)..place.saturating_add(behind);
-        let text = text.get(range.clone()).unwrap_or_default().to_vec();
-        Ok(Line { range, text })
+        // A line is mostly short: what lies around the place is unpacked, and more of it until both its ends are there.
+        let mut reach = 128_usize;
+        loop {
+            let start = place.saturating_sub(reach);
+            let end = place.saturating_add(reach).min(self.len());
+            let around = self.text_of(start..end)?;
+            let (before, behind) = around.split_at(place.saturating_sub(start).min(around.len()));
+            let first = before.iter().rposition(|&character| character == b'\n');
+            let last = behind.iter().position(|&character| character == b'\n');
+            if (first.is_some() || start == 0) && (last.is_some() || end == self.len()) {
+                let from = first.map_or(0, |line_feed| line_feed.saturating_add(1));
+                let upto = before.len().saturating_add(last.unwrap_or(behind.len()));
+                let range = start.saturating_add(from)..start.saturating_add(upto);
+                return Ok(Line { range, text: around.get(from..upto).unwrap_or_default().to_vec() });
+            }
+            reach = reach.saturating_mul(8);
+        }
     }
 
     /// Replaces the characters of a range by a text. Where room is missing it is made, up to 65,536 symbols.

@@ -94,6 +94,25 @@ fn lines() {
     assert_eq!(line(b"", 0), Err(Refusal::BadPlace { place: 0, n: 0 }));
     assert_eq!(line(b"no end", usize::MAX), Err(Refusal::BadPlace { place: usize::MAX, n: 6 }));
     assert_eq!(line(b"no end", 2), is(0..6, b"no end"));
+
+    // Lines that reach past what is unpacked first, at every place of them.
+    for last in [0, 1, 127, 128, 129, 1_025] {
+        let mut text = Vec::new();
+        for length in [129, 0, 128, 127, 300, 1_024, last] {
+            text.extend(vec![b'a'; length]);
+            text.push(b'\n');
+        }
+        text.pop();
+        let roll = OwnedRoll::new(Width::Two, &text).unwrap();
+        let mut start = 0;
+        for line in text.split(|&character| character == b'\n') {
+            let end = start + line.len();
+            for place in start..(end + 1).min(text.len()) {
+                assert_eq!(roll.line_of(place), is(start..end, line));
+            }
+            start = end + 1;
+        }
+    }
 }
 
 #[test]

@@ -13,8 +13,7 @@ use Rattle.stopper.specs.Paper.Reading.{Reading, readFrom}
 use Rattle.stopper.specs.declared.code.Code.{Code}
 use Rattle.symbols.specs.Paper.Symbols.{symbolsOf}
 use Rattle.reading.specs.Paper.Reading.{rowReading}
-use Rattle.reading.specs.Helpers.Codewords.{scanned}
-use Rattle.reading.specs.Laws.Scans.{plus}
+use Rattle.reading.specs.Helpers.Codewords.{scanned, plus}
 use Rattle.moves.specs.declared.byte.Move.{Move}
 use Rattle.moves.specs.declared.passing.Way.{Way}
 

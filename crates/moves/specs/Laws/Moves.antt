@@ -20,8 +20,8 @@ use Rattle.symbols.specs.Helpers.Widths.{Width}
 use Rattle.symbols.specs.Laws.Width.{per-pos}
 use Rattle.symbols.specs.Laws.Rows.{symbols-length, symbols-append, symbols-drop, starts-within}
 use Rattle.reading.specs.Paper.Reading.{rowUpto, rowReading}
-use Rattle.reading.specs.Helpers.Codewords.{scanned}
-use Rattle.reading.specs.Laws.Scans.{plus, plus-ahead, plus-none}
+use Rattle.reading.specs.Helpers.Codewords.{scanned, plus}
+use Rattle.reading.specs.Laws.Scans.{plus-ahead, plus-none}
 use Rattle.reading.specs.declared.codewords.Scan.{Scan}
 use Rattle.reading.specs.declared.codewords.Scan.the-variants.{Whole}
 use Rattle.moves.specs.Helpers.Moves.{fewer, stateOf, Goes, Moves, boundIn, timesIn, plusIn, stopsIn, MoveIn, MovesByByte, Here}

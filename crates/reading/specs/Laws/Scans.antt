@@ -7,17 +7,12 @@ use lib.ListN.{length, drop-of-length-le}
 use Rattle.stopper.specs.Paper.Reading.{Fault, Reading, done, bad, ahead, readFrom}
 use Rattle.stopper.specs.declared.code.Code.{Code}
 use Rattle.reading.specs.Paper.Reading.{rowReading}
-use Rattle.reading.specs.Helpers.Codewords.{foundAt, passedFrom, scanned}
+use Rattle.reading.specs.Helpers.Codewords.{foundAt, passedFrom, scanned, plus}
 use Rattle.reading.specs.Laws.Codewords.{Stands}
 use Rattle.reading.specs.declared.codewords.Found.the-variants.{Word, Bad as none-found}
 use Rattle.reading.specs.declared.codewords.Scan.{Scan}
 use Rattle.reading.specs.declared.codewords.Scan.the-variants.{Whole, Bad}
 use Rattle.reading.specs.declared.codewords.Passed.the-variants.{At, Bad as passed-bad}
-
--- with so many codewords before
-unfoldable pub plus : ℕ → Scan → Scan
-plus count (Whole n) = Whole (count + n)
-plus count (Bad p) = Bad p
 
 -- all codewords, of which `count` stand before symbol p
 unfoldable pub scanFrom : Code → ℕ → List ℕ → ℕ → ℕ → Scan
