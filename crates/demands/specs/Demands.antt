@@ -15,7 +15,7 @@ use Rattle.ground.specs.Paper.Runs.{run}
 use Rattle.ground.specs.Helpers.Below.{Below}
 use Rattle.ground.specs.Laws.Answers.{says-as, done-one, total-one}
 use Rattle.ground.specs.Laws.Refusals.{refused-keeps, accepted-leaves, Refuses, refused-row}
-use Rattle.ground.specs.Laws.Rows.{take-padded}
+use Rattle.ground.specs.Laws.Rows.{take-padded, tab-at}
 use Rattle.ground.specs.declared.answers.Done.{Done}
 use Rattle.ground.specs.declared.answers.Done.the-variants.{Yes, Refused}
 use Rattle.ground.specs.declared.answers.Answer.{Answer}
@@ -33,7 +33,7 @@ use Rattle.choosing.specs.Paper.Ranking.{ranked}
 use Rattle.choosing.specs.Paper.Choosing.{occurs, countsOf, counted, total, chosen, chosenTable}
 use Rattle.choosing.specs.Paper.Operations.{countRows, countSays, Counting, chooseRows, chooseSays, Choosing}
 use Rattle.choosing.specs.Laws.Ranking.{ranking}
-use Rattle.choosing.specs.Laws.Choosing.{Fewest, counted-is, chosen-least}
+use Rattle.choosing.specs.Laws.Choosing.{Fewest, chosen-least}
 use Rattle.choosing.specs.Laws.Accepting.{chooses-is}
 use Rattle.choosing.specs.declared.choose.Choice.{Choice}
 use Rattle.symbols.specs.Paper.Symbols.{per, bytesFor, room, symbolsOf}
@@ -224,8 +224,8 @@ packed-codewords {t} {text} {buf} p y =
 -- byte (`InOrder`); and s is the one with the fewest symbols, of equals the smallest (`Fewest`)
 
 pub count-tells : {text counts after : List ℕ} {b : ℕ} → Counting text counts Yes after → b < 256 → getD after b 0 ≡ occurs text b
-unfolding counted
-count-tells {text} {counts} {after} {b} p h = rw (p .leaves ∙ accepted-leaves (sym (p .says)) _ _) (counted-is text b h)
+unfolding countsOf
+count-tells {text} {counts} {after} {b} p h = rw (p .leaves ∙ accepted-leaves (sym (p .says)) _ _) (tab-at (occurs text) 256 b h)
 
 pub chosen-ranked : {k : ℕ} {counts : List ℕ} {c : Choice} → Choosing k counts c → c .answer ≡ Yes
     → InOrder (counted counts) (characters (c .table)) × Fewest k (counted counts) (c .table .code)
