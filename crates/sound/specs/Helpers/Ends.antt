@@ -1,4 +1,5 @@
 -- Where codewords end, by their stoppers alone. `st i` is the stopper count of place i of a codeword, and i the place of the next symbol.
+use mathlib.Core.Path.{_≡_}
 use mathlib.Core.Bool.{cond}
 use mathlib.Core.List.{List, [], _∷_}
 use Prim.Native.Nat.{ℕ, zero, suc, _+_, _^_, _≤_, _<_}
@@ -39,6 +40,13 @@ pub record Ending (c : Code) (buf : List ℕ) (p n : ℕ) : Type 0 where
   pub good : T (goodCode c)
   pub enough : n ≤ stops (stoppers c) 0 (symbolsFrom c buf p)
   pub counts : endFrom c buf p n < 2 ^ 64
+
+-- so many codewords from symbol p on end where those that are left do from symbol q on
+pub record Passing (c : Code) (buf : List ℕ) (p count q left : ℕ) : Type 0 where
+  pub good : T (goodCode c)
+  pub enough : left ≤ stops (stoppers c) 0 (symbolsFrom c buf q)
+  pub ends : endFrom c buf p count ≡ q + endOf (stoppers c) left 0 (symbolsFrom c buf q)
+  pub counts : endFrom c buf p count < 2 ^ 64
 
 -- how many codewords end in a byte, for each byte value
 unfoldable pub stopsByByte : Code → List ℕ

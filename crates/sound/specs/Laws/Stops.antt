@@ -1,22 +1,21 @@
 -- The laws of codewords that are passed by their stoppers alone.
 use mathlib.Core.Path.{_≡_, refl, sym, ap, subst, _∙_}
 use mathlib.Core.List.{List, [], _∷_, _++_}
-use Prim.Native.Nat.{ℕ, zero, suc, _+_, _-_, _*_, _/_, _%_, _^_, _≤_, _<_}
-use native.Mathlib.Nat.{zero-add, add-zero, suc-add, sub-zero, suc-sub-suc, suc-mul, one-mul, div-add-mod'}
+use Prim.Native.Nat.{ℕ, zero, suc, _+_, _-_, _*_, _≤_, _<_, zero-le}
+use native.Mathlib.Nat.{zero-add, add-zero, suc-add, sub-zero, suc-sub-suc, one-mul, add-mul}
 use native.Mathlib.Numerals.{add-one}
 use native.Mathlib.Decide.{decLt}
 use native.Mathlib.Omega.{arith}
-use lib.Dec.{T}
 use lib.ListN.{length, drop, getD}
 use lib.Seq.{drop-cons}
 use Rattle.ground.specs.Laws.Rows.{length-tab, tab-at}
-use Rattle.stopper.specs.Paper.Table.{stoppers, goodCode}
+use Rattle.stopper.specs.Paper.Table.{stoppers}
 use Rattle.stopper.specs.Laws.Table.{one-place, code-width}
 use Rattle.stopper.specs.declared.code.Code.{Code}
 use Rattle.symbols.specs.Paper.Symbols.{per, symbolsOf}
 use Rattle.symbols.specs.Helpers.Widths.{Width}
-use Rattle.symbols.specs.Laws.Rows.{symbols-length, symbols-append, symbols-drop, byte-within}
-use Rattle.sound.specs.Helpers.Ends.{stops, endOf, symbolsFrom, Ending, endFrom, stopsByByte}
+use Rattle.symbols.specs.Laws.Rows.{symbols-length, symbols-append, symbols-drop, starts-within}
+use Rattle.sound.specs.Helpers.Ends.{stops, endOf, Ending, Passing, endFrom, stopsByByte}
 use Rattle.sound.specs.Laws.Ends.{stops-stop, stops-more, end-stop, end-more, stops-inside}
 
 module _ (c : Code) where
@@ -83,6 +82,19 @@ module _ (c : Code) where
             ∙ rw (e, suc-add) (ap suc (end-append xs ys (suc n) (omega arith)))
       ]
 
+  -- every codeword has a symbol
+  pub end-long : (n : ℕ) (ys : List ℕ) → n ≤ stops st 0 ys → n ≤ endOf st n 0 ys
+  unfolding stops
+  end-long zero ys h = zero-le
+  end-long (suc n) [] h = absurd (omega arith)
+  end-long (suc n) (y ∷ ys) h =
+      elim (decLt y (st 0)) [
+        | yes k ↦ omega (arith, end-stop st 0 y ys n k, end-long n ys (omega (arith, stops-stop st 0 y ys k)))
+        | no k ↦
+            let l : st 0 ≤ y = omega arith in
+            omega (arith, end-continuer y ys l n, end-long (suc n) ys (omega (arith, stops-continuer y ys l)))
+      ]
+
   -- ---- the symbols of a byte
 
   pub stops-long : length (stopsByByte c) ≡ 256
@@ -96,13 +108,7 @@ module _ (c : Code) where
 pub byte-length : (k b : ℕ) → length (symbolsOf k (b ∷ [])) ≡ per k
 byte-length k b = symbols-length k (b ∷ []) ∙ one-mul (per k)
 
--- ---- a buffer's codewords passed, from symbol p on: so many of them are left behind symbol q
-
-pub record Passing (c : Code) (buf : List ℕ) (p count q left : ℕ) : Type 0 where
-  pub good : T (goodCode c)
-  pub enough : left ≤ stops (stoppers c) 0 (symbolsFrom c buf q)
-  pub ends : endFrom c buf p count ≡ q + endOf (stoppers c) left 0 (symbolsFrom c buf q)
-  pub counts : endFrom c buf p count < 2 ^ 64
+-- ---- a buffer's codewords passed, from symbol p on: so many of them are left from symbol q on
 
 pub passing-first : {c : Code} {buf : List ℕ} {p count : ℕ} → Ending c buf p count → Passing c buf p count p count
 unfolding endFrom
@@ -126,32 +132,45 @@ module _ {c : Code} {buf : List ℕ} {p count q left : ℕ} (a : Passing c buf p
   pub passing-upto : q ≤ endFrom c buf p count
   passing-upto = omega (arith, a .ends)
 
+  pub passing-few : q + left ≤ endFrom c buf p count
+  passing-few = omega (arith, a .ends, end-long c left (drop q row) (a .enough))
+
+  -- those that are left
+  pub passing-ending : Ending c buf q left
+  unfolding endFrom
+  passing-ending = record { good = a .good; enough = a .enough; counts = omega (arith, a .ends, a .counts) }
+
+  pub passing-rest : endFrom c buf q left ≡ endFrom c buf p count
+  unfolding endFrom
+  passing-rest = sym (a .ends)
+
   -- one that is left ends in the row
   pub passing-inside : 0 < left → q < length row
   passing-inside h = stops-inside (stoppers c) 0 row q (omega (arith, a .enough))
 
-  -- the byte of a symbol that is the first of one
-  module _ (h : 0 < left) (e : q % per k ≡ 0) where
+  -- byte j, that symbol q starts
+  module _ (j : ℕ) (e : q ≡ j * per k) (h : 0 < left) where
     abbrev b : ℕ
-    b = getD buf (q / per k) 0
+    b = getD buf j 0
 
-    byte-first : drop q row ≡ symbolsOf k (b ∷ []) ++ drop (q + per k) row
+    pub byte-inside : j < length buf
+    byte-inside = starts-within width buf j (rw e at (passing-inside h))
+
+    byte-first : drop q row ≡ symbolsOf k (b ∷ []) ++ drop ((j + 1) * per k) row
     byte-first =
-        let j = q / per k in
-        let f : j * per k ≡ q = omega (arith, div-add-mod' q (per k)) in
-        let g : suc j * per k ≡ q + per k = omega (arith, suc-mul j (per k)) in
-        ap (λ (n : ℕ). drop n row) (sym f)
-        ∙ symbols-drop width j buf
-        ∙ ap (symbolsOf k) (drop-cons buf j 0 (byte-within width buf q (passing-inside h)))
+        rw (e, add-one)
+        (symbols-drop width j buf
+        ∙ ap (symbolsOf k) (drop-cons buf j 0 byte-inside)
         ∙ symbols-append width (b ∷ []) (drop (suc j) buf)
-        ∙ ap (λ (ys : List ℕ). symbolsOf k (b ∷ []) ++ ys) (sym (ap (λ (n : ℕ). drop n row) (sym g) ∙ symbols-drop width (suc j) buf))
+        ∙ ap (λ (ys : List ℕ). symbolsOf k (b ∷ []) ++ ys) (sym (symbols-drop width (suc j) buf)))
 
-    pub passing-byte : (width ended : ℕ) → width ≡ per k → ended ≡ stops (stoppers c) 0 (symbolsOf k (b ∷ [])) → ended < left
-        → Passing c buf p count (q + width) (left - ended)
-    passing-byte width ended f g l =
+    pub passing-byte : (ended : ℕ) → ended ≡ stops (stoppers c) 0 (symbolsOf k (b ∷ [])) → ended < left
+        → Passing c buf p count ((j + 1) * per k) (left - ended)
+    passing-byte ended f l =
         let xs = symbolsOf k (b ∷ []) in
-        let ys = drop (q + per k) row in
-        rw (f, g)
+        let ys = drop ((j + 1) * per k) row in
+        let g : (j + 1) * per k ≡ q + per k = omega (arith, add-mul j 1 (per k)) in
+        rw f
         (record {
           good = a .good;
           enough = omega (arith, rw byte-first at (a .enough), stops-append c xs ys);
@@ -186,5 +205,34 @@ module _ {c : Code} {buf : List ℕ} {p count q left : ℕ} (a : Passing c buf p
           good = a .good;
           enough = omega (arith, rw symbol-first at (a .enough), stops-continuer c y ys l);
           ends = omega (arith, rw symbol-first at (a .ends), subst (λ n. endOf (stoppers c) n 0 (y ∷ ys) ≡ suc (endOf (stoppers c) n 0 ys)) (sym e) (end-continuer c y ys l (left - 1)));
+          counts = a .counts;
+        }
+
+  -- the symbol before
+  module _ (i : ℕ) (e : q ≡ i + 1) (h : 0 < left) where
+    abbrev x : ℕ
+    x = getD row i 0
+
+    symbol-before : drop i row ≡ x ∷ drop q row
+    symbol-before = rw (e, add-one) (drop-cons row i 0 (omega (arith, passing-inside h)))
+
+    pub back-stopper : x < stoppers c 0 → Passing c buf p count i (left + 1)
+    back-stopper l =
+        let ys = drop q row in
+        record {
+          good = a .good;
+          enough = rw symbol-before (omega (arith, a .enough, stops-stop (stoppers c) 0 x ys l));
+          ends = rw (symbol-before, add-one) (omega (arith, a .ends, end-stop (stoppers c) 0 x ys left l));
+          counts = a .counts;
+        }
+
+    pub back-continuer : stoppers c 0 ≤ x → Passing c buf p count i left
+    back-continuer l =
+        let ys = drop q row in
+        let f : left ≡ suc (left - 1) = omega arith in
+        record {
+          good = a .good;
+          enough = rw symbol-before (omega (arith, a .enough, stops-continuer c x ys l));
+          ends = rw symbol-before (omega (arith, a .ends, subst (λ n. endOf (stoppers c) n 0 (x ∷ ys) ≡ suc (endOf (stoppers c) n 0 ys)) (sym f) (end-continuer c x ys l (left - 1))));
           counts = a .counts;
         }
