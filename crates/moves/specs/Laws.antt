@@ -1,2 +1,3 @@
 -- What is proved of the definitions: it needs no belief, and crates above may cite it.
 pub mod Moves
+pub mod States

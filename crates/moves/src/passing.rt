@@ -1,145 +1,194 @@
-// All codewords from the first on: whole bytes by their moves. What is refused on the way is read codeword by codeword.
-use crate::byte::ended;
+// All codewords from the first on: whole bytes by their moves, other symbols one by one.
+use crate::byte::bounds_of;
+use crate::byte::byte;
+use crate::byte::index;
 use crate::byte::moved;
+use crate::byte::moved_twice;
 use crate::byte::moves_by_byte;
+use crate::byte::part_of;
 use reading::codewords::Scan;
-use reading::codewords::read_each;
 use stopper::code::Code;
 use stopper::code::base_of;
 use symbols::bits::byte_of;
 use symbols::bits::per_byte;
 use symbols::symbol::get;
 ghost use mathlib.Core.Path.{_≡_};
-ghost use mathlib.Core.Bool.{false};
-ghost use Prim.Native.Nat.{_*_, _%_, _≤_, _<_};
-ghost use Rattle.stopper.specs.Paper.Table.{evenCode};
-ghost use Rattle.symbols.specs.Paper.Symbols.{per};
+ghost use Prim.Native.Nat.{_*_, _≤_, _<_};
+ghost use lib.Dec.{T};
+ghost use lib.ListN.{length, take, drop};
+ghost use Rattle.stopper.specs.Paper.Table.{evenCode, goodCode};
+ghost use Rattle.symbols.specs.Paper.Symbols.{per, symbolsOf};
 ghost use Rattle.reading.specs.Paper.Reading.{rowUpto, rowReading};
 ghost use Rattle.reading.specs.Helpers.Codewords.{Reads, scanned};
-ghost use Rattle.moves.specs.Helpers.Moves.{MovesByByte, Here, Taken};
+ghost use Rattle.moves.specs.Helpers.States.{openFrom, Stuck};
+ghost use Rattle.moves.specs.Helpers.Moves.{Rows, Here};
 
-// The moves of all byte values cost as much as some two thousand symbols.
+// So many symbols are read one by one before the moves are made: a roll that is bad early is not kept waiting for them.
+const FIRST: usize = 1024;
+
+// Of a shorter roll all symbols are read one by one: the moves would cost more than they save.
 const FEW: usize = 2048;
 
-// Whether all symbols so far were taken; the state after them, and how many codewords ended.
+// Before some symbol: the state of the codeword that is open there, and how many codewords ended, all good.
 pub struct Way {
-    pub through: bool,
+    pub at: usize,
     pub x: u32,
     pub n: usize,
 }
 
-// Refused: what was met is found out by reading.
-fn lost() -> Way
-    ensures { λ r. ⌜ (r .through ≡ false) × (r .x ≡ 0) × (r .n ≡ 0) ⌝ }
+// Whole bytes, from byte way.at on, two by two: as far as their moves take the state.
+fn by_moves(
+    k: u8,
+    s: u8,
+    sigma: u32,
+    bound: &[u16; 256],
+    times: &[u8; 256],
+    plus: &[u8; 256],
+    stops: &[u8; 256],
+    buf: &[u8],
+    h: usize,
+    whole: usize,
+    way: Way,
+) -> Way
+    requires { ⌜ (Reads (evenCode k s) sigma (now buf) h (whole * per k)) × (Rows (evenCode k s) sigma (now bound) (now times) (now plus) (now stops))
+        × (way .at ≤ whole) × (Here (evenCode k s) sigma (rowUpto (evenCode k s) h (now buf)) (way .at * per k) (way .x) (way .n)) × (way .x < 131072) ⌝ }
+    ensures { λ r. ⌜ (r .at ≤ whole) × (Here (evenCode k s) sigma (rowUpto (evenCode k s) h (now (buf .entry))) (r .at * per k) (r .x) (r .n)) × (r .x < 131072) ⌝ }
 {
-    Way {
-        through: false,
-        x: 0,
-        n: 0,
-    }
-}
-
-// A byte as a number, and as a place in a row of 256.
-fn byte(b: u8) -> u32
-    ensures { λ r. ⌜ (r ≡ b) × (r < 256) ⌝ }
-{
-    b as u32
-}
-
-fn index(b: u8) -> usize
-    ensures { λ r. ⌜ (r ≡ b) × (r < 256) ⌝ }
-{
-    b as usize
-}
-
-// The greatest even number up to n.
-fn even(n: usize) -> usize
-    ensures { λ r. ⌜ (r ≤ n) × (r % 2 ≡ 0) ⌝ }
-{
-    n - n % 2
-}
-
-// The whole bytes, two by two.
-fn pass(k: u8, s: u8, sigma: u32, t: &[u32; 256], buf: &[u8], h: usize, whole: usize) -> Way
-    requires { ⌜ (Reads (evenCode k s) sigma (now buf) h 0) × (MovesByByte (evenCode k s) sigma (now t) 256) × (whole * per k ≤ h) × (whole % 2 ≡ 0) ⌝ }
-    ensures { λ r. ⌜ Taken (evenCode k s) sigma (rowUpto (evenCode k s) h (now (buf .entry))) (whole * per k) r × (r .x < 131072) × (r .n ≤ whole * 127) ⌝ }
-{
-    let mut j: usize = 0;
-    let mut x: u32 = 0;
-    let mut n: usize = 0;
-    while j < whole {
-        let e = t[index(buf[j])];
-        if e % 512 <= x {
-            return lost();
+    let mut at = way.at;
+    let mut x = way.x as u64;
+    let mut n = way.n;
+    while at + 1 < whole {
+        let b = index(buf[at]);
+        let d = index(buf[at + 1]);
+        let z = x as u32;
+        if bound[b] as u32 <= z {
+            break;
         }
-        let y = moved(e, x);
-        let f = t[index(buf[j + 1])];
-        if f % 512 <= y {
-            return lost();
+        let t = times[b];
+        let p = plus[b];
+        if bound[d] as u32 <= moved(t, p, z) {
+            break;
         }
-        x = moved(f, y);
-        n += ended(e) + ended(f);
-        j += 2;
+        x = moved_twice(t, p, times[d], plus[d], x);
+        n += index(stops[b]) + index(stops[d]);
+        at += 2;
     }
-    Way {
-        through: true,
-        x,
-        n,
-    }
+    Way { at, x: x as u32, n }
 }
 
-// The symbols from the first not passed on, one by one.
-fn finish(k: u8, s: u8, sigma: u32, buf: &[u8], h: usize, first: usize, way: Way) -> Way
-    requires { ⌜ (Reads (evenCode k s) sigma (now buf) h 0) × (first ≤ h) × (Here (evenCode k s) sigma (rowUpto (evenCode k s) h (now buf)) first (way .x) (way .n)) × (way .x < 131072) × (way .n ≤ first * 127) ⌝ }
-    ensures { λ r. ⌜ Taken (evenCode k s) sigma (rowUpto (evenCode k s) h (now (buf .entry))) h r ⌝ }
+// Symbols one by one, up to symbol `upto`, or up to one at which the open codeword is bad whatever follows.
+fn by_symbols(k: u8, s: u8, sigma: u32, buf: &[u8], h: usize, upto: usize, way: Way) -> Way
+    requires { ⌜ (Reads (evenCode k s) sigma (now buf) h upto) × (way .at ≤ upto) × (Here (evenCode k s) sigma (rowUpto (evenCode k s) h (now buf)) (way .at) (way .x) (way .n)) × (way .x < 131072) ⌝ }
+    ensures { λ r. ⌜ (r .at ≤ upto) × (Here (evenCode k s) sigma (rowUpto (evenCode k s) h (now (buf .entry))) (r .at) (r .x) (r .n)) × (r .x < 131072)
+        × (r .at < upto → Stuck (evenCode k s) sigma (r .x) (drop (r .at) (rowUpto (evenCode k s) h (now (buf .entry))))) ⌝ }
 {
     let few = byte(s);
     let many = base_of(Code { k, s }) - few;
-    let mut i = first;
+    let mut at = way.at;
     let mut x = way.x;
     let mut n = way.n;
-    while i < h {
-        let y = byte(get(k, buf, i));
+    while at < upto {
+        let y = byte(get(k, buf, at));
         if y < few {
             if sigma <= x * few + y {
-                return lost();
+                return Way { at, x, n };
             }
             x = 0;
             n += 1;
         } else {
-            x = x * many + (y - few + 1);
-            if 131072 <= x {
-                return lost();
+            let next = x * many + (y - few + 1);
+            if sigma <= next {
+                return Way { at, x, n };
             }
+            x = next;
         }
-        i += 1;
+        at += 1;
     }
-    Way {
-        through: true,
-        x,
-        n,
-    }
+    Way { at, x, n }
 }
 
-// As read_all, at any length.
-fn by_bytes(code: Code, sigma: u32, buf: &[u8], h: usize) -> Scan
-    requires { ⌜ Reads code sigma (now buf) h 0 ⌝ }
-    ensures { λ r. ⌜ r ≡ scanned (rowReading code sigma (rowUpto code h (now (buf .entry))) 0) ⌝ }
+// The first symbol of the codeword that is open before symbol `at`: behind the last stopper before it.
+fn opened(k: u8, s: u8, buf: &[u8], at: usize) -> usize
+    requires { ⌜ T (goodCode (evenCode k s)) × (at ≤ length (symbolsOf k (now buf))) ⌝ }
+    ensures { λ r. ⌜ r ≡ openFrom (evenCode k s) 0 0 (take at (symbolsOf k (now (buf .entry)))) ⌝ }
+{
+    let few = byte(s);
+    let mut p = at;
+    while 0 < p {
+        if byte(get(k, buf, p - 1)) < few {
+            return p;
+        }
+        p -= 1;
+    }
+    0
+}
+
+// The whole bytes from byte way.at on.
+fn by_bytes(code: Code, sigma: u32, buf: &[u8], h: usize, whole: usize, way: Way) -> Way
+    requires { ⌜ (Reads code sigma (now buf) h (whole * per (code .k)))
+        × (way .at ≤ whole) × (Here code sigma (rowUpto code h (now buf)) (way .at * per (code .k)) (way .x) (way .n)) × (way .x < 131072) ⌝ }
+    ensures { λ r. ⌜ (r .at ≤ whole) × (Here code sigma (rowUpto code h (now (buf .entry))) (r .at * per (code .k)) (r .x) (r .n)) × (r .x < 131072) ⌝ }
 {
     let k = code.k;
     let s = code.s;
     let t = moves_by_byte(code, sigma);
-    let whole = even(byte_of(k, h));
-    let bytes = pass(k, s, sigma, &t, buf, h, whole);
-    if bytes.through {
-        let all = finish(k, s, sigma, buf, h, whole * per_byte(k), bytes);
-        if all.through {
-            if all.x == 0 {
-                return Scan::Whole(all.n);
-            }
+    let bound = bounds_of(&t);
+    let times = part_of(&t, 8);
+    let plus = part_of(&t, 0);
+    let stops = part_of(&t, 25);
+    by_moves(
+        k,
+        s,
+        sigma,
+        &bound,
+        &times,
+        &plus,
+        &stops,
+        buf,
+        h,
+        whole,
+        way,
+    )
+}
+
+// What a way says that went as far as it could.
+fn told(k: u8, s: u8, sigma: u32, buf: &[u8], h: usize, way: Way) -> Scan
+    requires { ⌜ (Reads (evenCode k s) sigma (now buf) h (way .at)) × (Here (evenCode k s) sigma (rowUpto (evenCode k s) h (now buf)) (way .at) (way .x) (way .n))
+        × (way .at < h → Stuck (evenCode k s) sigma (way .x) (drop (way .at) (rowUpto (evenCode k s) h (now buf)))) ⌝ }
+    ensures { λ r. ⌜ r ≡ scanned (rowReading (evenCode k s) sigma (rowUpto (evenCode k s) h (now (buf .entry))) 0) ⌝ }
+{
+    if way.at == h {
+        if way.x == 0 {
+            return Scan::Whole(way.n);
         }
     }
-    read_each(code, sigma, buf, h)
+    Scan::Bad(opened(k, s, buf, way.at))
+}
+
+// As read_all, where there are so many symbols.
+fn read_bytes(code: Code, sigma: u32, buf: &[u8], h: usize) -> Scan
+    requires { ⌜ Reads code sigma (now buf) h 1024 ⌝ }
+    ensures { λ r. ⌜ r ≡ scanned (rowReading code sigma (rowUpto code h (now (buf .entry))) 0) ⌝ }
+{
+    let k = code.k;
+    let s = code.s;
+    let few = by_symbols(k, s, sigma, buf, h, FIRST, Way { at: 0, x: 0, n: 0 });
+    if few.at < FIRST {
+        return told(k, s, sigma, buf, h, few);
+    }
+    let begun = Way {
+        at: byte_of(k, FIRST),
+        x: few.x,
+        n: few.n,
+    };
+    let bytes = by_bytes(code, sigma, buf, h, byte_of(k, h), begun);
+    let rest = Way {
+        at: bytes.at * per_byte(k),
+        x: bytes.x,
+        n: bytes.n,
+    };
+    let all = by_symbols(k, s, sigma, buf, h, h, rest);
+    told(k, s, sigma, buf, h, all)
 }
 
 // All codewords from the first on.
@@ -147,9 +196,11 @@ pub fn read_all(code: Code, sigma: u32, buf: &[u8], h: usize) -> Scan
     requires { ⌜ Reads code sigma (now buf) h 0 ⌝ }
     ensures { λ r. ⌜ r ≡ scanned (rowReading code sigma (rowUpto code h (now (buf .entry))) 0) ⌝ }
 {
-    if h < FEW {
-        read_each(code, sigma, buf, h)
-    } else {
-        by_bytes(code, sigma, buf, h)
+    if FEW <= h {
+        return read_bytes(code, sigma, buf, h);
     }
+    let k = code.k;
+    let s = code.s;
+    let all = by_symbols(k, s, sigma, buf, h, h, Way { at: 0, x: 0, n: 0 });
+    told(k, s, sigma, buf, h, all)
 }

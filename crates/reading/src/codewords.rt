@@ -5,8 +5,8 @@ use stopper::reading::opening;
 use stopper::reading::read_symbol;
 use symbols::symbol::get;
 ghost use mathlib.Core.Path.{_≡_};
-ghost use Rattle.reading.specs.Paper.Reading.{rowUpto, rowReading};
-ghost use Rattle.reading.specs.Helpers.Codewords.{Reads, foundAt, passedFrom, scanned};
+ghost use Rattle.reading.specs.Paper.Reading.{rowUpto};
+ghost use Rattle.reading.specs.Helpers.Codewords.{Reads, foundAt, passedFrom};
 
 // A codeword: its rank, and the symbol after it; or a bad one.
 pub enum Found {
@@ -55,28 +55,6 @@ pub fn codeword_at(code: Code, sigma: u32, buf: &[u8], h: usize, p: usize) -> Fo
         }
     }
     Found::Bad
-}
-
-// All codewords from the first on.
-pub fn read_each(code: Code, sigma: u32, buf: &[u8], h: usize) -> Scan
-    requires { ⌜ Reads code sigma (now buf) h 0 ⌝ }
-    ensures { λ r. ⌜ r ≡ scanned (rowReading code sigma (rowUpto code h (now (buf .entry))) 0) ⌝ }
-{
-    let mut p: usize = 0;
-    let mut count: usize = 0;
-    while p < h {
-        let found = codeword_at(code, sigma, buf, h, p);
-        match found {
-            Found::Word(_, next) => {
-                p = next;
-                count += 1;
-            }
-            Found::Bad => {
-                return Scan::Bad(p);
-            }
-        }
-    }
-    Scan::Whole(count)
 }
 
 // Passes over so many codewords from symbol p on.

@@ -45,8 +45,3 @@ passedFrom c σ row p (suc count) = passStep (λ next. passedFrom c σ row next 
 unfoldable pub scanned : Reading → Scan
 scanned (done rs) = Whole (length rs)
 scanned (bad f p rs) = scan-bad p
-
--- with so many codewords before
-unfoldable pub plus : ℕ → Scan → Scan
-plus count (Whole n) = Whole (count + n)
-plus count (scan-bad p) = scan-bad p

@@ -22,7 +22,7 @@ unfoldable pub aheads : List ℕ → Reading → Reading
 aheads [] o = o
 aheads (r ∷ rs) o = ahead r (aheads rs o)
 
-aheads-done : (rs ts : List ℕ) → aheads rs (done ts) ≡ done (rs ++ ts)
+pub aheads-done : (rs ts : List ℕ) → aheads rs (done ts) ≡ done (rs ++ ts)
 unfolding aheads ahead
 aheads-done [] ts = refl
 aheads-done (r ∷ rs) ts = ap (ahead r) (aheads-done rs ts)
@@ -53,7 +53,7 @@ module _ (m : ℕ) (s : ℕ → ℕ) (g : Good m s) (σ : ℕ) where
   unfolding readFrom
   read-stop from i x y w h k = cond-yes (ltb y (s i)) _ _ (yes-ltb h) ∙ cond-yes (ltb (rankAt m s i x y) σ) _ _ (yes-ltb k)
 
-  read-stuck : (from i x y : ℕ) (w : List ℕ) → y < s i → σ ≤ rankAt m s i x y → readFrom m s σ from i x (y ∷ w) ≡ bad beyond from []
+  pub read-stuck : (from i x y : ℕ) (w : List ℕ) → y < s i → σ ≤ rankAt m s i x y → readFrom m s σ from i x (y ∷ w) ≡ bad beyond from []
   unfolding readFrom
   read-stuck from i x y w h k = cond-yes (ltb y (s i)) _ _ (yes-ltb h) ∙ cond-no (ltb (rankAt m s i x y) σ) _ _ (no-ltb k)
 
@@ -137,6 +137,11 @@ module _ (m : ℕ) (s : ℕ → ℕ) (g : Good m s) (σ : ℕ) where
       (λ h.
       let next : ℕ = x * (m - s i) + (y - s i) in
       rw (first-more i x y w h) (met-more from i x y w (firstFrom m s σ (suc i) next w) h (met w from (suc i) next)))
+
+  -- a codeword that has reached σ is bad whatever follows
+  pub read-past : (from i x : ℕ) (w : List ℕ) → σ ≤ shorter m s (suc i) + x → (f : Fault) × (readFrom m s σ from (suc i) x w ≡ bad f from [])
+  unfolding Met
+  read-past from i x w h = let (f, e) = first-past w (suc i) x h in (f, subst (Met from (suc i) x w) e (met w from (suc i) x) (omega arith))
 
   pub first-whole : (from : ℕ) (w : List ℕ) {r n : ℕ} → firstWord m s σ w ≡ whole r n
       → (r < σ) × (0 < n) × (n ≤ length w) × (readFrom m s σ from 0 0 w ≡ ahead r (readFrom m s σ (from + n) 0 0 (drop n w)))

@@ -45,7 +45,7 @@ digits-mod-pow : (m n v : ℕ) → 0 < m → digits m n (v % m ^ n) ≡ digits m
 digits-mod-pow m n v h = sym (digits-low m n (v / m ^ n) (v % m ^ n) h) ∙ ap (digits m n) (div-add-mod' v (m ^ n))
 
 -- those of two numbers, one after the other
-digits-append : (m a b v w : ℕ) → 0 < m → w < m ^ b → digits m (a + b) (v * m ^ b + w) ≡ digits m a v ++ digits m b w
+pub digits-append : (m a b v w : ℕ) → 0 < m → w < m ^ b → digits m (a + b) (v * m ^ b + w) ≡ digits m a v ++ digits m b w
 digits-append m a b v w h l =
     digits-parts m a b (v * m ^ b + w) ∙ ap₂ _++_ (ap (digits m a) (digits-div v l)) (digits-low m b v w h)
 
@@ -83,7 +83,7 @@ laid-more k i n v =
 module _ {k : ℕ} (w : Width k) where
   -- ---- symbols of a byte
 
-  byte-digits : (b : ℕ) → symbolsOf k (b ∷ []) ≡ digits (2 ^ k) (per k) b
+  pub byte-digits : (b : ℕ) → symbolsOf k (b ∷ []) ≡ digits (2 ^ k) (per k) b
   unfolding symbolsOf symbolAt per shift tab digits
   byte-digits b =
       by-width (λ k. symbolsOf k (b ∷ []) ≡ digits (2 ^ k) (per k) b) w (simp (div-div-eq-div-mul, div-one)) (simp div-one)

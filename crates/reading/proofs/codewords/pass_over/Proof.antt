@@ -9,7 +9,7 @@ use Rattle.symbols.specs.Paper.Symbols.{symbolsOf}
 use Rattle.reading.specs.Paper.Reading.{rowUpto}
 use Rattle.reading.specs.Helpers.Codewords.{passedFrom}
 use Rattle.reading.specs.Laws.Codewords.{found-word}
-use Rattle.reading.specs.Laws.Scans.{pass-word, pass-bad, pass-none}
+use Rattle.reading.specs.Laws.Passed.{pass-word, pass-bad, pass-none}
 use Rattle.reading.proofs.codewords.pass_over.Statement.{statement}
 use Rattle.reading.proofs.codewords.pass_over.Tie as tie
 
