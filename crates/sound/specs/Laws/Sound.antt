@@ -4,15 +4,15 @@ use mathlib.Core.List.{List}
 use Prim.Native.Nat.{ℕ, suc, _≤_, _<_}
 use native.Mathlib.Omega.{arith}
 use lib.Dec.{T}
-use lib.ListN.{length, getD, length-map}
+use lib.ListN.{length, drop, getD, length-map}
 use lib.Seq.{length-take-le}
 use Rattle.ground.specs.Helpers.Below.{Below}
 use Rattle.ground.specs.Laws.Limit.{limit-fits}
-use Rattle.ground.specs.Laws.Rows.{below-take}
+use Rattle.ground.specs.Laws.Rows.{below-take, below-drop}
 use Rattle.stopper.specs.Paper.Table.{base, stoppers, goodCode, goodTable}
-use Rattle.stopper.specs.Paper.Reading.{write}
+use Rattle.stopper.specs.Paper.Reading.{Reading, done, readFrom, write}
 use Rattle.stopper.specs.Laws.Table.{table-code, table-few, code-good, code-width}
-use Rattle.stopper.specs.Laws.Reading.{write-read}
+use Rattle.stopper.specs.Laws.Reading.{read-write, write-read}
 use Rattle.symbols.specs.Paper.Symbols.{room, symbolsOf}
 use Rattle.symbols.specs.Helpers.Widths.{Width}
 use Rattle.symbols.specs.Laws.Sizes.{room-limit}
@@ -24,7 +24,7 @@ use Rattle.reading.specs.Laws.Reading.{whole-is}
 use Rattle.reading.specs.declared.codewords.Found.the-variants.{Word}
 use Rattle.sound.specs.Paper.Roll.{readingFrom, reading, textOf, Sound}
 use Rattle.sound.specs.Paper.Lengths.{lengthsOf}
-use Rattle.sound.specs.Laws.Starts.{found-rank, start-upto}
+use Rattle.sound.specs.Laws.Starts.{drop-start, found-rank, start-upto}
 use Rattle.sound.specs.declared.records.Roll.{Roll}
 
 -- ---- a sound roll
@@ -91,3 +91,14 @@ module _ {r : Roll} {buf : List ℕ} (s : Sound r buf) where
   pub sound-start : (j : ℕ) → startAt (lengthsOf r buf) j ≤ r .h
   unfolding lengthsOf
   sound-start j = omega (arith, start-upto (r .table .code) (ranks r buf) j, ap length sound-row, sound-length)
+
+  -- read from where codeword j starts
+  pub sound-from : (j : ℕ) → readingFrom r buf (startAt (lengthsOf r buf) j) ≡ done (drop j (ranks r buf))
+  unfolding readingFrom lengthsOf
+  sound-from j =
+      let c = r .table .code in
+      let p = startAt (lengthsOf r buf) j in
+      let reads : List ℕ → Reading = readFrom (base c) (stoppers c) (r .table .sigma) p 0 0 in
+      ap (λ (w : List ℕ). reads (drop p w)) sound-row
+      ∙ ap reads (drop-start c (ranks r buf) j)
+      ∙ read-write (base c) (stoppers c) (code-good c sound-code) (r .table .sigma) p (below-drop sound-below j)

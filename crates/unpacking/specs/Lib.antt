@@ -1,0 +1,3 @@
+-- Symbols that give characters, many at once.
+pub mod Helpers
+pub mod Laws
