@@ -537,17 +537,20 @@ for k, s in ((2, 1), (2, 2), (2, 3), (4, 1), (4, 14), (4, 15)):
             check_case(f"width {k}, s {s}: {many} times {y}, closed", every, 1, many + 1, packed(k, [y] * many + [0]))
             check_case(f"width {k}, s {s}: {many} times {y}, open", every, 1, many, packed(k, [y] * many), (6, 0))
 
-# rolls of 2,048 symbols and more, near the borders of bytes: sigma where codewords gain a symbol, its last rank taken and rank sigma refused,
-# from each symbol of two bytes on and with each rest that two bytes leave
+# rolls of 2,048 symbols and more, of which a reader may take the first 1,024 one by one and then bytes: sigma where codewords gain a symbol,
+# its last rank taken and rank sigma refused, from each symbol near 1,024 and each of two bytes on and with each rest that two bytes leave
 turn = 0
 for k, s in [(2, s) for s in range(1, 4)] + [(4, s) for s in range(1, 16)]:
     words, two = codewords(k, s, 257), 16 // k
     powers = [r for r in range(1, 257) if len(words[r]) > len(words[r - 1])]
     for sigma in sorted({1, 256, *(powers[:2] + powers[-1:] if s == 2 ** k - 1 else powers)}):
-        at, h = 1024 + turn % two, 2048 + (turn + turn // two) % two
-        row = [0] * (512 + turn % 3) + list(words[sigma - 1])
-        row += [0] * (at - len(row)) + list(words[sigma])
-        check_case(f"width {k}, s {s}, sigma {sigma}: 6 at {at}", table(k, s, ALL, sigma), 1, h, packed(k, row + [0] * (h - len(row))), (6, at))
+        t, last, h = table(k, s, ALL, sigma), list(words[sigma - 1]), 2048 + (turn + turn // two) % two
+        # the last rank before, or over, symbol 1,024
+        over = 1024 - (1 + turn % (len(last) - 1) if len(last) > 1 else 1)
+        for first, at in ((512 + turn % 3, 1016 + turn % 17), (over, 1536 + turn % two)):
+            row = [0] * first + last
+            row += [0] * (at - len(row)) + list(words[sigma])
+            check_case(f"width {k}, s {s}, sigma {sigma}: 6 at {at}", t, 1, h, packed(k, row + [0] * (h - len(row))), (6, at))
         turn += 1
 # a codeword over each border of bytes
 for k, s in ((2, 2), (2, 3), (4, 1), (4, 15)):
@@ -556,18 +559,32 @@ for k, s in ((2, 2), (2, 3), (4, 1), (4, 15)):
     for h in (2047, 2048, 2049, 2047 + 2 * per, 65535, 65536):
         w = f"width {k}, s {s}, {h} symbols: "
         row = (([0] + [y] * (per - 1)) * (h // per + 1))[:h - 1]
-        n = sum(x < s for x in row) + 1
+        n, first = sum(x < s for x in row) + 1, 1024 // per
         check_case(w + "over each border", t, n, h, packed(k, row + [0]), None)
         if h in (2048, 2049, 65536):
             check_case(w + "6, unfinished", t, n, h, packed(k, row + [y]), (6, (h - 2) // per * per + 1))
         if h in (2048, 65536):
             check_case(w + "7", t, n - 1, h, packed(k, row + [0]), (7, n))
-            check_case(w + "6, no stopper from byte 301 on", t, n, h, packed(k, row[:301 * per] + [y] * (h - 301 * per)), (6, 300 * per + 1))
+            for at in (301, first - 1, first, first + 1):
+                check_case(w + f"6, no stopper from byte {at} on", t, n, h, packed(k, row[:at * per] + [y] * (h - at * per)), (6, at * per - per + 1))
         if h in (2049, 65535):
             check_case(w + "8", t, n, h, packed(k, row + [0, 1]), (8, 0))
-        for at in (300, 301, h // per - 2, h // per - 1) if h == 2049 else ():
+        for at in (300, first - 1, first, first + 1, first + 2, h // per - 2, h // per - 1) if h == 2049 else ():
             longer = row[:at * per] + [y] * per + row[(at + 1) * per:] + [0]
             check_case(w + f"6, no stopper in byte {at}", t, n - 1, h, packed(k, longer), (6, at * per - per + 1))
+
+# ranges of 2,048 characters, from each symbol of a byte on: more characters behind the range, and more bytes behind the output's
+for k, s in ((2, 1), (2, 2), (2, 3), (4, 1), (4, 3), (4, 15)):
+    t = table(k, s, list(reversed(ALL)), 27)
+    varied = [t[3][(i * i + 5 * i) % 27] for i in range(24)]
+    # as many symbols as a byte has, and one: a row of equal bytes
+    whole = [t[3][r] for r, w in enumerate(codewords(k, s)[:27]) if len(w) == 8 // k]
+    for start in range(8 // k):
+        text = [t[3][0]] * start + varied + whole[-1:] * 500 + varied[::-1] + whole[:1] * 500 + varied + [t[3][s // 2]] * 964 + varied
+        _, n, h, buf = pack(t, text, [0xFF] * 8000)
+        for many in (2047, 2048, 2049):
+            unpack_case(f"width {k}, s {s}: {many} characters from {start} on", t, n, h, buf, start, start + many, [0xEE] * (many + 5), None)
+    unpack_case(f"width {k}, s {s}: 13, one byte too few", t, n, h, buf, 1, 2049, [0xEE] * 2047, (13, 2048))
 
 # the longest codewords there and back
 for k, s in ((2, 3), (2, 2), (4, 15), (4, 14), (4, 1)):

@@ -28,7 +28,7 @@ use stopper::codeword_of::Codeword;
 use stopper::table::Table;
 
 fn main() {
-    let mut input = [0u8; 393216];
+    let mut input = [0u8; 458752];
     let n = io::read_full(0, &mut input);
     cases(&input[..n]);
 }

@@ -1,11 +1,11 @@
-//! A check that takes long rolls a byte at a time, to plant errors in.
+//! A check and an unpacking that take what is long a byte at a time, to plant errors in.
 
 use monterculo::sys::{Answer, Roll, Table};
 use monterculo_reference::reference::{symbols_of, LIMIT};
 
-use crate::long_rolls::LONG;
+use crate::long_rolls::{FIRST, LONG};
 use crate::planted::says;
-use crate::rolls::{bytes_for, per_byte};
+use crate::rolls::{bytes_for, per_byte, starts};
 
 /// What check answers with this error, or with none, where it should answer so.
 pub fn check(roll: &Roll, buf: &[u8], answer: Answer, error: &str) -> Answer {
@@ -14,15 +14,11 @@ pub fn check(roll: &Roll, buf: &[u8], answer: Answer, error: &str) -> Answer {
         return answer;
     }
     match codewords(&roll.table, buf, h, error) {
-        // What is refused on the way is read again, a codeword at a time; without an error it must be bad.
-        None if error.is_empty() => says(6, answer.value as usize),
-        None if error == "names the first symbol of a byte" => {
-            says(6, answer.value as usize / per_byte(k) * per_byte(k))
-        }
-        None => answer,
-        Some(n) if n != roll.n as usize => says(7, n),
-        Some(_) if error == "passes unused symbols" => says(0, 0),
-        Some(_) => {
+        Err(first) if error == "names the first symbol of a byte" => says(6, first / per_byte(k) * per_byte(k)),
+        Err(first) => says(6, first),
+        Ok(n) if n != roll.n as usize => says(7, n),
+        Ok(_) if error == "passes unused symbols" => says(0, 0),
+        Ok(_) => {
             let symbols = symbols_of(k, buf, bytes_for(k, h) * per_byte(k));
             says(if symbols[h..].iter().all(|&symbol| symbol == 0) { 0 } else { 8 }, 0)
         }
@@ -62,49 +58,163 @@ fn move_of(table: &Table, byte: u8, error: &str) -> Move {
     all
 }
 
-/// How many codewords the first h symbols are, or nothing if one is bad.
-fn codewords(table: &Table, buf: &[u8], h: usize, error: &str) -> Option<usize> {
+/// Before a symbol: the state of the codeword that is open there, and how many have ended.
+struct Way {
+    at: usize,
+    state: u64,
+    n: usize,
+}
+
+impl Way {
+    /// Symbols one by one, as far as the open codeword may be good; from symbol `any` on every rank is.
+    fn by_symbols(&mut self, table: &Table, symbols: &[u8], any: usize) {
+        let (s, sigma) = (u64::from(table.s), u64::from(table.sigma));
+        while self.at < symbols.len() {
+            let symbol = u64::from(symbols[self.at]);
+            if symbol < s {
+                if self.state * s + symbol >= sigma && self.at < any {
+                    return;
+                }
+                (self.state, self.n) = (0, self.n + 1);
+            } else {
+                let next = self.state * ((1 << table.k) - s) + symbol - s + 1;
+                if next >= sigma {
+                    return;
+                }
+                self.state = next;
+            }
+            self.at += 1;
+        }
+    }
+
+    /// Whole bytes two by two, as far as their moves take the state.
+    fn by_pairs(&mut self, table: &Table, buf: &[u8], pairs_end: usize, error: &str) {
+        let per = per_byte(table.k);
+        let moves: Vec<Move> = (0..=255).map(|byte| move_of(table, byte, error)).collect();
+        while self.at < pairs_end {
+            let (mut state, mut n) = (self.state, self.n);
+            for second in [false, true] {
+                let Move { bound, times, plus, ends } = moves[usize::from(buf[self.at / per + usize::from(second)])];
+                let lost = match error {
+                    "loses the state between two bytes" => second,
+                    "loses the state behind two bytes" => !second && self.at > FIRST,
+                    _ => false,
+                };
+                if lost {
+                    state = 0;
+                }
+                let over = error == "takes a bound one too great" && state > 0;
+                if state >= bound + u64::from(over) {
+                    if error == "keeps the state of a refused pair" {
+                        self.state = state;
+                    }
+                    return;
+                }
+                state = state * times + plus;
+                if error == "keeps 8 bits of the state" {
+                    state %= 256;
+                }
+                n += ends - usize::from(error == "counts one fewer where a byte ends two" && ends == 2);
+            }
+            *self = Way { at: self.at + 2 * per, state, n };
+        }
+    }
+}
+
+/// How many codewords the first h symbols are, or the first symbol of the first that is bad.
+fn codewords(table: &Table, buf: &[u8], h: usize, error: &str) -> Result<usize, usize> {
     let per = per_byte(table.k);
-    let moves: Vec<Move> = (0..=255).map(|byte| move_of(table, byte, error)).collect();
     let h = if error == "takes 65,536 symbols for none" { h % LIMIT } else { h };
-    // Two bytes at a time, and the symbols behind them one by one.
-    let pairs = h / (2 * per);
-    let (mut state, mut n) = (0, 0);
-    for (number, &byte) in buf[..2 * pairs].iter().enumerate() {
-        let Move { bound, times, plus, ends } = moves[usize::from(byte)];
-        let second = number % 2 == 1;
-        let lost = match error {
-            "loses the state between two bytes" => second,
-            "loses the state behind two bytes" => !second,
-            _ => false,
-        };
-        if lost {
+    let symbols = symbols_of(table.k, buf, h);
+    // Behind the last stopper before this symbol.
+    let opened = |at: usize, least: usize| {
+        let stopper = symbols[least..at].iter().rposition(|&symbol| symbol < table.s);
+        stopper.map_or(least, |place| least + place + 1)
+    };
+    let first = FIRST.min(h);
+    let mut way = Way { at: 0, state: 0, n: 0 };
+    way.by_symbols(table, &symbols[..first], h);
+    if way.at < first {
+        return Err(opened(way.at, 0));
+    }
+    match error {
+        "loses the state where bytes begin" => way.state = 0,
+        "loses the count where bytes begin" => way.n = 0,
+        _ => {}
+    }
+    let pairs_end = first + (h - first) / (2 * per) * (2 * per);
+    way.by_pairs(table, buf, pairs_end, error);
+    if error == "leaves out the last odd byte" && way.at == pairs_end && h - pairs_end >= per {
+        way.at += per;
+    }
+    let any = if error == "passes every rank in the last symbols" { pairs_end } else { h };
+    way.by_symbols(table, &symbols, any);
+    match error {
+        _ if way.at == h && way.state == 0 => Ok(way.n),
+        "passes an unfinished codeword" if way.at == h => Ok(way.n),
+        "names no symbol before bytes begin" => Err(opened(way.at, first)),
+        "names the symbol that is refused" => Err(way.at),
+        _ => Err(opened(way.at, 0)),
+    }
+}
+
+/// Writes what unpack writes of a long range of a sound roll with this error, or with none.
+pub fn unpack(roll: &Roll, buf: &[u8], start: usize, many: usize, out: &mut [u8], error: &str) {
+    let (table, h) = (&roll.table, roll.h as usize);
+    let per = per_byte(table.k);
+    let symbols = symbols_of(table.k, buf, h);
+    let first = starts(roll, buf)[start] as usize;
+    let border = ((first / per + 1) * per).min(h);
+    let from = if error == "begins with the byte's first symbol" { first / per * per } else { first };
+    let mut state = 0;
+    let mut text = characters(table, &mut state, &symbols[from..border]);
+    match error {
+        "leaves out what is before the first border" => text.clear(),
+        "loses the state at the first border" => state = 0,
+        _ => {}
+    }
+    out[..text.len()].copy_from_slice(&text);
+    let (mut at, mut n) = (border, text.len());
+    // As long as four are to come, four are stored, and those too many are stored over.
+    let least = if error == "stores four where three are to come" { 3 } else { 4 };
+    while at + per <= h && n + least <= many {
+        if error == "loses the state at a byte" {
             state = 0;
         }
-        let over = error == "takes a bound one too great" && state > 0;
-        if state >= bound + u64::from(over) {
-            return None;
+        let mut given = characters(table, &mut state, &symbols[at..at + per]);
+        let ends = given.len();
+        if error == "turns the later characters of a byte" && ends > 1 {
+            given[1..].reverse();
         }
-        state = state * times + plus;
-        if error == "keeps 8 bits of the state" {
-            state %= 256;
+        given.resize(4, 0);
+        for (place, character) in out[n..].iter_mut().zip(given) {
+            *place = character;
         }
-        n += ends - usize::from(error == "counts one fewer where a byte ends two" && ends == 2);
+        (at, n) = (at + per, n + ends);
     }
-    let (s, sigma) = (u64::from(table.s), u64::from(table.sigma));
-    for &symbol in &symbols_of(table.k, buf, h)[2 * pairs * per..] {
-        let symbol = u64::from(symbol);
-        if symbol >= s {
-            state = state * ((1 << table.k) - s) + symbol - s + 1;
-        } else if state * s + symbol < sigma || error == "passes every rank in the last symbols" {
-            (state, n) = (0, n + 1);
+    match error {
+        "leaves out the last symbols" => return,
+        "loses the state behind the bytes" => state = 0,
+        _ => {}
+    }
+    let to_come = many - n.min(many) + usize::from(error == "writes one character more");
+    let rest = characters(table, &mut state, &symbols[at..]);
+    for (place, character) in out[n..].iter_mut().zip(rest).take(to_come) {
+        *place = character;
+    }
+}
+
+/// The characters of the codewords that end in these symbols, from a state on.
+fn characters(table: &Table, state: &mut usize, symbols: &[u8]) -> Vec<u8> {
+    let s = usize::from(table.s);
+    let mut text = Vec::new();
+    for symbol in symbols.iter().map(|&symbol| usize::from(symbol)) {
+        if symbol < s {
+            text.push(table.places[*state * s + symbol]);
+            *state = 0;
         } else {
-            return None;
+            *state = *state * ((1 << table.k) - s) + symbol - s + 1;
         }
     }
-    if state == 0 || error == "passes an unfinished codeword" {
-        Some(n)
-    } else {
-        None
-    }
+    text
 }

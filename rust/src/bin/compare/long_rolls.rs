@@ -1,4 +1,5 @@
 //! Long rolls, which a reader may take a byte at a time: what is bad in them stands at a border of bytes or next to it.
+//! The first symbols it may take one by one, so where bytes begin is such a border too.
 
 use monterculo::sys::{Roll, Table};
 use monterculo_reference::reference::{bytes_of, codeword_by_rule, listing, LIMIT};
@@ -11,6 +12,12 @@ use crate::texts::{continuers, strange_codeword};
 
 /// From so many symbols on a roll is long.
 pub const LONG: usize = 2_048;
+
+/// So many symbols of a long roll come before those that are taken by bytes.
+pub const FIRST: usize = 1_024;
+
+/// From so many characters on a range is long.
+pub const MANY: usize = 2_048;
 
 /// A long roll and its buffer, or one just too short for that; sound, or with one fault.
 pub fn long_roll(rng: &mut Rng) -> (Roll, Vec<u8>) {
@@ -28,12 +35,7 @@ pub fn long_roll(rng: &mut Rng) -> (Roll, Vec<u8>) {
             let codeword = bad_codeword(rng, &table, h);
             // It starts there or ends there.
             let any_start = rng.pick(&[number, (number + 1).saturating_sub(codeword.len())]);
-            let start = any_start.min(h - codeword.len());
-            let mut symbols = sound_symbols(rng, &table, habit, start);
-            symbols.extend(codeword);
-            let rest = h - symbols.len();
-            symbols.extend(sound_symbols(rng, &table, habit, rest));
-            symbols
+            around(rng, &table, habit, &codeword, any_start, h)
         }
         Some(Unfinished) | Some(Endless) => {
             let last = rng.between(1, 2 * per_byte(k) + 1);
@@ -41,6 +43,13 @@ pub fn long_roll(rng: &mut Rng) -> (Roll, Vec<u8>) {
             let mut symbols = sound_symbols(rng, &table, habit, start);
             symbols.extend(continuers(rng, &table, h - start));
             symbols
+        }
+        // A codeword as long as any that is sound, over the symbol where bytes begin.
+        _ if rng.one_in(3) => {
+            let last = usize::from(table.sigma).saturating_sub(1);
+            let codeword = &listing(k, table.s).codewords[last];
+            let start = FIRST - rng.below(codeword.len());
+            around(rng, &table, habit, codeword, start, h)
         }
         _ => sound_symbols(rng, &table, habit, h),
     };
@@ -89,25 +98,48 @@ fn table_at_bounds(rng: &mut Rng) -> Table {
     table_with(rng, k, s, sigma)
 }
 
-/// Around the first long one with each rest that two bytes leave, some thousands, or the limit.
+/// Around the first long one with each rest that two bytes leave, around where bytes begin, some thousands, or the limit.
 fn long_length(rng: &mut Rng) -> usize {
     match rng.below(30) {
         0 => rng.pick(&[LIMIT - 1, LIMIT]),
-        1..=7 => rng.between(LONG, 6_000),
-        _ => rng.between(LONG - 1, LONG + 17),
+        1..=7 => rng.between(LONG, 8_000),
+        8..=9 => rng.between(FIRST - 1, FIRST + 1),
+        _ => rng.between(LONG - 2, LONG + 17),
     }
 }
 
-/// The first or last symbol of a byte, or any: in the first bytes, the last ones, or any.
+/// Near the symbol where bytes begin; or the first or last symbol of a byte, or any: in the first bytes, the last ones, or any.
 fn near_border(rng: &mut Rng, k: u8, h: usize) -> usize {
     let (per, bytes) = (per_byte(k), bytes_for(k, h));
-    let byte = match rng.below(4) {
-        0 => rng.below(4),
-        1 => bytes - 1 - rng.below(4),
+    let byte = match rng.below(6) {
+        0..=1 => return rng.between(FIRST - 8, FIRST + 8).min(h - 1),
+        2 => rng.below(4),
+        3 => bytes - 1 - rng.below(4),
         _ => rng.below(bytes),
     };
     let any = rng.below(per);
     (byte * per + rng.pick(&[0, per - 1, any])).min(h - 1)
+}
+
+/// A sound roll of so many characters, and its buffer.
+pub fn roll_of_characters(rng: &mut Rng, n: usize) -> (Roll, Vec<u8>) {
+    let (mut table, habit) = (table_at_bounds(rng), Habit::of(rng));
+    table.sigma = table.sigma.max(1);
+    let list = listing(table.k, table.s);
+    let mut taken = 0;
+    let mut ranks = Vec::with_capacity(n);
+    for behind in (0..n).rev() {
+        let rank = habit.rank(rng, usize::from(table.sigma));
+        // Rank 0 takes one symbol: room for it is kept for each of those behind.
+        let rank = if taken + list.codewords[rank].len() + behind > LIMIT { 0 } else { rank };
+        taken += list.codewords[rank].len();
+        ranks.push(rank);
+    }
+    for last in (1..n).rev() {
+        ranks.swap(last, rng.below(last + 1));
+    }
+    let symbols: Vec<u8> = ranks.iter().flat_map(|&rank| list.codewords[rank].iter().copied()).collect();
+    (Roll { table, n: n as u32, h: symbols.len() as u32 }, bytes_of(table.k, &symbols))
 }
 
 /// Which ranks a roll has.
@@ -153,6 +185,15 @@ fn sound_symbols(rng: &mut Rng, table: &Table, habit: Habit, length: usize) -> V
             symbols.splice(front..front, vec![0; left]);
         }
     }
+    symbols
+}
+
+/// This codeword from there on, or earlier if h would cut it, and h symbols in all: sound ones before and behind it.
+fn around(rng: &mut Rng, table: &Table, habit: Habit, codeword: &[u8], start: usize, h: usize) -> Vec<u8> {
+    let mut symbols = sound_symbols(rng, table, habit, start.min(h - codeword.len()));
+    symbols.extend(codeword);
+    let rest = h - symbols.len();
+    symbols.extend(sound_symbols(rng, table, habit, rest));
     symbols
 }
 

@@ -8,7 +8,7 @@ use monterculo_reference::reference::{self, symbols_of, LIMIT};
 use crate::by_bytes;
 use crate::faults::{faults, Fault};
 use crate::lent::Lent;
-use crate::long_rolls::{long_roll, LONG};
+use crate::long_rolls::{long_roll, FIRST, LONG};
 use crate::operation::{Cases, Corners, Operation};
 #[cfg(test)]
 use crate::planted::{good_if_wrapped, says};
@@ -45,6 +45,10 @@ impl Operation for Check {
         match answer.number {
             0 => {
                 met.meet(long, "long rolls read");
+                met.meet(
+                    long && symbols_of(k, &self.buf, FIRST)[FIRST - 1] >= s,
+                    "long rolls read with a codeword over the symbol where bytes begin",
+                );
                 met.meet(h == LIMIT, "rolls of 65,536 symbols read");
             }
             6 => {
@@ -55,6 +59,10 @@ impl Operation for Check {
                 met.meet(long, "long rolls refused 6");
                 met.meet(long && h == LIMIT, "long rolls refused 6 that have 65,536 symbols");
                 met.meet(long && end.is_none(), "long rolls refused 6 with a codeword unfinished");
+                met.meet(
+                    long && first < FIRST && end.unwrap_or(h) >= FIRST,
+                    "long rolls refused 6 with a bad codeword over the symbol where bytes begin",
+                );
                 if let Some(end) = end.filter(|_| long) {
                     let (first_byte, last_byte) = (first / per_byte(k), end / per_byte(k));
                     met.meet(first_byte == last_byte, "long rolls refused 6 with a bad codeword inside one byte");
@@ -94,7 +102,13 @@ impl Operation for Check {
         "by bytes: loses the state behind two bytes",
         "by bytes: keeps 8 bits of the state",
         "by bytes: counts one fewer where a byte ends two",
+        "by bytes: keeps the state of a refused pair",
+        "by bytes: loses the state where bytes begin",
+        "by bytes: loses the count where bytes begin",
+        "by bytes: leaves out the last odd byte",
         "by bytes: names the first symbol of a byte",
+        "by bytes: names no symbol before bytes begin",
+        "by bytes: names the symbol that is refused",
         "by bytes: takes 65,536 symbols for none",
     ];
 
@@ -149,21 +163,26 @@ mod tests {
     #[test]
     fn long_rolls_come_in_every_way() {
         let (mut codes, mut lengths, mut bad) = (BTreeSet::new(), BTreeSet::new(), BTreeSet::new());
+        let (mut all, mut begun) = (BTreeSet::new(), BTreeSet::new());
         for call in 0..2_000 {
             let mut case = make_long(&mut Rng::of_call(5, call));
             let answer = case.reference();
             let Roll { table, h, .. } = case.roll;
             let two = 2 * per_byte(table.k) as u32;
             codes.insert((table.k, table.s, answer.number == 0));
+            all.insert(h as usize);
             if h >= LONG as u32 {
                 lengths.insert((table.k, h % two, answer.number == 0));
             }
             if h >= LONG as u32 && answer.number == 6 {
                 bad.insert((table.k, answer.value as u32 % two));
+                begun.insert((table.k, answer.value as usize));
             }
         }
         assert_eq!(codes.len(), 2 * 18);
         assert_eq!(lengths.len(), 2 * (8 + 4));
         assert_eq!(bad.len(), 8 + 4);
+        assert!((FIRST - 1..=FIRST + 1).chain(LONG - 2..=LONG + 17).chain(LIMIT - 1..=LIMIT).all(|h| all.contains(&h)));
+        assert!((FIRST - 8..=FIRST + 8).all(|first| begun.contains(&(2, first)) && begun.contains(&(4, first))));
     }
 }
