@@ -27,9 +27,9 @@
  *   lines 46 % passed it with k = 2, and 78 % with k = 4, each with another text. An old record beside a newer buffer
  *   may pass as well, as where an edit put characters behind the last and the old symbols filled whole bytes. Keep a
  *   checksum of your own, and save record, buffer and directory together.
- * - The stack, in bytes and with the arguments: edit 27,500, pack 26,900, search 9,500, codeword_of 3,900, unpack 3,200,
- *   make_directory and check 2,600, read_one and character_of 1,300, choose 1,000, count 100. No call takes memory from
- *   elsewhere. These figures and those of the faults were measured on the archive by tools/measure.c.
+ * - The stack, in bytes and with the arguments: edit 29,000, pack 26,900, unpack 12,900, search 11,700, make_directory
+ *   5,600, check 5,300, codeword_of 3,900, read_one and character_of 1,300, choose 1,000, count 100. No call takes memory
+ *   from elsewhere. These figures and those of the faults were measured on the archive by tools/measure.c.
  *
  * Sizes to lend.
  *   counts                256 entries of 32 bits
