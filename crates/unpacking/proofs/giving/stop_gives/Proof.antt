@@ -16,7 +16,7 @@ returns c =
     let k = s .args .code in
     let e : t .stoppers-at .result ≡ stoppers k 0 = t .stoppers-at .ensures in
     let l : stoppers k 0 ≤ 16 = omega (arith, code-good k (s .pre .0) .high 0, code-base k (s .pre .0) .1) in (
-      record { times = omega arith; plus = omega (arith, s .pre .3); second = omega (arith, c .character .ensures .1); third = s .pre .1 .second; fourth = s .pre .1 .third },
+      record { times = omega arith; plus = omega (arith, s .pre .3); second = omega (arith, c .character .ensures .1); third = omega (arith, s .pre .1 .second, s .pre .1 .third); fourth = s .pre .1 .third },
       λ w short f _. rw (c .character .ensures .0, e)
           (spells-stop k (s .args .places .now) (s .args .y) (s .pre .3) short (f (s .pre .2))),
     )
