@@ -1,0 +1,16 @@
+// The end of a roll that came in.
+use crate::judging::verdict;
+use crate::kept::kept;
+use crate::records::Searcher;
+use ground::answers::Done;
+ghost use Rattle.radio.specs.Paper.Operations.{Finishing};
+
+pub fn finish(searcher: Searcher) -> Done
+    ensures { λ r. ⌜ Finishing searcher r ⌝ }
+{
+    let asked = kept(searcher);
+    let Done::Yes = asked else {
+        return asked;
+    };
+    verdict(searcher.judge)
+}

@@ -1,0 +1,81 @@
+// Any searcher may come: what start asks is asked of it again, and that its numbers are within their bounds.
+use crate::records::Judge;
+use crate::records::Searcher;
+use ground;
+use ground::answers::Done;
+use stopper::table::good_table;
+use symbols::bits::place_in_byte;
+use texts::pattern::MOST_PATTERN;
+use texts::pattern::good_pattern;
+ghost use mathlib.Core.Path.{_≡_};
+ghost use Prim.Native.Nat.{_^_, _≤_, _<_};
+ghost use lib.Dec.{T, ltb};
+ghost use Rattle.stopper.specs.Paper.Table.{goodTable};
+ghost use Rattle.radio.specs.Paper.Judge.{judgeBounds};
+ghost use Rattle.radio.specs.Helpers.Kept.{Kept};
+
+// Whether a judge's reading state and counts are within their bounds.
+pub fn judge_bounds(judge: Judge) -> bool
+    requires { ⌜ T (goodTable (judge .roll .table)) ⌝ }
+    ensures { λ r. ⌜ r ≡ judgeBounds judge ⌝ }
+{
+    let roll = judge.roll;
+    let table = roll.table;
+    let code = table.code;
+    let k = code.k;
+    let p = judge.progress;
+    let state = (p.past <= 1)
+        & (p.place <= 2)
+        & (p.shorter <= 256)
+        & (p.rows <= 4096)
+        & (p.value <= 256)
+        & (p.bad <= 1)
+        & (p.stained <= 1);
+    let counts = (p.count <= p.first) & (p.first <= p.read) & (p.read <= roll.h);
+    let whole = place_in_byte(k, p.read as usize) == 0;
+    state & counts & ((p.bad == 1) | (p.read == roll.h) | whole)
+}
+
+// Whether a number has no more than so many bits.
+fn bits_within(x: u64, bits: u32) -> bool
+    ensures { λ r. ⌜ r ≡ ltb x (2 ^ bits) ⌝ }
+{
+    if 64 <= bits {
+        return true;
+    }
+    x < 1 << bits
+}
+
+pub fn kept(searcher: Searcher) -> Done
+    ensures { λ r. ⌜ Kept searcher r ⌝ }
+{
+    let judge = searcher.judge;
+    let roll = judge.roll;
+    let table = roll.table;
+    if !good_table(table) {
+        return Done::Refused(1, 0);
+    }
+    if ground::limit() < roll.h as usize {
+        return Done::Refused(5, roll.h as u64);
+    }
+    let length = searcher.length;
+    if MOST_PATTERN < length as usize {
+        return Done::Refused(11, 0);
+    }
+    let pattern = searcher.pattern;
+    let long = length as usize;
+    if !good_pattern(&pattern[..long]) {
+        return Done::Refused(11, 0);
+    }
+    if !judge_bounds(judge) {
+        return Done::Refused(1, 0);
+    }
+    let progress = judge.progress;
+    if !bits_within(searcher.ends, progress.count) {
+        return Done::Refused(1, 0);
+    }
+    if !bits_within(searcher.ends, length - 1) {
+        return Done::Refused(1, 0);
+    }
+    Done::Yes
+}
