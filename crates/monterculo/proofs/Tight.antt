@@ -26,6 +26,12 @@ use Rattle.monterculo.proofs.monterculo_search.Kinds as search-kinds
 use Rattle.monterculo.proofs.monterculo_search.Reads as search-reads
 use Rattle.monterculo.proofs.monterculo_edit.Kinds as edit-kinds
 use Rattle.monterculo.proofs.monterculo_edit.Reads as edit-reads
+use Rattle.monterculo.proofs.monterculo_start.Kinds as start-kinds
+use Rattle.monterculo.proofs.monterculo_start.Reads as start-reads
+use Rattle.monterculo.proofs.monterculo_feed.Kinds as feed-kinds
+use Rattle.monterculo.proofs.monterculo_feed.Reads as feed-reads
+use Rattle.monterculo.proofs.monterculo_finish.Kinds as finish-kinds
+use Rattle.monterculo.proofs.monterculo_finish.Reads as finish-reads
 
 -- lent: `counts`
 pub count-tight : (κs : Lfts 2) (a : Dens κs count-kinds.ps) (r₁ r₂ : resT count-kinds.r κs .Denot) (s₁ s₂ : AtExit (endedOf 2 count-kinds.ps count-kinds.r) κs)
@@ -87,3 +93,19 @@ pub edit-tight : (κs : Lfts 3) (a : Dens κs edit-kinds.ps) (r₁ r₂ : resT e
     → edit-reads.Learnt κs a r₁ s₁ → edit-reads.Learnt κs a r₂ s₂
     → (r₁ .answer ≡ r₂ .answer) × (r₁ .roll ≡ r₂ .roll) × (s₁ .1 .0 .now ≡ s₂ .1 .0 .now) × (s₁ .1 .1 .0 .now ≡ s₂ .1 .1 .0 .now)
 edit-tight κs a r₁ r₂ s₁ s₂ p q = (p .0 ∙ sym (q .0), p .1 .0 ∙ sym (q .1 .0), p .1 .1 .0 ∙ sym (q .1 .1 .0), p .1 .1 .1 ∙ sym (q .1 .1 .1))
+
+pub start-tight : (κs : Lfts 1) (a : Dens κs start-kinds.ps) (r₁ r₂ : resT start-kinds.r κs .Denot) (s₁ s₂ : AtExit (endedOf 1 start-kinds.ps start-kinds.r) κs)
+    → start-reads.Learnt κs a r₁ s₁ → start-reads.Learnt κs a r₂ s₂
+    → (r₁ .answer ≡ r₂ .answer) × (r₁ .searcher ≡ r₂ .searcher)
+start-tight κs a r₁ r₂ s₁ s₂ p q = (p .0 ∙ sym (q .0), p .1 ∙ sym (q .1))
+
+-- lent: `slice`
+pub feed-tight : (κs : Lfts 2) (a : Dens κs feed-kinds.ps) (r₁ r₂ : resT feed-kinds.r κs .Denot) (s₁ s₂ : AtExit (endedOf 2 feed-kinds.ps feed-kinds.r) κs)
+    → feed-reads.Learnt κs a r₁ s₁ → feed-reads.Learnt κs a r₂ s₂
+    → (r₁ .answer ≡ r₂ .answer) × (r₁ .hits ≡ r₂ .hits) × (r₁ .searcher ≡ r₂ .searcher) × (s₁ .1 .1 .0 .now ≡ s₂ .1 .1 .0 .now)
+feed-tight κs a r₁ r₂ s₁ s₂ p q = (p .0 ∙ sym (q .0), p .1 .0 ∙ sym (q .1 .0), p .1 .1 .0 ∙ sym (q .1 .1 .0), p .1 .1 .1 ∙ sym (q .1 .1 .1))
+
+pub finish-tight : (κs : Lfts 0) (a : Dens κs finish-kinds.ps) (r₁ r₂ : resT finish-kinds.r κs .Denot) (s₁ s₂ : AtExit (endedOf 0 finish-kinds.ps finish-kinds.r) κs)
+    → finish-reads.Learnt κs a r₁ s₁ → finish-reads.Learnt κs a r₂ s₂
+    → (r₁ ≡ r₂)
+finish-tight κs a r₁ r₂ s₁ s₂ p q = p ∙ sym q

@@ -1,16 +1,19 @@
 // The operations for callers in C and Rust: the door that boxes come in by.
 //
-// Tables, codewords and rolls come in and are answered by value, and nothing is written but what is lent: a record that grows changes no
+// Tables, codewords, rolls and searchers come in and are answered by value, and nothing is written but what is lent: a record that grows changes no
 // signature. Beside them stand the refusal's number, 0 for accepted work, and the refusal's value or what is answered.
 
 mod taken;
 
+use radio::records::Searcher;
 use sound::records::Roll;
 use stopper::codeword_of::Codeword;
 use stopper::table::Table;
 use taken::Chosen;
 use taken::Coded;
+use taken::Fed;
 use taken::Rolled;
+use taken::Started;
 use taken::Told;
 use taken::done;
 use taken::read;
@@ -20,6 +23,8 @@ ghost use Rattle.ground.specs.Paper.Refusals.{accepted, _then_};
 ghost use Rattle.stopper.specs.Paper.Operations.{codewordSays, codewordGiven, characterSays};
 ghost use Rattle.choosing.specs.Paper.Operations.{countSays, countLeaves, chooseSays, chooseTable, chooseTotal};
 ghost use Rattle.roll.specs.Paper.Operations.{packSays, packRoll, packLeaves, checkSays, unpackSays, unpackLeaves, makeSays, makeLeaves, readSays, searchSays, searchLeaves, editSays, editRoll, editLeaves, editDirectory};
+ghost use lib.ListN.{length};
+ghost use Rattle.radio.specs.Paper.Operations.{startSays, startSearcher, feedSays, feedHits, feedSearcher, feedLeaves, finishSays};
 ghost use Rattle.monterculo.specs.Paper.Taken.{told};
 
 #[no_mangle]
@@ -162,4 +167,46 @@ pub extern "C" fn monterculo_edit(
         answer: done(answer, 0),
         roll,
     }
+}
+
+// A refused start answers a searcher of an empty pattern, which is refused in its turn.
+#[no_mangle]
+pub extern "C" fn monterculo_start(roll: Roll, pattern: &[u8]) -> Started
+    ensures told { λ r. ⌜ r .answer ≡ told (startSays roll (now (pattern .entry)) then accepted 0) ⌝ }
+    ensures searcher { λ r. ⌜ r .searcher ≡ startSearcher roll (now (pattern .entry)) ⌝ }
+{
+    let started = radio::start::start(roll, pattern);
+    let searcher = started.searcher;
+    let answer = started.answer;
+    Started {
+        answer: done(answer, 0),
+        searcher,
+    }
+}
+
+// Its value is the number of hits. A refused piece answers the searcher that came in, but for a bad codeword met in it.
+#[no_mangle]
+pub extern "C" fn monterculo_feed(searcher: Searcher, piece: &[u8], slice: &mut [u32]) -> Fed
+    ensures told { λ r. ⌜ r .answer ≡ told (feedSays searcher (now (piece .entry)) (now (slice .entry)) then accepted (length (feedHits searcher (now (piece .entry)) (now (slice .entry))))) ⌝ }
+    ensures hits { λ r. ⌜ r .hits ≡ length (feedHits searcher (now (piece .entry)) (now (slice .entry))) ⌝ }
+    ensures searcher { λ r. ⌜ r .searcher ≡ feedSearcher searcher (now (piece .entry)) (now (slice .entry)) ⌝ }
+    ensures slice { λ _. ⌜ now (slice .exit) ≡ feedLeaves searcher (now (piece .entry)) (now (slice .entry)) ⌝ }
+{
+    let fed = radio::feed::feed(searcher, piece, slice);
+    let on = fed.searcher;
+    let answer = fed.answer;
+    let hits = fed.hits;
+    Fed {
+        answer: done(answer, hits as u64),
+        hits,
+        searcher: on,
+    }
+}
+
+#[no_mangle]
+pub extern "C" fn monterculo_finish(searcher: Searcher) -> Told
+    ensures { λ r. ⌜ r ≡ told (finishSays searcher then accepted 0) ⌝ }
+{
+    let answer = radio::finish::finish(searcher);
+    done(answer, 0)
 }

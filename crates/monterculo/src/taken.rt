@@ -2,6 +2,7 @@
 use ground::answers::Answer;
 use ground::answers::Done;
 use ground::answers::Total;
+use radio::records::Searcher;
 use sound::records::Roll;
 use stopper::codeword_of::Codeword;
 use stopper::table::Table;
@@ -33,6 +34,20 @@ pub struct Coded {
 pub struct Rolled {
     pub answer: Told,
     pub roll: Roll,
+}
+
+#[repr(C)]
+pub struct Started {
+    pub answer: Told,
+    pub searcher: Searcher,
+}
+
+// A piece fed: how many hits were written, with a refusal too.
+#[repr(C)]
+pub struct Fed {
+    pub answer: Told,
+    pub hits: usize,
+    pub searcher: Searcher,
 }
 
 pub fn done(answer: Done, answered: u64) -> Told
