@@ -3,7 +3,8 @@
 
 What should be printed is worked out here from the paper alone: codewords are listed in rank order by the paper's rule, a roll is read by
 looking each codeword up in that list, and every refusal is asked in the paper's order. Of a roll that comes in, all bytes that came are read
-anew after each piece, and texts are compared. Nothing is taken from src/ or specs/.
+anew after each piece, and texts are compared. Nothing is taken from src/ or specs/, but for what a searcher says of an open codeword and the
+bounds of its numbers: these are the library's own choice, and stand in docs/PAPER.md as they are here.
 """
 import pathlib
 
