@@ -1,8 +1,10 @@
-/* A notice box. It packs a small members' file, finds a pan where the roll lies, reads that member's line, corrects the
- * telephone number in it and saves the roll. Everything lies in fixed buffers, and every answer is looked at. */
+/* A notice box. The office packs a small members' file and sends it. The box names the members' lines while the roll is
+ * still coming in, finds a pan where the roll lies, reads that member's line, corrects the telephone number in it and
+ * saves the roll. Everything lies in fixed buffers, and every answer is looked at. */
 #include <inttypes.h>
 #include <stdio.h>
 #include <stdlib.h>
+#include <string.h>
 
 #include "monterculo.h"
 
@@ -13,10 +15,17 @@ static const uint8_t members[] = "pan 7 Oda 5550143\n"
                                  "pan 12 Jory 5550128\n"
                                  "pan 112 Maren 5550167\n"
                                  "pan 21 Tavo 5550190\n";
+/* Each line begins so. */
+static const uint8_t each[] = "pan ";
 /* With the word before it and the blank behind it, pan 12 is not found in pan 112 or in a pan 120. */
 static const uint8_t pan[] = "pan 12 ";
 static const uint8_t foreign[] = "+445550186";
 static const uint8_t corrected[] = "0445550186";
+
+/* What the office sends by radio: first the record, and then the packed bytes, so many at a time. Here each border
+ * between two pieces cuts a codeword. */
+enum { WIDTH = 2, PIECE = 12 };
+static uint8_t sent[128];
 
 /* The box: the record of the roll, its symbols and its directory, with room for longer numbers. */
 static struct monterculo_roll roll;
@@ -50,6 +59,32 @@ static void print_roll(void)
         printf(" %" PRIu32, dir[i]);
     printf("\n");
     print_range(0, roll.n);
+}
+
+/* Receives the roll whose record came: each piece is kept, and searched as it comes. */
+static void receive(void)
+{
+    struct monterculo_searcher searcher;
+    uint32_t found[MONTERCULO_HITS(PIECE, WIDTH)];
+    size_t bytes = MONTERCULO_BYTES(roll.h, roll.table.k), at, length, hits, i;
+
+    expect(0, monterculo_start_into(&searcher, roll, each, sizeof each - 1), "start");
+    for (at = 0; at < bytes; at += length) {
+        length = bytes - at < PIECE ? bytes - at : PIECE;
+        memcpy(buf + at, sent + at, length);
+        expect(0, monterculo_feed_into(&searcher, buf + at, length, found, ROOM(found), &hits), "feed");
+        printf("bytes %zu..%zu come in: '%s' at", at, at + length, (const char *)each);
+        for (i = 0; i < hits; i++)
+            printf(" %" PRIu32, found[i]);
+        if (hits == 0)
+            printf(" none");
+        if (at + length < bytes)
+            printf("; symbol %" PRIu64 " begins a codeword that is not finished\n",
+                   expect(MONTERCULO_BAD_CODEWORD, monterculo_finish(searcher), "finish"));
+    }
+    /* What was named is to be believed from here on. */
+    expect(0, monterculo_finish(searcher), "finish");
+    printf("; the roll is whole and sound\n");
 }
 
 /* The character at a place, by the directory. */
@@ -100,13 +135,14 @@ int main(void)
     FILE *file = tmpfile();
 
     expect(0, monterculo_count(members, sizeof members - 1, counts, ROOM(counts)), "count");
-    chosen = monterculo_choose(2, counts, ROOM(counts));
+    chosen = monterculo_choose(WIDTH, counts, ROOM(counts));
     total = expect(0, chosen.answer, "choose");
     printf("the table: %d stoppers, %d characters; the text takes %" PRIu64 " symbols\n", chosen.table.s,
            chosen.table.sigma, total);
-    rolled = monterculo_pack(chosen.table, members, sizeof members - 1, buf, sizeof buf);
+    rolled = monterculo_pack(chosen.table, members, sizeof members - 1, sent, sizeof sent);
     expect(0, rolled.answer, "pack");
     roll = rolled.roll;
+    receive();
     expect(0, monterculo_make_directory(roll, buf, sizeof buf, dir, ROOM(dir)), "make a directory");
     print_roll();
 

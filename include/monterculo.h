@@ -1,16 +1,17 @@
-/* Monterculo: a text packed in a stopper code, searched and edited where it lies. For C99 and C++ on x86-64; a program
- * links libmonterculo.a, which needs the C library and nothing else.
+/* Monterculo: a text packed in a stopper code, searched and edited where it lies, and searched while it still comes in.
+ * For C99 and C++ on x86-64; a program links libmonterculo.a, which needs the C library and nothing else.
  *
  * A text is bytes; one byte is one character. A roll is a text packed as base symbols of k bits, k = 2 or 4.
  *
- * Tables, codewords and rolls are structs, taken and answered by value. A roll's symbols lie in a lent buffer beside it.
+ * Tables, codewords, rolls and searchers are structs, taken and answered by value. A roll's symbols lie in a lent buffer
+ * beside it.
  * Whatever the numbers and bytes of a struct are, a call finishes and answers by the rules below. Places count from 0; a
  * range runs from its start up to, and not including, its end.
  *
  * Every function answers a number and a value. Number 0 is accepted; any other is a refusal, of those in enum
  * monterculo_number, with the refusal's value (in brackets below). Of accepted work the value is what the function's
  * comment names, and 0 where none is named. The refusals of a function are given in their order: the first that applies
- * is answered. A refused call writes nothing.
+ * is answered. A refused call writes nothing, but for the hits that monterculo_feed delivers with a bad codeword.
  *
  * What a maker trips over:
  * - Pointers. Each must be valid for its length, for writing too unless it is const, and aligned for its type. None may
@@ -27,6 +28,8 @@
  *   lines 46 % passed it with k = 2, and 78 % with k = 4, each with another text. An old record beside a newer buffer
  *   may pass as well, as where an edit put characters behind the last and the old symbols filled whole bytes. Keep a
  *   checksum of your own, and save record, buffer and directory together.
+ * - The answered searcher is the one to go on with: keep it in place of the one that was handed in. A hit that feed names
+ *   is one of the text read so far; whether the roll is sound is known once monterculo_finish accepts, and not before.
  * - The stack, in bytes and with the arguments: edit 29,000, pack 26,900, unpack 12,900, search 11,700, make_directory
  *   5,600, check 5,300, codeword_of 3,900, read_one and character_of 1,300, choose 1,000, count 100. No call takes memory
  *   from elsewhere. These figures and those of the faults were measured on the archive by tools/measure.c.
@@ -35,6 +38,7 @@
  *   counts                256 entries of 32 bits
  *   a directory           n/32 entries of 32 bits, rounded up: MONTERCULO_ENTRIES(n)
  *   a buffer              h*k/8 bytes, rounded up, for h symbols: MONTERCULO_BYTES(h, k)
+ *   hits of a piece       8/k entries of 32 bits for each of its bytes: MONTERCULO_HITS(piece_len, k)
  * No roll has more than 65,536 symbols. The room of a buffer is the smaller of 65,536 and its bytes times 8/k, in
  * symbols. For an edit, lend what the roll needs before it and what it needs after it, whichever is more. */
 #ifndef MONTERCULO_H
@@ -47,20 +51,24 @@
 extern "C" {
 #endif
 
-/* Of this header: the first number changes where a struct or a function does. */
+/* Of this header: the first number changes where a struct or a function does, the second where one is added. */
 #define MONTERCULO_VERSION_MAJOR 1
-#define MONTERCULO_VERSION_MINOR 0
-#define MONTERCULO_VERSION "1.0"
+#define MONTERCULO_VERSION_MINOR 1
+#define MONTERCULO_VERSION "1.1"
 
 #define MONTERCULO_PLACES 256
 #define MONTERCULO_CODEWORD 86
+#define MONTERCULO_PATTERN 64
+#define MONTERCULO_SEARCHER 384 /* sizeof(struct monterculo_searcher) */
 #define MONTERCULO_SYMBOLS 65536
 #define MONTERCULO_ENTRIES(n) ((size_t)(n) / 32 + ((n) % 32 != 0))
 #define MONTERCULO_BYTES(h, k) (((size_t)(h) * (k) + 7) / 8)
+#define MONTERCULO_HITS(piece_len, k) ((size_t)(piece_len) * ((k) == 4 ? 2 : 4))
 
 enum monterculo_number {
     MONTERCULO_ACCEPTED = 0,
-    /* k not 2 or 4; s below 1 or above 2^k - 1; sigma > 256; a character twice among the first sigma. Value 0. */
+    /* k not 2 or 4; s below 1 or above 2^k - 1; sigma > 256; a character twice among the first sigma; a searcher's number
+     * that no start and no feeding leave there. Value 0. */
     MONTERCULO_BAD_TABLE = 1,
     /* Counts slice not 256 long. Value: its length. */
     MONTERCULO_BAD_COUNTS = 2,
@@ -69,7 +77,7 @@ enum monterculo_number {
     /* The packed result exceeds the room, or a text to be counted is over 65,536 characters. Value: number of the first
      * character whose codeword does not fit (for an edit, in the edited text); counting: 65,536. */
     MONTERCULO_NO_ROOM = 4,
-    /* h exceeds the room. Value: h. */
+    /* h exceeds the room, or a piece reaches past the byte that holds symbol h - 1. Value: h. */
     MONTERCULO_BAD_SYMBOL_COUNT = 5,
     /* Reading meets a codeword unfinished at h, or of rank sigma or more. Value: its first symbol's number. */
     MONTERCULO_BAD_CODEWORD = 6,
@@ -86,7 +94,9 @@ enum monterculo_number {
     /* Directory shorter than the result needs. Value: entries needed. */
     MONTERCULO_SHORT_DIRECTORY = 12,
     /* Output shorter than the range. Value: range length. */
-    MONTERCULO_SHORT_OUTPUT = 13
+    MONTERCULO_SHORT_OUTPUT = 13,
+    /* Hit slice shorter than 8/k entries for each byte of the piece. Value: entries needed. */
+    MONTERCULO_SHORT_HITS = 14
 };
 
 /* The words for an answer's number. */
@@ -94,11 +104,11 @@ static inline const char *monterculo_text(uint32_t number)
 {
     switch (number) {
     case MONTERCULO_ACCEPTED: return "accepted";
-    case MONTERCULO_BAD_TABLE: return "bad table: k, s, sigma, or a character twice";
+    case MONTERCULO_BAD_TABLE: return "bad table: k, s, sigma, or a character twice; or a searcher out of its bounds";
     case MONTERCULO_BAD_COUNTS: return "counts slice not 256 long";
     case MONTERCULO_NOT_IN_TABLE: return "a text character not in the table";
     case MONTERCULO_NO_ROOM: return "the packed result exceeds the room, or the text to be counted 65,536 characters";
-    case MONTERCULO_BAD_SYMBOL_COUNT: return "h exceeds the room";
+    case MONTERCULO_BAD_SYMBOL_COUNT: return "h exceeds the room, or a piece reaches past the roll's last byte";
     case MONTERCULO_BAD_CODEWORD: return "a codeword unfinished at h, or of rank sigma or more";
     case MONTERCULO_BAD_CHARACTER_COUNT: return "codewords read are not n";
     case MONTERCULO_BAD_UNUSED: return "an unused symbol of the last byte is not 0";
@@ -107,6 +117,7 @@ static inline const char *monterculo_text(uint32_t number)
     case MONTERCULO_BAD_PATTERN: return "pattern empty or over 64";
     case MONTERCULO_SHORT_DIRECTORY: return "directory shorter than the result needs";
     case MONTERCULO_SHORT_OUTPUT: return "output shorter than the range";
+    case MONTERCULO_SHORT_HITS: return "the hit slice has fewer entries than the piece has symbols";
     default: return "no number of this library";
     }
 }
@@ -149,6 +160,39 @@ struct monterculo_coded {
 struct monterculo_rolled {
     struct monterculo_answer answer;
     struct monterculo_roll roll;
+};
+
+/* How far a roll that comes in was read: symbols and codewords; the first symbol of the codeword that is open, or of the
+ * bad one; the reading state of the open one; 1 where a codeword was bad; 1 where an unused symbol was not 0. */
+struct monterculo_progress {
+    uint32_t read, count, first, past, place, shorter, rows, value, bad, stained;
+};
+
+/* The record of a roll that comes in, and how far it was read. */
+struct monterculo_judge {
+    struct monterculo_roll roll;
+    struct monterculo_progress progress;
+};
+
+/* A roll that comes in, and what is sought in it: the pattern, 0 past its length, and which of its beginnings end at the
+ * last character read. Its fields are the library's own: it is copied whole, and may be saved and loaded whole. */
+struct monterculo_searcher {
+    struct monterculo_judge judge;
+    uint8_t pattern[MONTERCULO_PATTERN];
+    uint32_t length;
+    uint64_t ends;
+};
+
+struct monterculo_started {
+    struct monterculo_answer answer;
+    struct monterculo_searcher searcher;
+};
+
+/* hits is how many entries of the slice were written, with a 6 too. */
+struct monterculo_fed {
+    struct monterculo_answer answer;
+    size_t hits;
+    struct monterculo_searcher searcher;
 };
 
 /* The code alone. */
@@ -224,6 +268,52 @@ struct monterculo_answer monterculo_search(struct monterculo_roll roll, const ui
 struct monterculo_rolled monterculo_edit(struct monterculo_roll roll, uint8_t *buf, size_t buf_len, uint32_t *dir,
                                          size_t dir_len, size_t start, size_t end, const uint8_t *text,
                                          size_t text_len);
+
+/* A roll searched while it still comes in. Its record is known beforehand; its packed bytes come in pieces of any size,
+ * empty ones too, and however they are cut, the hits are the same and so is the searcher at the end. Nothing is kept of a
+ * piece: a box that wants the roll keeps its bytes itself. */
+
+/* The searcher of a roll and a pattern of 1 to 64 characters, before the first piece. It does not look at n.
+ * Refused: 1 (0), 5 (h; h over 65,536), 11 (0); the searcher is then that of the roll with an empty pattern, which feed
+ * and finish refuse in their turn. */
+struct monterculo_started monterculo_start(struct monterculo_roll roll, const uint8_t *pattern, size_t pattern_len);
+
+/* Reads the next piece and names the hits whose last symbol it brings.
+ * Refused: 1 (0), 5 (h) and 11 (0) as start, of what the searcher holds; 1 (0; its other numbers are out of their
+ * bounds); 6 (the bad codeword's first symbol; an earlier piece brought it), 5 (h; the piece reaches past the roll's last
+ * byte), 14 (entries needed: MONTERCULO_HITS(piece_len, k)). These name no hit, and the searcher is the one that came in.
+ * Then 6 (the bad codeword's first symbol), if one ends in this piece or is still open at h: the hits before it are
+ * written, what follows it is not read, and every later feeding and finish answer that 6.
+ * Writes: the hits, ascending, from the first entry on; later entries unchanged.
+ * Value: the hits written. With a 6 it is the symbol, and hits beside it says how many were written. */
+struct monterculo_fed monterculo_feed(struct monterculo_searcher searcher, const uint8_t *piece, size_t piece_len,
+                                      uint32_t *slice, size_t slice_len);
+
+/* What check says of the roll, once all its bytes came. It may be asked at any time, and again.
+ * Refused: 1, 5, 11, 1 as feed; then check's 6 (the bad codeword's first symbol; where bytes are still to come, that of
+ * the unfinished codeword, or the symbols read if none is open), 7 (codewords read), 8 (0). */
+struct monterculo_answer monterculo_finish(struct monterculo_searcher searcher);
+
+/* The same two for a caller that keeps one searcher in its place and lends it. */
+static inline struct monterculo_answer monterculo_start_into(struct monterculo_searcher *searcher,
+                                                             struct monterculo_roll roll, const uint8_t *pattern,
+                                                             size_t pattern_len)
+{
+    struct monterculo_started started = monterculo_start(roll, pattern, pattern_len);
+    *searcher = started.searcher;
+    return started.answer;
+}
+
+/* hits becomes how many entries of the slice were written. */
+static inline struct monterculo_answer monterculo_feed_into(struct monterculo_searcher *searcher, const uint8_t *piece,
+                                                            size_t piece_len, uint32_t *slice, size_t slice_len,
+                                                            size_t *hits)
+{
+    struct monterculo_fed fed = monterculo_feed(*searcher, piece, piece_len, slice, slice_len);
+    *searcher = fed.searcher;
+    *hits = fed.hits;
+    return fed.answer;
+}
 
 #ifdef __cplusplus
 }

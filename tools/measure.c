@@ -22,6 +22,7 @@ static uint32_t counts[256], dir[2048], hits[65536];
 static struct monterculo_table table;
 static struct monterculo_roll roll;
 static struct monterculo_codeword word;
+static struct monterculo_searcher fresh, whole;
 static size_t length;
 static ucontext_t back, there;
 static uint8_t *top;
@@ -44,6 +45,9 @@ CALL(unpack, monterculo_unpack(roll, buf, sizeof buf, 0, length, out, sizeof out
 CALL(make_directory, monterculo_make_directory(roll, buf, sizeof buf, dir, ROOM(dir)))
 CALL(read_one, monterculo_read_one(roll, buf, sizeof buf, dir, ROOM(dir), length - 1))
 CALL(search, monterculo_search(roll, buf, sizeof buf, text + length - 64, 64, hits, ROOM(hits)))
+CALL(start, monterculo_start(roll, text + length - 64, 64).answer)
+CALL(feed, monterculo_feed(fresh, buf, MONTERCULO_BYTES(roll.h, 2), hits, ROOM(hits)).answer)
+CALL(finish, monterculo_finish(whole))
 CALL(edit, monterculo_edit(roll, buf, sizeof buf, dir, ROOM(dir), 3, 60, text + length - 80, 80).answer)
 
 static void measure(const char *name, void (*call)(void))
@@ -98,6 +102,8 @@ int main(void)
     length = 256;
     word = monterculo_codeword_of(table, 255).word;
     roll = monterculo_pack(table, text, length, buf, sizeof buf).roll;
+    fresh = monterculo_start(roll, text + length - 64, 64).searcher;
+    whole = monterculo_feed(fresh, buf, MONTERCULO_BYTES(roll.h, 2), hits, ROOM(hits)).searcher;
 #define MEASURE(name) measure(#name, name)
     MEASURE(count);
     MEASURE(choose);
@@ -109,6 +115,9 @@ int main(void)
     MEASURE(make_directory);
     MEASURE(read_one);
     MEASURE(search);
+    MEASURE(start);
+    MEASURE(feed);
+    MEASURE(finish);
     MEASURE(edit);
     faults(2);
     faults(4);

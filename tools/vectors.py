@@ -1,13 +1,15 @@
 #!/usr/bin/env python3
-"""Writes crates/vectors/stdin, the cases, and crates/vectors/stdout, what they should print.
+"""Writes stdin, the cases, and stdout, what they should print, of crates/vectors and of crates/vectors_radio.
 
 What should be printed is worked out here from the paper alone: codewords are listed in rank order by the paper's rule, a roll is read by
-looking each codeword up in that list, and every refusal is asked in the paper's order. Nothing is taken from src/ or specs/.
+looking each codeword up in that list, and every refusal is asked in the paper's order. Of a roll that comes in, all bytes that came are read
+anew after each piece, and texts are compared. Nothing is taken from src/ or specs/, but for what a searcher says of an open codeword and the
+bounds of its numbers: these are the library's own choice, and stand in docs/PAPER.md as they are here.
 """
 import pathlib
 
 LIMIT = 65536
-CRATE = pathlib.Path(__file__).resolve().parent.parent / "crates" / "vectors"
+CRATES = pathlib.Path(__file__).resolve().parent.parent / "crates"
 
 
 # ---- the paper
@@ -257,9 +259,125 @@ def report(data):
     return b"\n".join(lines + [b"%d" % i for i in hits] + [b"hits %d" % len(hits)]) + b"\n"
 
 
+# A roll that comes in. A searcher is here what it holds and, beside that, all bytes that came (None where only the numbers are known).
+
+def start_refusal(t, h, length):
+    """What start asks of a roll and of a pattern of so many characters."""
+    if not good_table(t):
+        return (1, 0)
+    if h > LIMIT:
+        return (5, h)
+    if not 1 <= length <= 64:
+        return (11, 0)
+    return None
+
+
+def heard(t, h, came):
+    """Of the bytes that came: the text; how many symbols were read; the first symbol of the open codeword (as many as were read if none is
+    open) or of the bad one; the continuers of one that is open; whether one is bad; whether an unused symbol is not 0."""
+    row = symbols(t[0], came)
+    used = row[:h]
+    ranks, first = read(t, used)
+    text = [t[3][r] for r in ranks]
+    if first is None:
+        return text, len(used), len(used), [], False, any(row[h:])
+    stop = [i for i in range(first, len(used)) if used[i] < t[1]][:1]
+    if stop:
+        return text, stop[0] + 1, first, [], True, False
+    return text, len(used), first, used[first:], len(used) == h, False
+
+
+def reading_state(t, continuers):
+    """Past, place, shorter, rows and value of a codeword that begins so: place counts its continuers as far as 2, shorter the codewords that
+    are shorter than it will be at least, rows the rows of as many continuers, and value is its own among them. Once shorter and value reach
+    sigma it is past, and only its place counts."""
+    k, s, sigma, _ = t
+    c = 2 ** k - s
+    shorter, rows, value = 0, 1, 0
+    for y in continuers:
+        shorter, rows, value = shorter + rows * s, rows * c, value * c + y - s
+        if shorter + value >= sigma:
+            return [1, min(len(continuers), 2), 0, 1, 0]
+    return [0, min(len(continuers), 2), shorter, rows, value]
+
+
+def searcher(t, n, h, pattern, came):
+    text, done, first, continuers, bad, stained = heard(t, h, came)
+    ends = sum(2 ** j for j in range(len(pattern) - 1) if text[-j - 1:] == pattern[:j + 1])
+    numbers = [done, len(text), first] + reading_state(t, continuers) + [int(bad), int(stained)]
+    return dict(t=t, n=n, h=h, progress=numbers, pattern=pattern + [0] * (64 - len(pattern)), length=len(pattern), ends=ends, came=came)
+
+
+def started(t, n, h, pattern):
+    """The refusal or None, the searcher: of an empty pattern beside a refusal."""
+    refusal = start_refusal(t, h, len(pattern))
+    if refusal:
+        return refusal, dict(t=t, n=n, h=h, progress=[0] * 6 + [1] + [0] * 3, pattern=[0] * 64, length=0, ends=0, came=[])
+    return None, searcher(t, n, h, pattern, [])
+
+
+def kept(s):
+    """What is asked first of any searcher: what start asks, and that its numbers are within their bounds."""
+    refusal = start_refusal(s["t"], s["h"], s["length"])
+    if refusal:
+        return refusal
+    done, count, first, past, place, shorter, rows, value, bad, stained = s["progress"]
+    within = (max(past, bad, stained) <= 1 and place <= 2 and max(shorter, value) <= 256 and rows <= 4096
+              and count <= first <= done <= s["h"]
+              and (bad == 1 or done == s["h"] or done % (8 // s["t"][0]) == 0)
+              and s["ends"] < 2 ** count and s["ends"] < 2 ** (s["length"] - 1))
+    return None if within else (1, 0)
+
+
+def feed(s, piece, room):
+    """The refusal or None, the hits written, the searcher afterwards."""
+    refusal = kept(s)
+    if refusal:
+        return refusal, [], s
+    t, n, h, pattern = s["t"], s["n"], s["h"], s["pattern"][:s["length"]]
+    done, count, first = s["progress"][:3]
+    k = t[0]
+    if s["progress"][8]:
+        return (6, first), [], s
+    if -(-done * k // 8) + len(piece) > -(-h * k // 8):
+        return (5, h), [], s
+    if room < len(piece) * 8 // k:
+        return (14, len(piece) * 8 // k), [], s
+    if not piece:
+        return None, [], s
+    after = dict(searcher(t, n, h, pattern, s["came"] + piece), pattern=s["pattern"])
+    text = heard(t, h, after["came"])[0]
+    # those of the text so far that end behind what was read before
+    hits = [i for i in range(max(0, count - len(pattern)), len(text)) if text[i:i + len(pattern)] == pattern and i + len(pattern) > count]
+    return ((6, after["progress"][2]) if after["progress"][8] else None), hits, after
+
+
+def finish(s):
+    refusal = kept(s)
+    if refusal:
+        return refusal
+    if s["progress"][8] or s["progress"][0] < s["h"]:
+        return (6, s["progress"][2])
+    if s["progress"][1] != s["n"]:
+        return (7, s["progress"][1])
+    if s["progress"][9]:
+        return (8, 0)
+    return None
+
+
 # ---- the cases
 
 given, said = [], []
+
+
+def write(crate):
+    """The cases so far are this crate's."""
+    given.append("0")
+    (CRATES / crate / "stdin").write_text("\n".join(given) + "\n")
+    (CRATES / crate / "stdout").write_text("\n".join(said) + "\n")
+    print(f"{crate}: {len(said)} cases, {(CRATES / crate / 'stdin').stat().st_size} bytes of input")
+    given.clear()
+    said.clear()
 
 
 def runs(row):
@@ -406,6 +524,59 @@ def report_case(words, data, expect=None):
     note(words)
     given.append(f"8 {row_in(list(data))}")
     said.append("report\n" + answer.decode()[:-1])
+
+
+def searcher_in(s):
+    numbers = " ".join(str(x) for x in s["progress"])
+    return f"{table_in(s['t'])} {s['n']} {s['h']} {numbers} {row_in(s['pattern'])} {s['length']} {s['ends'] >> 32} {s['ends'] % 2 ** 32}"
+
+
+def searcher_out(s):
+    t = s["t"]
+    return ("searcher" + "".join(f" {x}" for x in s["progress"]) + f" n {s['n']} h {s['h']} k {t[0]} s {t[1]} sigma {t[2]}" + row_out(t[3])
+            + row_out(s["pattern"]) + f" length {s['length']} ends {s['ends']}")
+
+
+def come(s, pieces, expect, last):
+    """The pieces of a case, each a row of bytes, or such a row and how many entries are lent for hits: how they are given, what is printed."""
+    ins, outs, answers, found, joined = [str(len(pieces))], [], [], [], []
+    for piece in pieces:
+        piece, room = piece if isinstance(piece, tuple) else (piece, len(piece) * 8 // s["t"][0])
+        r, hits, s = feed(s, piece, room)
+        ins.append(f"{row_in(piece)} {room}")
+        outs.append("feed" + answer(r) + f" hits {len(hits)}" + numbers_out(hits) + f" | left {room - len(hits)} finish" + answer(finish(s)))
+        answers.append(r)
+        found += hits
+        joined += piece
+    assert expect is ... or answers == expect, (answers, expect)
+    assert last is ... or finish(s) == last, (finish(s), last)
+    outs.append(searcher_out(s))
+    return " ".join(ins), "\n".join(outs), s, found, joined, answers
+
+
+def start_case(words, t, n, h, pattern, pieces, expect=..., last=..., refused=None):
+    """A roll and a pattern, started; what each piece and then finishing should answer."""
+    r, s = started(t, n, h, list(pattern))
+    assert r == refused, (words, r, refused)
+    ins, outs, after, found, joined, answers = come(s, pieces, expect, last)
+    if r is None and all(x is None or x[0] == 6 for x in answers) and len(joined) == -(-h * t[0] // 8):
+        # all bytes came: check and the search of the whole roll say the same
+        assert finish(after) == check(t, n, h, joined), words
+        assert finish(after) or found == search(t, n, h, joined, list(pattern), [0] * h)[2][:len(found)], words
+        assert finish(after) or len(found) == search(t, n, h, joined, list(pattern), [])[1], words
+    note(words)
+    given.append(f"1 {table_in(t)} {n} {h} {row_in(list(pattern))} {ins}")
+    said.append("start" + answer(r) + " finish" + answer(finish(s)) + "\n" + outs)
+    return after
+
+
+def given_case(words, s, pieces, expect=..., last=...):
+    """A searcher as it stands."""
+    ins, outs, after, *_ = come(s, pieces, expect, last)
+    note(words)
+    given.append(f"2 {searcher_in(s)} {ins}")
+    said.append("given finish" + answer(finish(s)) + "\n" + outs)
+    return after
 
 
 def table(k, s, characters, sigma=None, rest=0):
@@ -866,7 +1037,251 @@ report_case("many rare characters: packing refuses", b"a\n" + bytes(range(256)) 
 assert report(b"a\n" + bytes(range(256)) * 64).startswith(b"refused 4 1")
 report_case("the room just passed by the last characters", b"a\n" + bytes(range(256)) * 48)
 
-given.append("0")
-(CRATE / "stdin").write_text("\n".join(given) + "\n")
-(CRATE / "stdout").write_text("\n".join(said) + "\n")
-print(len(said), "cases,", (CRATE / "stdin").stat().st_size, "bytes of input")
+write("vectors")
+
+# a roll that comes in: one roll cut in every way into up to three pieces, empty ones among them; then byte by byte
+
+def cuttings(buf):
+    places = range(len(buf) + 1)
+    yield [buf]
+    for i in places:
+        yield [buf[:i], buf[i:]]
+    for i in places:
+        for j in places[i:]:
+            yield [buf[:i], buf[i:j], buf[j:]]
+
+
+def cut_case(words, t, n, h, pattern, buf, last=None):
+    """Every cutting ends alike."""
+    ends = []
+    for pieces in cuttings(buf):
+        named = ", ".join(str(len(piece)) for piece in pieces)
+        ends.append(start_case(f"{words}: {named} bytes", t, n, h, pattern, pieces, ..., last))
+    alone = [[b] for b in buf]
+    ends.append(start_case(f"{words}: byte by byte", t, n, h, pattern, alone, ..., last))
+    between = [piece for b in buf for piece in ([], [b], [])]
+    ends.append(start_case(f"{words}: byte by byte, empty pieces between", t, n, h, pattern, between, ..., last))
+    more = [(piece, len(piece) * 8 // t[0] + 3) for piece in ([], *alone)]
+    ends.append(start_case(f"{words}: byte by byte, and more entries lent", t, n, h, pattern, more, ..., last))
+    assert all(dict(end, came=[]) == dict(ends[0], came=[]) for end in ends), words
+
+
+cut_case("P2 for abra", ABRA, 11, 13, b"abra", BYTES)
+cut_case("P3: b", ABRA, 11, 13, b"b", BYTES)
+cut_case("P5: ana, overlapping", BANANA, 6, 6, b"ana", [0x20, 0x10, 0x10])
+LETTERS = list(range(97, 117))
+for k, s, x in ((2, 1, "f"), (2, 2, "p"), (2, 3, "j"), (4, 1, "p"), (4, 3, "p"), (4, 14, "p")):
+    t = table(k, s, LETTERS)
+    text = [ord(y) for y in f"{x}a{x}a{x}b{x}a{x}"]
+    _, n, h, buf = pack(t, text, [0] * 20)
+    buf = buf[:-(-h * k // 8)]
+    cut_case(f"width {k}, s {s}: {x}a{x}", t, n, h, [ord(x), 97, ord(x)], buf)
+
+# a bad codeword of rank sigma that begins near each border, and what follows it: ends before the border, cut by it, begins behind it
+for k, s, sigma in ((2, 2, 6), (2, 3, 6), (4, 3, 5), (4, 14, 15)):
+    per, word = 8 // k, list(codewords(k, s)[sigma])
+    t = table(k, s, LETTERS, sigma)
+    h = 4 * per - 1
+    for border in (1, 2, 3):
+        for first in range(max(0, border * per - len(word) - 1), border * per + 2):
+            if first + len(word) <= h:
+                row = [0] * first + word + [0] * (h - first - len(word))
+                buf = packed(k, row)
+                start_case(f"width {k}, s {s}: 6 at {first}, border at {border * per}", t, 9, h, b"aa", [buf[:border], buf[border:], []], ..., (6, first))
+    last = h - len(word)
+    buf = packed(k, [0] * last + word + [1])
+    start_case(f"width {k}, s {s}: 6 at {last}, unused symbols behind it are not looked at", t, 9, h, b"aa", [buf[:3], buf[3:]], [None, (6, last)], (6, last))
+
+# a codeword still open at h: named by the piece with symbol h - 1; unused symbols behind it are not looked at
+for k, s in ((2, 1), (2, 3), (4, 2), (4, 15)):
+    per, t = 8 // k, table(k, s, LETTERS)
+    for used in range(1, per + 1):
+        h = 2 * per + used
+        for many in sorted({1, 2, used, used + 1, per + used, h}):
+            buf = packed(k, [0] * (h - many) + [s] * many + [1] * (per - used))
+            w = f"width {k}, s {s}, {h} symbols: {many} continuers at the end"
+            start_case(w, t, h, h, b"a", [buf[:2], buf[2:], []], [None, (6, h - many), (6, h - many)], (6, h - many))
+
+# a long run of continuers is not named before its stopper, or h, is read
+for k, s in ((2, 1), (2, 2), (2, 3), (4, 1), (4, 14), (4, 15)):
+    per, t = 8 // k, table(k, s, ALL)
+    for y in sorted({s, 2 ** k - 1}):
+        for many in (3 * per - 1, 3 * per, 86):
+            for behind in ([0], []):
+                row = [0] + [y] * many + behind
+                bad = read(t, row)[1]
+                w = f"width {k}, s {s}: {many} times {y}, " + ("closed" if behind else "open")
+                buf = packed(k, row)
+                start_case(w, t, 2, len(row), bytes([0]), [buf[:1], buf[1:2], buf[2:-1], buf[-1:]], [None, None, None, bad and (6, bad)], bad and (6, bad))
+for bits in (16, 32, 64):
+    row = [2] * (bits - 2) + [3, 0]
+    wraps = table(2, 2, ALL)
+    start_case(f"a rank of 2^{bits}, byte by byte", wraps, 1, bits, bytes([0]), [[b] for b in packed(2, row)], [None] * (bits // 4 - 1) + [(6, 0)], (6, 0))
+
+# too little came: the value is the first symbol of the unfinished codeword, or as many as were read
+for k, s in ((2, 1), (2, 3), (4, 1), (4, 15)):
+    per, t = 8 // k, table(k, s, LETTERS)
+    w = f"width {k}, s {s}: "
+    for h in range(per + 1, 2 * per + 1):
+        for first in range(per + 1):
+            row = [0] * first + [s] * (per - first)
+            start_case(w + f"a byte of {h} symbols, open from {first} on", t, h, h, b"a", [packed(k, row)], [None], (6, first))
+    start_case(w + "two bytes of three, open from the first byte on", t, 1, 3 * per, b"a", [packed(k, [0] + [s] * (per - 1)), packed(k, [s] * per)], [None, None], (6, 1))
+    start_case(w + "nothing came", t, 1, 1, b"a", [], [], (6, 0))
+    start_case(w + "nothing but an empty piece", t, 1, 1, b"a", [[]], [None], (6, 0))
+    # 7 and 8
+    for used in range(1, per):
+        for at in range(used, per):
+            row = [0] * (2 * per)
+            row[per + at] = 1
+            buf, h = packed(k, row), per + used
+            start_case(w + f"8, {used} used, symbol {at} not 0, the last byte alone", t, h, h, b"aa", [buf[:1], buf[1:]], [None, None], (8, 0))
+            start_case(w + f"8, {used} used, symbol {at} not 0", t, h, h, b"aa", [buf, []], [None, None], (8, 0))
+        start_case(w + f"7 before 8, {used} used", t, h - 1, h, b"aa", [buf], [None], (7, h))
+    start_case(w + "7, n one too few", t, per - 1, per, b"a", [packed(k, [0] * per)], [None], (7, per))
+    start_case(w + "7, n one too many", t, per + 1, per, b"a", [packed(k, [0] * per)], [None], (7, per))
+    start_case(w + "7, the greatest n: start does not look at it", t, 2 ** 32 - 1, per, b"a", [packed(k, [0] * per)], [None], (7, per))
+    start_case(w + "6 before 7", t, 99, 1, b"a", [packed(k, [s])], [(6, 0)], (6, 0))
+    # pieces that are refused, and change nothing
+    buf = packed(k, [0] * (3 * per))
+    h = 3 * per
+    five, short = (5, h), (14, per)
+    start_case(w + "5, one byte too many at first", t, h, h, b"aa", [buf + [0], buf], [five, None], None)
+    start_case(w + "5, behind a byte", t, h, h, b"aa", [buf[:1], buf, buf[:2]], [None, five, None], None)
+    start_case(w + "5, behind the last byte", t, h, h, b"aa", [buf, [0], []], [None, five, None], None)
+    start_case(w + "5, a byte would bring a bad codeword", t, h, h, b"aa", [packed(k, [s] * (4 * per)), buf], [five, None], None)
+    start_case(w + "5, behind a last byte with unused symbols", t, h - 1, h - 1, b"aa", [buf, [0]], [None, (5, h - 1)], None)
+    start_case(w + "5, a thousand bytes", t, h, h, b"aa", [([0] * 1000, 0), buf], [five, None], None)
+    start_case(w + "14, no entries", t, h, h, b"aa", [(buf[:1], 0), buf], [short, None], None)
+    start_case(w + "14, one too few", t, h, h, b"aa", [buf[:1], (buf[1:], 2 * per - 1), buf[1:]], [None, (14, 2 * per), None], None)
+    start_case(w + "14, unused symbols count too", t, h - 1, h - 1, b"aa", [(buf, h - 1), buf], [(14, h), None], None)
+    start_case(w + "14, a byte would bring a bad codeword", t, h, h, b"aa", [(packed(k, [s, 0] * per), 1), buf], [(14, 2 * per), None], None)
+    start_case(w + "an empty piece needs no entries", t, h, h, b"aa", [([], 0), ([], 5), buf], [None, None, None], None)
+    start_case(w + "5 before 14", t, h, h, b"aa", [(buf + [0], 0), buf], [five, None], None)
+    start_case(w + "5 and 14 by turns", t, h, h, b"aa", [buf[:1], buf, (buf[:1], 0), buf[:1], buf, (buf[:1], 1), buf[:1], [0]],
+               [None, five, short, None, five, short, None, five], None)
+    worst = packed(k, [0] * (per - 1) + [s] * (2 * per + 1))
+    start_case(w + "an earlier 6 before 5 and 14", t, h, h, b"aa", [worst, [], ([0], 0), worst + worst, ([0] * 9, 0)], [(6, per - 1)] * 5, (6, per - 1))
+    start_case(w + "h 0: any byte is 5", t, 0, 0, b"a", [[], [0], ([0], 0), []], [None, (5, 0), (5, 0), None], None)
+    start_case(w + "h 0, n 1", t, 1, 0, b"a", [[], [0]], [None, (5, 0)], (7, 0))
+    # start's refusals: the searcher beside one is refused in its turn
+    good = table(k, s, LETTERS)
+    bad_tables = [
+        ("k 3", (3, s, 5, good[3])), ("k 0", (0, s, 5, good[3])), ("s 0", (k, 0, 5, good[3])), ("s 2^k", (k, 2 ** k, 5, good[3])),
+        ("sigma 257", (k, s, 257, ALL)), ("sigma 65535", (k, s, 65535, ALL)), ("a character twice", (k, s, 5, [7, 8, 9, 7] + [0] * 252)),
+    ]
+    for name, bad in bad_tables:
+        r = (1, 0)
+        start_case(w + "1, " + name, bad, per, per, b"a", [([0], 4), ([], 0)], [r, r], r, refused=r)
+    start_case(w + "1 before 5 and 11", bad_tables[0][1], 1, LIMIT + 1, b"", [([], 0)], [(1, 0)], (1, 0), refused=(1, 0))
+    start_case(w + "5 before 11", good, 1, LIMIT + 1, b"", [([0], 4)], [(5, LIMIT + 1)], (5, LIMIT + 1), refused=(5, LIMIT + 1))
+    start_case(w + "5, the greatest h", good, 1, 2 ** 32 - 1, b"a", [([0], 4)], [(5, 2 ** 32 - 1)], (5, 2 ** 32 - 1), refused=(5, 2 ** 32 - 1))
+    start_case(w + "h at the limit", good, 1, LIMIT, b"a", [[0]], [None], (6, per))
+    start_case(w + "11, no character", good, per, per, b"", [([0], 4)], [(11, 0)], (11, 0), refused=(11, 0))
+    start_case(w + "11, 65 characters", good, per, per, b"a" * 65, [([0], 4), []], [(11, 0)] * 2, (11, 0), refused=(11, 0))
+    start_case(w + "a character twice past sigma is no fault", (k, s, 5, LETTERS[:5] + [97] * 251), per, per, b"a", [[0]], [None], None)
+    start_case(w + "sigma 0", table(k, s, []), 1, 1, bytes([0]), [[0], []], [(6, 0)] * 2, (6, 0))
+
+# patterns
+for k, s in ((2, 3), (4, 3)):
+    t = table(k, s, LETTERS)
+    w = f"width {k}, s {s}: "
+    _, n, h, buf = pack(t, [97] * 130, [0] * 65)
+    buf = buf[:-(-h * k // 8)]
+    third = len(buf) // 3
+    for pattern in (b"a" * 64, b"a" * 63, b"a" * 63 + b"b", b"b" + b"a" * 63, b"aab", b"a"):
+        start_case(w + f"130 times a for {len(pattern)} characters", t, n, h, pattern, [buf[:third], buf[third:2 * third], buf[2 * third:]], [None] * 3, None)
+    text = list(b"abacabadabacabaeabacabadabacaba" * 2)
+    _, n, h, buf = pack(t, text, [0] * 200)
+    buf = buf[:-(-h * k // 8)]
+    for pattern in (bytes(text), bytes(text[:31]), b"aba", b"abacabadabacabaabacaba", b"cabaeabac", b"x", b"tab", b"ab" + bytes([0])):
+        start_case(w + "62 characters for " + pattern[:12].decode().replace("\0", "0") + f" of {len(pattern)}", t, n, h, pattern, [[b] for b in buf], ..., None)
+    start_case(w + "a pattern of the text and one character more", t, n, h, text + [97], [buf[:9], buf[9:]], [None] * 2, None)
+    start_case(w + "a character that stands past sigma alone", (k, s, 2, [97, 98, 99] + [0] * 253), 4, 4, b"c", [packed(k, [0, 1, 0, 1])], [None], None)
+
+# the longest rolls: a hit over each border
+for k, s in ((2, 3), (4, 3)):
+    t, per = table(k, s, LETTERS), 8 // k
+    pieces = [packed(k, [1 if i else 0] + [0] * (4096 * per - 2) + [0]) for i in range(LIMIT // per // 4096)]
+    start_case(f"width {k}: 65,536 symbols", t, LIMIT, LIMIT, b"ab", pieces, [None] * len(pieces), None)
+    start_case(f"width {k}: 65,536 symbols, one n too few", t, LIMIT - 1, LIMIT, b"aab", pieces + [[0]], [None] * len(pieces) + [(5, LIMIT)], (7, LIMIT))
+    pieces[-1][-1] += s
+    start_case(f"width {k}: 65,536 symbols, the last a continuer", t, LIMIT, LIMIT, b"ab", pieces, [None] * (len(pieces) - 1) + [(6, LIMIT - 1)], (6, LIMIT - 1))
+    start_case(f"width {k}: 65,537 symbols", t, LIMIT + 1, LIMIT + 1, b"ab", pieces[:1], [(5, LIMIT + 1)], (5, LIMIT + 1), refused=(5, LIMIT + 1))
+
+# a searcher is all that is kept: taken up from its numbers behind each byte
+for k, s, x in ((2, 1, "f"), (2, 3, "j"), (4, 14, "p")):
+    t = table(k, s, LETTERS)
+    text = [ord(y) for y in f"{x}a{x}a{x}b{x}a{x}"]
+    _, n, h, buf = pack(t, text, [0] * 20)
+    buf = buf[:-(-h * k // 8)]
+    for i in range(len(buf) + 1):
+        given_case(f"width {k}, s {s}: taken up behind {i} bytes", searcher(t, n, h, text[:3], buf[:i]), [buf[i:], []], [None] * 2, None)
+    bad = packed(k, [0] * (8 // k + 1) + [s] * (h - 8 // k - 1))
+    given_case(f"width {k}, s {s}: taken up behind a 6", searcher(t, n, h, text[:3], bad), [[], [0]], [(6, 8 // k + 1)] * 2, (6, 8 // k + 1))
+
+# any numbers: each bound, just within it and just past it. An empty piece changes nothing
+NAMES = ("read", "count", "first", "past", "place", "shorter", "rows", "value", "bad", "stained")
+for k, s in ((2, 2), (4, 3)):
+    t, per = table(k, s, LETTERS), 8 // k
+    h = 20 * per
+    base = dict(searcher(t, h, h, list(b"abc"), packed(k, [0] * (10 * per))), came=None)
+
+    def numbers(**changed):
+        """The searcher after ten bytes of twenty, with these numbers instead."""
+        own = {name: changed.pop(name) for name in list(changed) if name in NAMES}
+        return dict(base, **changed, progress=[own.get(name, x) for name, x in zip(NAMES, base["progress"])])
+
+    def bound(words, within, past, last=(6, 10 * per), fed=None):
+        """The one is asked on, the other is refused before all else."""
+        given_case(f"width {k}, s {s}: {words}, within", numbers(**within), [[]], [fed], last)
+        given_case(f"width {k}, s {s}: {words}, past it", numbers(**past), [[], (packed(k, [0] * per), 0)], [(1, 0)] * 2, (1, 0))
+
+    half = 10 * per
+    bound("past", dict(past=1), dict(past=2))
+    bound("place", dict(place=2), dict(place=3))
+    bound("shorter", dict(shorter=256), dict(shorter=257))
+    bound("rows", dict(rows=4096), dict(rows=4097))
+    bound("rows 0", dict(rows=0), dict(rows=2 ** 32 - 1))
+    bound("value", dict(value=256), dict(value=257))
+    bound("bad", dict(bad=1), dict(bad=2), fed=(6, half))
+    bound("stained", dict(stained=1), dict(stained=2))
+    bound("stained at the end", dict(read=h, first=h, count=h, stained=1), dict(read=h, first=h, count=h, stained=2 ** 32 - 1), (8, 0))
+    bound("count up to first", dict(count=half), dict(count=half + 1))
+    bound("count up to first, first below read", dict(count=5, first=5), dict(count=6, first=5), (6, 5))
+    bound("first up to read", dict(first=half), dict(first=half + 1))
+    bound("read up to h", dict(read=h, first=h), dict(read=h + per, first=h), (7, half))
+    bound("read up to h, a bad codeword", dict(read=h, bad=1), dict(read=h + 1, bad=1), fed=(6, half))
+    bound("read up to another h", dict(h=half), dict(h=half - 1, bad=1), (7, half))
+    for more in range(1, per):
+        bound(f"read in whole bytes, {more} more", dict(read=half + per), dict(read=half + more))
+        bound(f"read anywhere behind a bad codeword, {more} more", dict(read=half + more, bad=1), dict(read=half + more, bad=0), fed=(6, half))
+        bound(f"read to the end in the middle of a byte, {more} more", dict(read=half + more, h=half + more), dict(read=half + more, h=half + per), (7, half))
+    bound("ends by count", dict(count=1, ends=1), dict(count=1, ends=2))
+    bound("ends by count 0", dict(count=0, ends=0), dict(count=0, ends=1))
+    bound("ends by length 3", dict(ends=3), dict(ends=4))
+    bound("ends by length 1", dict(length=1, ends=0), dict(length=1, ends=1))
+    full = dict(pattern=[97] * 64, length=64, h=LIMIT, n=LIMIT)
+    many = dict(full, read=8000, first=8000)
+    bound("ends by length 64", dict(many, count=8000, ends=2 ** 63 - 1), dict(many, count=8000, ends=2 ** 63), (6, 8000))
+    bound("ends by count 63", dict(many, count=63, ends=2 ** 63 - 1), dict(many, count=63, ends=2 ** 64 - 1), (6, 8000))
+    bound("ends by count 62", dict(many, count=62, ends=2 ** 62 - 1), dict(many, count=62, ends=2 ** 62), (6, 8000))
+    bound("ends by count 32", dict(many, count=32, ends=2 ** 32 - 1), dict(many, count=32, ends=2 ** 32), (6, 8000))
+    for name in NAMES:
+        given_case(f"width {k}, s {s}: {name} the greatest", numbers(**{name: 2 ** 32 - 1}), [[]], [(1, 0)], (1, 0))
+    w = f"width {k}, s {s}: "
+    given_case(w + "all numbers the greatest", numbers(**{name: 2 ** 32 - 1 for name in NAMES}, ends=2 ** 64 - 1), [[]], [(1, 0)], (1, 0))
+    # the order
+    given_case(w + "a bad table before all else", numbers(t=(3, s, 5, t[3]), h=2 ** 32 - 1, length=0, place=3), [[]], [(1, 0)], (1, 0))
+    given_case(w + "5 before 11 and bounds", numbers(h=LIMIT + 1, length=65, place=3), [[]], [(5, LIMIT + 1)], (5, LIMIT + 1))
+    given_case(w + "11, length 0, before bounds", numbers(length=0, place=3), [[]], [(11, 0)], (11, 0))
+    given_case(w + "11, length 65", numbers(length=65), [[]], [(11, 0)], (11, 0))
+    given_case(w + "11, the greatest length", numbers(length=2 ** 32 - 1), [[]], [(11, 0)], (11, 0))
+    given_case(w + "bounds before an earlier 6", numbers(bad=1, place=3), [[]], [(1, 0)], (1, 0))
+    given_case(w + "bounds before 5 and 14", numbers(rows=5000), [([0] * 99, 0)], [(1, 0)], (1, 0))
+    given_case(w + "an earlier 6 before 5 and 14", numbers(bad=1, first=7, count=7), [([0] * 99, 0), ([0], 0)], [(6, 7)] * 2, (6, 7))
+    given_case(w + "5 before 14", numbers(), [([0] * 11, 0), ([0] * 10, 10 * per - 1)], [(5, h), (14, 10 * per)], (6, half))
+    given_case(w + "finishing believes the numbers", numbers(read=h, first=3, count=3, past=1, n=3), [[], [0]], [None, (5, h)], None)
+    given_case(w + "what stands past the length is not looked at", dict(searcher(t, h, h, list(b"aa"), packed(k, [0] * half)), pattern=[97] * 64),
+               [packed(k, [0] * half)], [None], None)
+write("vectors_radio")

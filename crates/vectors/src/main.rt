@@ -1,27 +1,22 @@
 // Runs worked cases through the public operations and prints what they answer and what they leave in lent memory.
 //
-// Standard input is decimal numbers, with comments from `#` to the end of the line. Each case is the number of an operation
-// and its arguments; 0 ends. A row of bytes is the number of its runs and then, for each, how many, the first byte and the
-// step by which they rise; a table is k, s, sigma and its row of places; a roll is a table, n and h. Rows are printed as runs of equal bytes.
+// Standard input is cases as `casebook` has them: each is the number of an operation and its arguments; 0 ends.
 
-mod given;
-mod printed;
-
-use given::bytes;
-use given::number;
-use given::numbers;
-use given::roll_at;
-use given::table_at;
+use casebook::given::bytes;
+use casebook::given::number;
+use casebook::given::numbers;
+use casebook::given::roll_at;
+use casebook::given::table_at;
+use casebook::printed::character;
+use casebook::printed::done;
+use casebook::printed::end;
+use casebook::printed::list;
+use casebook::printed::number_out;
+use casebook::printed::refused;
+use casebook::printed::roll_out;
+use casebook::printed::runs;
+use casebook::printed::table_out;
 use ground::answers::Total;
-use printed::character;
-use printed::done;
-use printed::end;
-use printed::list;
-use printed::number_out;
-use printed::refused;
-use printed::roll_out;
-use printed::runs;
-use printed::table_out;
 use sound::records::Roll;
 use stopper::code::LONGEST;
 use stopper::codeword_of::Codeword;

@@ -1,9 +1,9 @@
--- `vectors::given::first_digit` meets its contract.
+-- `casebook::given::first_digit` meets its contract.
 use Prim.Native.Nat.{_-_}
 use borrow.Author.Needs.{needs}
 use lib.ListN.{length}
-use Rattle.vectors.proofs.given.first_digit.Statement.{statement}
-use Rattle.vectors.proofs.given.first_digit.Tie as tie
+use Rattle.casebook.proofs.given.first_digit.Statement.{statement}
+use Rattle.casebook.proofs.given.first_digit.Tie as tie
 
 abbrev Inv-loop : tie.InvT-loop
 Inv-loop s at i₀ comment₀ i comment = Unit {0}

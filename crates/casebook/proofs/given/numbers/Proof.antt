@@ -1,12 +1,12 @@
--- `vectors::given::numbers` meets its contract.
+-- `casebook::given::numbers` meets its contract.
 use mathlib.Core.Path.{_≡_, sym}
 use Prim.Native.Nat.{_-_, _≤_}
 use native.Mathlib.Omega.{arith}
 use borrow.Author.Needs.{needs}
 use lib.Seq.{length-take-le}
 use lib.ListN.{length, length-set}
-use Rattle.vectors.proofs.given.numbers.Statement.{statement}
-use Rattle.vectors.proofs.given.numbers.Tie as tie
+use Rattle.casebook.proofs.given.numbers.Statement.{statement}
+use Rattle.casebook.proofs.given.numbers.Tie as tie
 
 abbrev Inv-loop : tie.InvT-loop
 Inv-loop s at row₀ count next₀ i₀ row next i = (i ≤ length row) × (length row ≡ length row₀)

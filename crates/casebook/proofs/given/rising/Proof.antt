@@ -1,11 +1,11 @@
--- `vectors::given::rising` meets its contract.
+-- `casebook::given::rising` meets its contract.
 use mathlib.Core.Path.{_≡_}
 use Prim.Native.Nat.{_-_, _≤_}
 use native.Mathlib.Omega.{arith}
 use borrow.Author.Needs.{needs}
 use lib.ListN.{length, length-set}
-use Rattle.vectors.proofs.given.rising.Statement.{statement}
-use Rattle.vectors.proofs.given.rising.Tie as tie
+use Rattle.casebook.proofs.given.rising.Statement.{statement}
+use Rattle.casebook.proofs.given.rising.Tie as tie
 
 abbrev Inv-loop : tie.InvT-loop
 Inv-loop row₀ from many first step i₀ left₀ b₀ row i left b = (i ≤ length row) × (length row ≡ length row₀)

@@ -1,11 +1,11 @@
--- `vectors::given::bytes` meets its contract.
+-- `casebook::given::bytes` meets its contract.
 use mathlib.Core.Path.{_≡_, sym}
 use Prim.Native.Nat.{_≤_}
 use borrow.Author.Needs.{needs}
 use lib.Seq.{length-take-le}
 use lib.ListN.{length}
-use Rattle.vectors.proofs.given.bytes.Statement.{statement}
-use Rattle.vectors.proofs.given.bytes.Tie as tie
+use Rattle.casebook.proofs.given.bytes.Statement.{statement}
+use Rattle.casebook.proofs.given.bytes.Tie as tie
 
 abbrev Inv-loop : tie.InvT-loop
 Inv-loop s at row₀ left₀ next₀ value₀ row left next value = (value ≤ length row) × (length row ≡ length row₀)

@@ -1,9 +1,9 @@
--- `vectors::printed::same` meets its contract.
+-- `casebook::printed::same` meets its contract.
 use Prim.Native.Nat.{_-_}
 use borrow.Author.Needs.{needs}
 use lib.ListN.{length}
-use Rattle.vectors.proofs.printed.same.Statement.{statement}
-use Rattle.vectors.proofs.printed.same.Tie as tie
+use Rattle.casebook.proofs.printed.same.Statement.{statement}
+use Rattle.casebook.proofs.printed.same.Tie as tie
 
 abbrev Inv-loop : tie.InvT-loop
 Inv-loop row i j₀ j = Unit {0}

@@ -1,9 +1,9 @@
--- `vectors::given::number` meets its contract.
+-- `casebook::given::number` meets its contract.
 use Prim.Native.Nat.{_-_, _≤_}
 use borrow.Author.Needs.{needs}
 use lib.ListN.{length}
-use Rattle.vectors.proofs.given.number.Statement.{statement}
-use Rattle.vectors.proofs.given.number.Tie as tie
+use Rattle.casebook.proofs.given.number.Statement.{statement}
+use Rattle.casebook.proofs.given.number.Tie as tie
 
 abbrev Inv-loop : tie.InvT-loop
 Inv-loop s at i₀ value₀ i value = value ≤ 10000000010255
