@@ -10,7 +10,7 @@
  * Every function answers a number and a value. Number 0 is accepted; any other is a refusal, of those in enum
  * monterculo_number, with the refusal's value (in brackets below). Of accepted work the value is what the function's
  * comment names, and 0 where none is named. The refusals of a function are given in their order: the first that applies
- * is answered. A refused call writes nothing.
+ * is answered. A refused call writes nothing; the one that does is a 6 that monterculo_feed meets.
  *
  * What a maker trips over:
  * - Pointers. Each must be valid for its length, for writing too unless it is const, and aligned for its type. None may
@@ -35,6 +35,7 @@
  *   counts                256 entries of 32 bits
  *   a directory           n/32 entries of 32 bits, rounded up: MONTERCULO_ENTRIES(n)
  *   a buffer              h*k/8 bytes, rounded up, for h symbols: MONTERCULO_BYTES(h, k)
+ *   a hit slice           for a piece fed, 8/k entries of 32 bits for each of its bytes: MONTERCULO_HITS(bytes, k)
  * No roll has more than 65,536 symbols. The room of a buffer is the smaller of 65,536 and its bytes times 8/k, in
  * symbols. For an edit, lend what the roll needs before it and what it needs after it, whichever is more. */
 #ifndef MONTERCULO_H
@@ -55,8 +56,10 @@ extern "C" {
 #define MONTERCULO_PLACES 256
 #define MONTERCULO_CODEWORD 86
 #define MONTERCULO_SYMBOLS 65536
+#define MONTERCULO_PATTERN 64
 #define MONTERCULO_ENTRIES(n) ((size_t)(n) / 32 + ((n) % 32 != 0))
 #define MONTERCULO_BYTES(h, k) (((size_t)(h) * (k) + 7) / 8)
+#define MONTERCULO_HITS(bytes, k) ((size_t)(bytes) * (8 / (k)))
 
 enum monterculo_number {
     MONTERCULO_ACCEPTED = 0,
@@ -86,7 +89,9 @@ enum monterculo_number {
     /* Directory shorter than the result needs. Value: entries needed. */
     MONTERCULO_SHORT_DIRECTORY = 12,
     /* Output shorter than the range. Value: range length. */
-    MONTERCULO_SHORT_OUTPUT = 13
+    MONTERCULO_SHORT_OUTPUT = 13,
+    /* Hit slice shorter than a piece needs. Value: entries needed. */
+    MONTERCULO_SHORT_HITS = 14
 };
 
 /* The words for an answer's number. */
@@ -107,6 +112,7 @@ static inline const char *monterculo_text(uint32_t number)
     case MONTERCULO_BAD_PATTERN: return "pattern empty or over 64";
     case MONTERCULO_SHORT_DIRECTORY: return "directory shorter than the result needs";
     case MONTERCULO_SHORT_OUTPUT: return "output shorter than the range";
+    case MONTERCULO_SHORT_HITS: return "hit slice shorter than a piece needs";
     default: return "no number of this library";
     }
 }
@@ -149,6 +155,39 @@ struct monterculo_coded {
 struct monterculo_rolled {
     struct monterculo_answer answer;
     struct monterculo_roll roll;
+};
+
+/* How far the reading of a roll that comes in pieces has come: symbols and codewords read; the first symbol of the
+ * codeword that is open or bad, or the symbols read where none is; the reading of an open one; whether a bad one was met,
+ * and whether an unused symbol of the last byte was not 0. */
+struct monterculo_progress {
+    uint32_t read, count, first, past, place, shorter, rows, value, bad, stained;
+};
+
+/* A roll that comes in pieces, and how far it was read. */
+struct monterculo_judge {
+    struct monterculo_roll roll;
+    struct monterculo_progress progress;
+};
+
+/* A search in such a roll, of 384 bytes: keep it between the pieces, and look at none of its numbers but the roll's.
+ * Characters of the pattern past the length are answered 0, and not looked at. */
+struct monterculo_searcher {
+    struct monterculo_judge judge;
+    uint8_t pattern[MONTERCULO_PATTERN];
+    uint32_t length;
+    uint64_t ends;
+};
+
+struct monterculo_started {
+    struct monterculo_answer answer;
+    struct monterculo_searcher searcher;
+};
+
+struct monterculo_fed {
+    struct monterculo_answer answer;
+    size_t hits;
+    struct monterculo_searcher searcher;
 };
 
 /* The code alone. */
@@ -224,6 +263,30 @@ struct monterculo_answer monterculo_search(struct monterculo_roll roll, const ui
 struct monterculo_rolled monterculo_edit(struct monterculo_roll roll, uint8_t *buf, size_t buf_len, uint32_t *dir,
                                          size_t dir_len, size_t start, size_t end, const uint8_t *text,
                                          size_t text_len);
+
+/* A roll that comes in pieces. The answered searcher takes the place of the one that was given. Numbers of a searcher
+ * out of the bounds that these functions keep are refused 1. */
+
+/* Starts a search for a pattern of 1 to 64 characters in a roll of which nothing has come in; n is not looked at.
+ * Refused: 1 (0), 5 (h; over 65,536), 11 (0); the searcher is then that of the roll with an empty pattern, and is refused
+ * in the same way. */
+struct monterculo_started monterculo_start(struct monterculo_roll roll, const uint8_t *pattern, size_t pattern_len);
+
+/* Reads the next bytes of the roll, in pieces of any size, empty ones too. Each hit is named by the call that reads its
+ * last symbol, before the roll is known to be sound.
+ * Refused: 1, 5, 11 of the searcher, as start refuses them; then an earlier 6 again, 5 (h; the piece reaches past the
+ * roll's last byte), 14 (MONTERCULO_HITS of the piece); these change nothing, and the searcher is the one that came in.
+ * Then 6 (the first symbol of a bad codeword in the piece): the hits before it are written, and what follows it is not
+ * read.
+ * Writes: the hits, ascending, into the first entries; later ones unchanged. hits is how many, beside 6 too.
+ * Value: how many hits. */
+struct monterculo_fed monterculo_feed(struct monterculo_searcher searcher, const uint8_t *piece, size_t piece_len,
+                                      uint32_t *slice, size_t slice_len);
+
+/* Says whether all of the roll has come in and is sound; it may be asked at any time, and again.
+ * Refused: 1, 5, 11 of the searcher, as start refuses them; then check's 6, 7, 8. Of a roll that ends too soon 6 tells the
+ * first symbol of the codeword that is open, or the symbols read if none is. */
+struct monterculo_answer monterculo_finish(struct monterculo_searcher searcher);
 
 #ifdef __cplusplus
 }
