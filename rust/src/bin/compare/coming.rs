@@ -146,7 +146,7 @@ pub fn any_searcher(rng: &mut Rng) -> Searcher {
 /// Each number within its bounds.
 fn small_searcher(rng: &mut Rng) -> Searcher {
     let table = if rng.one_in(3) { good_table(rng) } else { table_to_search(rng) };
-    let (any, most) = (rng.between(0, LIMIT), rng.pick(&[0, 1, 9, 40, 300]));
+    let (any, most) = (rng.between(0, LIMIT), rng.pick(&[1, 9, 40, 40, 300]));
     let h = if rng.one_in(5) { any } else { rng.between(0, most) };
     // Mostly so that few bytes are missing.
     let due = bytes_for(table.k, h);

@@ -314,16 +314,23 @@ fn past_the_end(rng: &mut Rng, k: u8, missing: usize) -> Piece {
 /// A few pieces for a searcher that nothing made.
 fn make_any(rng: &mut Rng) -> Feed {
     let searcher = any_searcher(rng);
-    let k = if searcher.judge.roll.table.k == 4 { 4 } else { 2 };
-    let pieces = (0..rng.between(1, 3)).map(|_| {
-        let length = rng.pick(&[0, 1, 1, 2, 3, 9]);
+    let (roll, progress) = (searcher.judge.roll, searcher.judge.progress);
+    let k = if roll.table.k == 4 { 4 } else { 2 };
+    let due = |symbols: u32| bytes_for(k, (symbols as usize).min(LIMIT));
+    let mut missing = due(roll.h).saturating_sub(due(progress.read));
+    let mut pieces = Vec::new();
+    for _ in 0..rng.between(1, 3) {
+        let any = rng.pick(&[0, 1, 1, 2, 3, 9]);
+        let length = if rng.one_in(8) { any } else { any.min(missing) };
+        missing -= length.min(missing);
         // Many bytes are codewords of one symbol.
-        let bytes: Vec<u8> = rng.bytes(length).iter().map(|byte| byte & rng.pick(&[0x00, 0x11, 0x55, 0xFF])).collect();
+        let mask = rng.pick(&[0x00, 0x11, 0x55, 0xFF]);
+        let bytes: Vec<u8> = rng.bytes(length).iter().map(|byte| byte & mask).collect();
         let needed = length * per_byte(k);
         let entries = rng.pick(&[needed, needed, needed, needed + 1, needed.saturating_sub(1)]);
-        piece(rng, &bytes, entries)
-    });
-    Feed { searcher, received: None, pieces: pieces.collect(), now: 0 }
+        pieces.push(piece(rng, &bytes, entries));
+    }
+    Feed { searcher, received: None, pieces, now: 0 }
 }
 
 #[cfg(test)]
