@@ -1,6 +1,6 @@
 //! The reference's structs and answers as the archive has them.
 
-use monterculo::sys::{Answer, Roll, Rolled, Table};
+use monterculo::sys::{Answer, Fed, Judge, Progress, Roll, Rolled, Searcher, Started, Table};
 
 use crate::reference;
 
@@ -42,4 +42,30 @@ pub fn done(answer: reference::Answer<()>) -> Answer {
 /// An answer with a roll beside it.
 pub fn rolled((answer, roll): (reference::Answer<()>, reference::Roll)) -> Rolled {
     Rolled { answer: done(answer), roll: roll_of(&roll) }
+}
+
+impl From<Searcher> for reference::Searcher {
+    fn from(Searcher { judge, pattern, length, ends }: Searcher) -> Self {
+        let Progress { read, count, first, past, place, shorter, rows, value, bad, stained } = judge.progress;
+        let progress = reference::Progress { read, count, first, past, place, shorter, rows, value, bad, stained };
+        reference::Searcher { roll: judge.roll.into(), progress, pattern, length, ends }
+    }
+}
+
+/// The archive's searcher of the reference's.
+pub fn searcher_of(searcher: &reference::Searcher) -> Searcher {
+    let reference::Searcher { roll, progress, pattern, length, ends } = searcher;
+    let reference::Progress { read, count, first, past, place, shorter, rows, value, bad, stained } = *progress;
+    let progress = Progress { read, count, first, past, place, shorter, rows, value, bad, stained };
+    Searcher { judge: Judge { roll: roll_of(roll), progress }, pattern: *pattern, length: *length, ends: *ends }
+}
+
+/// An answer with a searcher beside it.
+pub fn started((answer, searcher): (reference::Answer<()>, reference::Searcher)) -> Started {
+    Started { answer: done(answer), searcher: searcher_of(&searcher) }
+}
+
+/// An answer with hits, accepted or not, and a searcher beside it.
+pub fn fed((answer, hits, searcher): (reference::Answer<()>, usize, reference::Searcher)) -> Fed {
+    Fed { answer: told(answer.map(|()| hits as u64)), hits, searcher: searcher_of(&searcher) }
 }

@@ -1,5 +1,6 @@
 //! The paper's operations, by definition: codewords are listed by its rule, reading looks them up,
-//! editing unpacks, splices and packs afresh, and search looks at every place.
+//! editing unpacks, splices and packs afresh, and search looks at every place. What comes in pieces is
+//! kept whole, and read anew from its beginning for each answer.
 
 use std::cell::RefCell;
 use std::collections::HashMap;
@@ -487,6 +488,321 @@ fn edited(
     Ok((symbols, Read { text: whole, starts }))
 }
 
+// A roll that comes in pieces.
+
+/// How far a searcher has come: symbols and codewords read, the first symbol of the codeword that is
+/// open or bad, and the reading of an open one.
+#[derive(Clone, Copy, Debug, PartialEq, Eq)]
+pub struct Progress {
+    pub read: u32,
+    pub count: u32,
+    pub first: u32,
+    /// 1 where σ is reached and the stopper not yet read.
+    pub past: u32,
+    /// Continuers read, counted as far as 2.
+    pub place: u32,
+    /// How many codewords are no longer than these continuers.
+    pub shorter: u32,
+    /// How many rows of so many continuers there are.
+    pub rows: u32,
+    /// What they spell.
+    pub value: u32,
+    /// 1 where a bad codeword was met.
+    pub bad: u32,
+    /// 1 where an unused symbol of the last byte was not 0.
+    pub stained: u32,
+}
+
+/// Before the first symbol.
+pub const FRESH: Progress =
+    Progress { read: 0, count: 0, first: 0, past: 0, place: 0, shorter: 0, rows: 1, value: 0, bad: 0, stained: 0 };
+
+#[derive(Clone, Debug, PartialEq, Eq)]
+pub struct Searcher {
+    pub roll: Roll,
+    pub progress: Progress,
+    /// 0 past its length.
+    pub pattern: [u8; PATTERN],
+    pub length: u32,
+    /// Bit j: the first j + 1 characters of the pattern, which are not all, are the last read.
+    pub ends: u64,
+}
+
+/// What start refuses.
+fn start_refusal(roll: &Roll, pattern: usize) -> Answer<()> {
+    table_refusal(&roll.table)?;
+    if roll.h as usize > LIMIT {
+        return refuse(5, roll.h as usize);
+    }
+    if pattern == 0 || pattern > PATTERN {
+        return refuse(11, 0);
+    }
+    Ok(())
+}
+
+/// Beside a refusal stands the searcher of that roll for an empty pattern.
+pub fn start(roll: &Roll, pattern: &[u8]) -> (Answer<()>, Searcher) {
+    match start_refusal(roll, pattern.len()) {
+        Ok(()) => (Ok(()), fresh(roll, pattern)),
+        Err(refused) => (Err(refused), fresh(roll, b"")),
+    }
+}
+
+/// A searcher that has read nothing.
+fn fresh(roll: &Roll, pattern: &[u8]) -> Searcher {
+    let mut searcher =
+        Searcher { roll: roll.clone(), progress: FRESH, pattern: [0; PATTERN], length: pattern.len() as u32, ends: 0 };
+    searcher.pattern[..pattern.len()].copy_from_slice(pattern);
+    searcher
+}
+
+/// All that has come in of a roll. Each answer is worked out anew from the whole of it.
+#[derive(Clone, Debug, PartialEq)]
+pub struct Received {
+    pub roll: Roll,
+    pub pattern: Vec<u8>,
+    pub bytes: Vec<u8>,
+}
+
+/// What was read of it.
+struct SoFar {
+    text: Vec<u8>,
+    /// Symbols, the bad codeword's stopper too.
+    read: usize,
+    first: usize,
+    /// The continuers of a codeword whose stopper was not read.
+    open: Vec<u8>,
+    bad: bool,
+}
+
+impl Received {
+    pub fn new(roll: &Roll, pattern: &[u8]) -> Answer<Received> {
+        start_refusal(roll, pattern.len())?;
+        Ok(Received { roll: roll.clone(), pattern: pattern.to_vec(), bytes: Vec::new() })
+    }
+
+    /// The roll's own bytes, all together.
+    fn due(&self) -> usize {
+        bytes_for(self.roll.table.k, self.roll.h as usize)
+    }
+
+    fn so_far(&self) -> SoFar {
+        let (table, h) = (&self.roll.table, self.roll.h as usize);
+        let symbols = symbols_of(table.k, &self.bytes, h.min(self.bytes.len() * per_byte(table.k)));
+        let list = listing(table.k, table.s);
+        let mut text = Vec::new();
+        let mut first = 0;
+        while first < symbols.len() {
+            match read_codeword(table, &list, &symbols, first) {
+                Ok((next, character)) => {
+                    text.push(character);
+                    first = next;
+                }
+                Err(_) => break,
+            }
+        }
+        match symbols[first..].iter().position(|&symbol| symbol < table.s) {
+            Some(continuers) => SoFar { text, read: first + continuers + 1, first, open: Vec::new(), bad: true },
+            None => {
+                let open = symbols[first..].to_vec();
+                SoFar { text, read: symbols.len(), first, bad: !open.is_empty() && symbols.len() == h, open }
+            }
+        }
+    }
+
+    /// The characters read.
+    pub fn text(&self) -> Vec<u8> {
+        self.so_far().text
+    }
+
+    /// How many hits it writes, beside 6 too.
+    pub fn feed(&mut self, piece: &[u8], slice: &mut [u32]) -> (Answer<()>, usize) {
+        let before = self.so_far();
+        if before.bad {
+            return (refuse(6, before.first), 0);
+        }
+        if self.bytes.len() + piece.len() > self.due() {
+            return (refuse(5, self.roll.h as usize), 0);
+        }
+        let needed = piece.len() * per_byte(self.roll.table.k);
+        if slice.len() < needed {
+            return (refuse(14, needed), 0);
+        }
+        self.bytes.extend_from_slice(piece);
+        let after = self.so_far();
+        let mut hits = 0;
+        for place in 0..after.text.len() {
+            // One that ends in the text before this piece was named then.
+            if after.text[place..].starts_with(&self.pattern) && place + self.pattern.len() > before.text.len() {
+                slice[hits] = place as u32;
+                hits += 1;
+            }
+        }
+        (if after.bad { refuse(6, after.first) } else { Ok(()) }, hits)
+    }
+
+    /// The check's answer where all has come in.
+    pub fn finish(&self) -> Answer<()> {
+        if self.bytes.len() < self.due() {
+            return refuse(6, self.so_far().first);
+        }
+        check(&self.roll, &self.bytes)
+    }
+
+    /// What a searcher that has read all this holds.
+    pub fn searcher(&self) -> Searcher {
+        let SoFar { text, read, first, open, bad } = self.so_far();
+        let Roll { table, h, .. } = &self.roll;
+        let mut unused = *h as usize..self.bytes.len() * per_byte(table.k);
+        let stained = !bad && unused.any(|number| symbol(table.k, &self.bytes, number) != 0);
+        let progress = Progress {
+            read: read as u32,
+            count: text.len() as u32,
+            first: first as u32,
+            bad: bad.into(),
+            stained: stained.into(),
+            ..FRESH
+        };
+        let progress = if open.is_empty() { progress } else { with_open(table, &open, progress) };
+        let ended = (1..self.pattern.len()).filter(|&characters| text.ends_with(&self.pattern[..characters]));
+        let ends = ended.map(|characters| 1 << (characters - 1)).sum();
+        Searcher { progress, ends, ..fresh(&self.roll, &self.pattern) }
+    }
+}
+
+/// With the reading of a codeword that begins with these continuers.
+fn with_open(table: &Table, continuers: &[u8], progress: Progress) -> Progress {
+    let open = Progress { place: continuers.len().min(2) as u32, ..progress };
+    let past = Progress { past: 1, ..open };
+    // Of the 256 listed; where no other is longer, no rank is left for one.
+    let list = listing(table.k, table.s);
+    let shorter = list.codewords.iter().filter(|codeword| codeword.len() <= continuers.len()).count();
+    if shorter >= usize::from(table.sigma) {
+        return past;
+    }
+    let c = (1 << table.k) - usize::from(table.s);
+    let value = continuers.iter().fold(0, |value, &symbol| value * c + usize::from(symbol - table.s));
+    if shorter + value >= usize::from(table.sigma) {
+        return past;
+    }
+    let rows = c.pow(continuers.len() as u32);
+    Progress { shorter: shorter as u32, rows: rows as u32, value: value as u32, ..open }
+}
+
+/// What feeding and finishing ask of a searcher, in which any numbers may stand.
+fn searcher_refusal(searcher: &Searcher) -> Answer<()> {
+    start_refusal(&searcher.roll, searcher.length as usize)?;
+    let Progress { read, count, first, past, place, shorter, rows, value, bad, stained } = searcher.progress;
+    let per_byte = per_byte(searcher.roll.table.k) as u32;
+    let small = past <= 1 && place <= 2 && shorter <= 256 && rows <= 4_096 && value <= 256 && bad <= 1 && stained <= 1;
+    let in_order = count <= first && first <= read && read <= searcher.roll.h;
+    let whole = bad == 1 || read == searcher.roll.h || read % per_byte == 0;
+    let beginnings = count.min(searcher.length - 1);
+    if small && in_order && whole && searcher.ends < 1 << beginnings {
+        Ok(())
+    } else {
+        refuse(1, 0)
+    }
+}
+
+/// By the searcher's numbers alone, symbol by symbol: how many hits it writes, beside 6 too, and the
+/// searcher afterwards.
+pub fn feed(searcher: &Searcher, piece: &[u8], slice: &mut [u32]) -> (Answer<()>, usize, Searcher) {
+    let mut after = searcher.clone();
+    if let Err(refused) = feed_refusal(searcher, piece, slice) {
+        return (Err(refused), 0, after);
+    }
+    let k = searcher.roll.table.k;
+    let mut hits = 0;
+    for symbol in symbols_of(k, piece, piece.len() * per_byte(k)) {
+        if after.progress.bad == 1 {
+            break;
+        }
+        if after.progress.read == after.roll.h {
+            // One of the last byte that is unused.
+            after.progress.stained |= u32::from(symbol != 0);
+        } else if let Some(hit) = after.take(symbol) {
+            slice[hits] = hit;
+            hits += 1;
+        }
+    }
+    let answer = if after.progress.bad == 1 { refuse(6, after.progress.first as usize) } else { Ok(()) };
+    (answer, hits, after)
+}
+
+fn feed_refusal(searcher: &Searcher, piece: &[u8], slice: &[u32]) -> Answer<()> {
+    searcher_refusal(searcher)?;
+    let Searcher { roll: Roll { table, h, .. }, progress, .. } = searcher;
+    if progress.bad == 1 {
+        return refuse(6, progress.first as usize);
+    }
+    if bytes_for(table.k, progress.read as usize) + piece.len() > bytes_for(table.k, *h as usize) {
+        return refuse(5, *h as usize);
+    }
+    let needed = piece.len() * per_byte(table.k);
+    if slice.len() < needed {
+        return refuse(14, needed);
+    }
+    Ok(())
+}
+
+pub fn finish(searcher: &Searcher) -> Answer<()> {
+    searcher_refusal(searcher)?;
+    let progress = &searcher.progress;
+    if progress.bad == 1 || progress.read < searcher.roll.h {
+        return refuse(6, progress.first as usize);
+    }
+    if progress.count != searcher.roll.n {
+        return refuse(7, progress.count as usize);
+    }
+    if progress.stained == 1 {
+        return refuse(8, 0);
+    }
+    Ok(())
+}
+
+impl Searcher {
+    /// Reads one more symbol of the roll; the hit that it ends.
+    fn take(&mut self, symbol: u8) -> Option<u32> {
+        let Table { k, s, sigma, places } = self.roll.table;
+        let (symbol, s, sigma) = (u32::from(symbol), u32::from(s), u32::from(sigma));
+        let c = (1 << k) - s;
+        let Progress { read, count, first, past, place, shorter, rows, value, .. } = self.progress;
+        let next = Progress { read: read + 1, count, first, stained: self.progress.stained, ..FRESH };
+        if symbol < s {
+            let rank = shorter + value * s + symbol;
+            if past == 1 || rank >= sigma {
+                self.progress = Progress { bad: 1, ..next };
+                return None;
+            }
+            self.progress = Progress { count: count + 1, first: read + 1, ..next };
+            return self.follow(places[rank as usize]);
+        }
+        let open = Progress { place: (place + 1).min(2), bad: u32::from(read + 1 == self.roll.h), ..next };
+        let (shorter, value) = (shorter + rows * s, value * c + symbol - s);
+        self.progress = if past == 1 || shorter + value >= sigma {
+            Progress { past: 1, ..open }
+        } else {
+            Progress { shorter, rows: rows * c, value, ..open }
+        };
+        None
+    }
+
+    /// Which beginnings of the pattern end at this character, the last one read; the hit if all of it does.
+    fn follow(&mut self, character: u8) -> Option<u32> {
+        let before = self.ends;
+        let length = self.length as usize;
+        let ended = |characters: usize| characters == 0 || before >> (characters - 1) & 1 == 1;
+        let ends: Vec<bool> = (0..length).map(|place| ended(place) && self.pattern[place] == character).collect();
+        self.ends = (0..length - 1).filter(|&place| ends[place]).map(|place| 1 << place).sum();
+        if ends[length - 1] {
+            Some(self.progress.count - self.length)
+        } else {
+            None
+        }
+    }
+}
+
 // The program.
 
 /// What the program writes for what it reads.
@@ -957,6 +1273,267 @@ mod tests {
             if symbols(&new) == symbols(&text[start..end]) {
                 let run_end = bytes_for(k, run_start + symbols(&new));
                 assert_eq!(buf[run_end..], before[run_end..]);
+            }
+        }
+    }
+
+    /// A searcher fed in both ways: all kept and read anew, and by its numbers alone.
+    struct Both {
+        received: Received,
+        searcher: Searcher,
+        hits: Vec<u32>,
+    }
+
+    impl Both {
+        fn start(roll: &Roll, pattern: &[u8]) -> Both {
+            let (answer, searcher) = start(roll, pattern);
+            assert_eq!(answer, Ok(()));
+            let received = Received::new(roll, pattern).unwrap();
+            assert_eq!(received.searcher(), searcher);
+            Both { received, searcher, hits: Vec::new() }
+        }
+
+        /// The answer's number and value, 0 and the hits if accepted.
+        fn feed_into(&mut self, piece: &[u8], entries: usize) -> (u32, u64) {
+            let (mut slice, mut again) = (vec![9_999; entries], vec![9_999; entries]);
+            let (answer, hits) = self.received.feed(piece, &mut slice);
+            let (same, as_many, after) = feed(&self.searcher, piece, &mut again);
+            assert_eq!((answer, hits, &slice), (same, as_many, &again));
+            assert_eq!(self.received.searcher(), after);
+            assert!(slice[hits..].iter().all(|&entry| entry == 9_999));
+            self.searcher = after;
+            self.hits.extend(&slice[..hits]);
+            answer.map_or_else(|refused| (refused.number, refused.value), |()| (0, hits as u64))
+        }
+
+        fn feed(&mut self, piece: &[u8]) -> (u32, u64) {
+            let entries = piece.len() * per_byte(self.searcher.roll.table.k);
+            self.feed_into(piece, entries)
+        }
+
+        fn finish(&self) -> Answer<()> {
+            assert_eq!(self.received.finish(), finish(&self.searcher));
+            finish(&self.searcher)
+        }
+    }
+
+    #[test]
+    fn the_word_in_pieces() {
+        let (roll, buf) = rolled(&chosen(2, WORD).1, WORD, 4);
+        let mut both = Both::start(&roll, b"abra");
+        assert_eq!((both.searcher.progress, both.searcher.ends), (FRESH, 0));
+        assert_eq!(refused(both.finish()), (6, 0));
+        assert_eq!(both.feed(&buf[..1]), (0, 1));
+        // abra, whose last a may be the first of another.
+        let progress = Progress { read: 4, count: 4, first: 4, ..FRESH };
+        assert_eq!((both.searcher.progress, both.searcher.ends), (progress, 1));
+        assert_eq!(both.feed(&buf[1..2]), (0, 0));
+        // The first symbol of d is read.
+        let progress = Progress { read: 8, count: 6, first: 7, place: 1, shorter: 3, ..FRESH };
+        assert_eq!((both.searcher.progress, both.searcher.ends), (progress, 1));
+        assert_eq!(refused(both.finish()), (6, 7));
+        assert_eq!(both.feed(b""), (0, 0));
+        assert_eq!(both.feed(&buf[2..3]), (0, 0));
+        assert_eq!(both.searcher.ends, 4);
+        assert_eq!(refused(both.finish()), (6, 12));
+        assert_eq!(both.feed(&buf[3..]), (0, 1));
+        assert_eq!(both.hits, [0, 7]);
+        assert_eq!(both.finish(), Ok(()));
+        assert_eq!(both.feed(b""), (0, 0));
+        assert_eq!(both.feed(&[0]), (5, 13));
+        for first in 0..=4 {
+            for second in first..=4 {
+                let mut cut = Both::start(&roll, b"abra");
+                for piece in [&buf[..first], &buf[first..second], &buf[second..]] {
+                    assert_eq!(cut.feed(piece).0, 0);
+                }
+                assert_eq!((&cut.hits, &cut.searcher), (&both.hits, &both.searcher));
+            }
+        }
+    }
+
+    #[test]
+    fn banana_in_pieces() {
+        let (roll, buf) = rolled(&chosen(4, b"banana").1, b"banana", 3);
+        let mut both = Both::start(&roll, b"ana");
+        assert_eq!([both.feed(&buf[..1]), both.feed(&buf[1..2]), both.feed(&buf[2..])], [(0, 0), (0, 1), (0, 1)]);
+        assert_eq!((both.hits, both.searcher.ends), (vec![1, 3], 1));
+        // A character not in the table stands nowhere.
+        let mut both = Both::start(&roll, b"anx");
+        assert_eq!(both.feed(&buf), (0, 0));
+        assert_eq!(both.finish(), Ok(()));
+        assert_eq!(both.searcher.ends, 1);
+    }
+
+    #[test]
+    fn a_bad_codeword_in_pieces() {
+        let fed = |sigma, h, pieces: &[&[u8]]| {
+            let mut both = Both::start(&Roll { table: with_places(4, 14, sigma), n: 9, h }, &[0]);
+            let answers: Vec<(u32, u64)> = pieces.iter().map(|piece| both.feed(piece)).collect();
+            (answers, both)
+        };
+        // P13: the rank of E 0 is 14.
+        let (answers, both) = fed(15, 2, &[&[0xE0]]);
+        assert_eq!((answers, refused(both.finish())), (vec![(0, 0)], (7, 1)));
+        let (answers, both) = fed(14, 4, &[&[0xE0], &[0x00], &[0x00; 3], &[]]);
+        assert_eq!((answers, refused(both.finish())), (vec![(6, 0); 4], (6, 0)));
+        assert_eq!(both.searcher.progress, Progress { read: 2, bad: 1, ..FRESH });
+        // The hits before it are named, what follows it is not read.
+        let (answers, both) = fed(14, 8, &[&[0x01, 0x0E, 0x00, 0xF1], &[0x00]]);
+        assert_eq!((answers, refused(both.finish())), (vec![(6, 3), (6, 3)], (6, 3)));
+        assert_eq!(both.hits, [0, 2]);
+        assert_eq!(both.searcher.progress, Progress { read: 5, count: 3, first: 3, bad: 1, ..FRESH });
+        // Open at h, in the feeding that reads the last symbol; unused symbols behind it are not read.
+        let (answers, both) = fed(20, 3, &[&[0x0E], &[0xE5]]);
+        assert_eq!((answers, refused(both.finish())), (vec![(0, 1), (6, 1)], (6, 1)));
+        let open = Progress { read: 3, count: 1, first: 1, past: 1, place: 2, bad: 1, ..FRESH };
+        assert_eq!(both.searcher.progress, open);
+        // A run too long for any rank is bad at its stopper.
+        let (answers, both) = fed(256, 9, &[&[0xEE], &[0xFF], &[0xFF], &[0xF0], &[0x00]]);
+        assert_eq!((answers, refused(both.finish())), (vec![(0, 0), (0, 0), (0, 0), (6, 0), (6, 0)], (6, 0)));
+        assert_eq!(both.searcher.progress, Progress { read: 8, bad: 1, ..FRESH });
+        // Unused symbols are read with the last byte, and 7 comes before 8.
+        let (answers, mut both) = fed(20, 3, &[&[0x00], &[0x05]]);
+        assert_eq!((answers, refused(both.finish())), (vec![(0, 2), (0, 1)], (7, 3)));
+        both.searcher.roll.n = 3;
+        assert_eq!(refused(finish(&both.searcher)), (8, 0));
+    }
+
+    #[test]
+    fn refusals_of_pieces_in_order() {
+        let (roll, buf) = rolled(&chosen(2, WORD).1, WORD, 5);
+        let mut bad = roll.clone();
+        bad.table.places[1] = b'a';
+        bad.h = 65_537;
+        let empty = |roll: &Roll| Searcher { length: 0, pattern: [0; PATTERN], ..start(roll, b"a").1 };
+        assert_eq!((refused(start(&bad, b"").0), start(&bad, b"a").1), ((1, 0), empty(&bad)));
+        bad.table = roll.table.clone();
+        assert_eq!((refused(start(&bad, b"").0), start(&bad, b"a").1), ((5, 65_537), empty(&bad)));
+        bad.h = 65_536;
+        assert_eq!(start(&bad, &[b'x'; 64]).0, Ok(()));
+        assert_eq!((refused(start(&bad, b"").0), start(&bad, &[b'x'; 65]).1), ((11, 0), empty(&bad)));
+        bad.table.k = 0;
+        assert_eq!((refused(start(&bad, b"").0), start(&bad, b"a").1), ((1, 0), empty(&bad)));
+
+        // What is refused is not fed.
+        let mut both = Both::start(&roll, b"a");
+        assert_eq!(both.feed_into(&buf, 0), (5, 13));
+        assert_eq!(both.feed_into(&buf[..4], 15), (14, 16));
+        assert_eq!(both.feed_into(&buf[..1], 7), (0, 2));
+        assert_eq!(both.feed_into(&buf[1..], 99), (5, 13));
+        assert_eq!(both.feed_into(&buf[1..2], 3), (14, 4));
+        assert_eq!(both.feed_into(&buf[1..4], 12), (0, 3));
+        assert_eq!((&both.hits[..], both.finish()), (&[0, 3, 5, 7, 10][..], Ok(())));
+
+        // An earlier 6 comes before 5, and 5 before 14.
+        let mut both = Both::start(&Roll { h: 8, ..roll.clone() }, b"a");
+        assert_eq!(both.feed(&buf[..2]), (6, 7));
+        assert_eq!(both.feed_into(&buf, 0), (6, 7));
+        assert_eq!(both.hits, [0, 3, 5]);
+
+        // No piece but the empty one.
+        for (n, answer) in [(0, Ok(())), (1, Err(Refused { number: 7, value: 0 }))] {
+            let mut both = Both::start(&Roll { n, h: 0, ..roll.clone() }, b"a");
+            assert_eq!([both.feed(b""), both.feed(&[0])], [(0, 0), (5, 0)]);
+            assert_eq!(both.finish(), answer);
+        }
+    }
+
+    #[test]
+    fn any_numbers_may_stand_in_a_searcher() {
+        let (roll, buf) = rolled(&chosen(2, WORD).1, WORD, 4);
+        let mut both = Both::start(&roll, b"abra");
+        assert_eq!(both.feed(&buf[..2]).0, 0);
+        let good = both.searcher;
+        let asked = |searcher: &Searcher| {
+            let mut slice = [9_999; 16];
+            let (answer, hits, after) = feed(searcher, &buf[2..3], &mut slice);
+            let number = |answer: Answer<()>| answer.map_or_else(|refused| refused.number, |()| 0);
+            if [1, 5, 11].contains(&number(answer)) || searcher.progress.bad == 1 {
+                assert_eq!((hits, &after, slice), (0, searcher, [9_999; 16]));
+            }
+            (number(answer), number(finish(searcher)))
+        };
+        assert_eq!(asked(&good), (0, 6));
+        let with = |change: fn(&mut Searcher)| {
+            let mut searcher = good.clone();
+            change(&mut searcher);
+            asked(&searcher)
+        };
+        assert_eq!(with(|searcher| searcher.progress.past = 2), (1, 1));
+        assert_eq!(with(|searcher| searcher.progress.place = 3), (1, 1));
+        assert_eq!(with(|searcher| searcher.progress.shorter = 257), (1, 1));
+        assert_eq!(with(|searcher| searcher.progress.rows = 4_097), (1, 1));
+        assert_eq!(with(|searcher| searcher.progress.value = 257), (1, 1));
+        assert_eq!(with(|searcher| searcher.progress.bad = 2), (1, 1));
+        assert_eq!(with(|searcher| searcher.progress.stained = 2), (1, 1));
+        assert_eq!(with(|searcher| searcher.progress.count = 8), (1, 1));
+        assert_eq!(with(|searcher| searcher.progress.first = 9), (1, 1));
+        assert_eq!(with(|searcher| searcher.progress.read = 14), (1, 1));
+        assert_eq!(with(|searcher| searcher.progress.read = 9), (1, 1));
+        assert_eq!(with(|searcher| searcher.ends = 8), (1, 1));
+        assert_eq!(with(|searcher| (searcher.progress.count, searcher.ends) = (2, 4)), (1, 1));
+        assert_eq!(with(|searcher| searcher.roll.table.s = 4), (1, 1));
+        assert_eq!(with(|searcher| (searcher.roll.h, searcher.length) = (65_537, 0)), (5, 5));
+        assert_eq!(with(|searcher| (searcher.length, searcher.progress.past) = (0, 2)), (11, 11));
+        assert_eq!(with(|searcher| searcher.length = 65), (11, 11));
+        // Within their bounds all are taken as they are.
+        assert_eq!(with(|searcher| (searcher.progress.read, searcher.progress.bad) = (9, 1)), (6, 6));
+        assert_eq!(with(|searcher| searcher.progress.read = 13), (5, 7));
+        assert_eq!(with(|searcher| (searcher.progress.read, searcher.roll.n) = (13, 6)), (5, 0));
+        assert_eq!(with(|searcher| searcher.ends = 7), (0, 6));
+        // The open codeword ends with 1: of rank 2 · 3 + 1, so it is bad; of rank 256 it is no less so.
+        assert_eq!(with(|searcher| (searcher.progress.shorter, searcher.progress.value) = (0, 2)), (6, 6));
+        assert_eq!(with(|searcher| (searcher.progress.shorter, searcher.progress.value) = (255, 0)), (6, 6));
+        assert_eq!(with(|searcher| (searcher.progress.past, searcher.progress.shorter) = (1, 0)), (6, 6));
+        // The pattern's places past its length are kept, and not looked at.
+        assert_eq!(with(|searcher| searcher.pattern[4..].fill(b'a')), (0, 6));
+    }
+
+    #[test]
+    fn pieces_are_searched_as_the_whole() {
+        let mut dice = Dice(2);
+        for round in 0..400 {
+            let k = 2 + 2 * (round % 2) as u8;
+            let alphabet = 1 + dice.below(if round % 4 < 2 { 3 } else { 60 });
+            let text = dice.text(90, alphabet);
+            let (mut roll, mut buf) = rolled(&chosen(k, &text).1, &text, 700);
+            buf.truncate(bytes_for(k, roll.h as usize));
+            // A flipped bit, a symbol less, or a wrong n, each now and then.
+            if dice.below(3) == 0 && !buf.is_empty() {
+                let byte = dice.below(buf.len());
+                buf[byte] ^= 1 << dice.below(8);
+            }
+            if dice.below(4) == 0 && roll.h > 0 {
+                roll.h -= 1;
+                buf.truncate(bytes_for(k, roll.h as usize));
+            }
+            roll.n += (dice.below(6) == 0) as u32;
+            let mut pattern = dice.text(3, alphabet);
+            pattern.push(dice.below(alphabet) as u8);
+            let mut ends: Option<Both> = None;
+            for cutting in 0..4 {
+                let mut both = Both::start(&roll, &pattern);
+                let mut met = None;
+                let mut rest = &buf[..];
+                while !rest.is_empty() {
+                    let most = [rest.len(), 1, 5, 40][cutting].min(rest.len());
+                    let (piece, behind) = rest.split_at(dice.below(most + 1).max(usize::from(cutting < 2) * most));
+                    rest = behind;
+                    let (number, value) = both.feed(piece);
+                    assert!(number == 0 && met.is_none() || number == 6 && met.unwrap_or(value) == value);
+                    met = met.or(if number == 6 { Some(value) } else { None });
+                }
+                let checked = check(&roll, &buf);
+                assert_eq!(both.finish(), checked);
+                assert_eq!(met.is_some(), checked.map_or_else(|refused| refused.number == 6, |()| false));
+                if checked.is_ok() {
+                    assert_eq!(both.hits, found(&roll, &buf, &pattern));
+                }
+                if let Some(first) = &ends {
+                    assert_eq!((&first.hits, &first.searcher), (&both.hits, &both.searcher));
+                }
+                ends = Some(both);
             }
         }
     }

@@ -4,8 +4,9 @@
 //! count from 0; a range runs from its start up to, and not including, its end, and any kind of range may be given.
 //!
 //! [`OwnedRoll`] has everything that a roll needs. [`Table`] and [`Roll`] are for boxes that lend fixed memory: the
-//! symbols then lie in a buffer of the caller, and the directory, where used, in a slice of 32-bit numbers. Nothing is
-//! allocated there but by [`Roll::find`].
+//! symbols then lie in a buffer of the caller, and the directory, where used, in a slice of 32-bit numbers. A
+//! [`Searcher`] is fed a roll piece by piece, as it comes in, and keeps none of it. Nothing is allocated there but by
+//! [`Roll::find`] and [`Searcher::find`].
 //!
 //! Whatever bytes, numbers and ranges arrive, a call comes back: what is bad is refused, by a [`Refusal`]. No function
 //! of this crate panics.
@@ -99,6 +100,8 @@ mod owned;
 mod refusal;
 #[forbid(unsafe_code)]
 mod roll;
+#[forbid(unsafe_code)]
+mod searcher;
 #[allow(unsafe_code)]
 pub mod sys;
 #[forbid(unsafe_code)]
@@ -107,6 +110,7 @@ mod table;
 pub use owned::{Line, OwnedRoll};
 pub use refusal::{Refusal, TableFault};
 pub use roll::Roll;
+pub use searcher::{PieceRefusal, Searcher};
 pub use table::{count, Codeword, Table, Width};
 
 /// The places of a table, and the counts of a text: one for each byte value.
@@ -142,4 +146,15 @@ pub const fn entries_for(n: u32) -> usize {
 pub const fn bytes_for(k: u8, h: u64) -> usize {
     let bits = h.saturating_mul(k as u64);
     (bits / 8).saturating_add((bits % 8 != 0) as u64) as usize
+}
+
+/// The entries of a hit slice that [feeding](Searcher::feed) wants for a piece of so many bytes: 8/k for each.
+///
+/// A width other than 2 or 4 has no roll; as many are then told as for 2.
+///
+/// ```
+/// assert_eq!([2, 4].map(|k| monterculo::hits_for(k, 64)), [256, 128]);
+/// ```
+pub const fn hits_for(k: u8, bytes: usize) -> usize {
+    bytes.saturating_mul(if k == 4 { 2 } else { 4 })
 }

@@ -10,7 +10,8 @@ use crate::{PATTERN, PLACES, SYMBOLS};
 ///
 /// Each has the paper's [number](Refusal::number) and [value](Refusal::value); a number with two causes has two names.
 /// The refusals of an operation stand in its documentation in their order: the first that applies is answered. A refused
-/// call changes nothing that was lent to it.
+/// call changes nothing that was lent to it, but for a 6 that [feeding a piece](crate::Searcher::feed) meets: it names
+/// the hits before it.
 ///
 /// `Display` and `Debug` both write the words, so that a `main` that gives a refusal back prints them.
 ///
@@ -62,6 +63,20 @@ pub enum Refusal {
         /// How many it says.
         h: usize,
     },
+    /// 5, of [`Searcher::new`](crate::Searcher::new): the record says more symbols than a roll may have.
+    LongRoll {
+        /// How many it says.
+        h: usize,
+    },
+    /// 5, of a piece: it reaches past the roll's last byte.
+    LongPiece {
+        /// How many bytes it has.
+        length: usize,
+        /// How many bytes of the roll had not come in.
+        missing: usize,
+        /// How many symbols the record says.
+        h: usize,
+    },
     /// 6: reading meets a codeword unfinished at h, or of rank σ or more.
     BadCodeword {
         /// The first symbol of it.
@@ -70,6 +85,13 @@ pub enum Refusal {
     /// 6, of [`Table::character_of`](crate::Table::character_of): the symbols are not exactly one codeword of rank
     /// below σ.
     NotOneCodeword,
+    /// 6, of [`Searcher::finish`](crate::Searcher::finish): not all of the roll has come in.
+    EndsTooSoon {
+        /// The first symbol of the unfinished codeword, or how many were read if none is open.
+        symbol: usize,
+        /// How many bytes are missing.
+        missing: usize,
+    },
     /// 7: the symbols read as another number of characters than the record says.
     BadCharacterCount {
         /// How many were read.
@@ -115,6 +137,11 @@ pub enum Refusal {
     /// 13: the output is shorter than the range.
     ShortOutput {
         /// The length of the range.
+        needed: usize,
+    },
+    /// 14: the hit slice is shorter than a piece needs.
+    ShortHits {
+        /// The entries needed.
         needed: usize,
     },
     /// An answer that this crate does not know; an archive of its own version gives none.
@@ -208,21 +235,22 @@ impl Answer {
             11 => Refusal::BadPattern { length: given.text.len() },
             12 => Refusal::ShortDirectory { needed: value },
             13 => Refusal::ShortOutput { needed: value },
+            14 => Refusal::ShortHits { needed: value },
             _ => other,
         }
     }
 }
 
 impl Refusal {
-    /// The paper's number, 1 to 13.
+    /// The paper's number, 1 to 14.
     pub fn number(&self) -> u32 {
         match *self {
             Refusal::BadTable { .. } => 1,
             Refusal::BadCounts { .. } => 2,
             Refusal::NotInTable { .. } => 3,
             Refusal::NoRoom { .. } | Refusal::LongText { .. } => 4,
-            Refusal::BadSymbolCount { .. } => 5,
-            Refusal::BadCodeword { .. } | Refusal::NotOneCodeword => 6,
+            Refusal::BadSymbolCount { .. } | Refusal::LongRoll { .. } | Refusal::LongPiece { .. } => 5,
+            Refusal::BadCodeword { .. } | Refusal::NotOneCodeword | Refusal::EndsTooSoon { .. } => 6,
             Refusal::BadCharacterCount { .. } => 7,
             Refusal::BadUnused => 8,
             Refusal::BadEntry { .. } => 9,
@@ -230,6 +258,7 @@ impl Refusal {
             Refusal::BadPattern { .. } => 11,
             Refusal::ShortDirectory { .. } => 12,
             Refusal::ShortOutput { .. } => 13,
+            Refusal::ShortHits { .. } => 14,
             Refusal::Other { number, .. } => number,
         }
     }
@@ -247,11 +276,13 @@ impl Refusal {
             Refusal::NotInTable { place, .. } => place,
             Refusal::NoRoom { character } => character,
             Refusal::LongText { .. } => SYMBOLS,
-            Refusal::BadSymbolCount { h } => h,
-            Refusal::BadCodeword { symbol } => symbol,
+            Refusal::BadSymbolCount { h } | Refusal::LongRoll { h } | Refusal::LongPiece { h, .. } => h,
+            Refusal::BadCodeword { symbol } | Refusal::EndsTooSoon { symbol, .. } => symbol,
             Refusal::BadCharacterCount { read, .. } => read,
             Refusal::BadEntry { entry, .. } => entry,
-            Refusal::ShortDirectory { needed } | Refusal::ShortOutput { needed } => needed,
+            Refusal::ShortDirectory { needed } | Refusal::ShortOutput { needed } | Refusal::ShortHits { needed } => {
+                needed
+            }
             Refusal::Other { value, .. } => return value,
         };
         value as u64
@@ -274,11 +305,18 @@ impl fmt::Display for Refusal {
                 write!(f, "a text of {length} characters is too long to be counted: at most {SYMBOLS} can be")
             }
             Refusal::BadSymbolCount { h } => write!(f, "h is {h}, more symbols than the buffer has room for"),
+            Refusal::LongRoll { h } => write!(f, "h is {h}, and a roll has at most {SYMBOLS} symbols"),
+            Refusal::LongPiece { length, missing, .. } => {
+                write!(f, "a piece of {length} bytes reaches past the roll's last: {missing} had not come in")
+            }
             Refusal::BadCodeword { symbol } => write!(
                 f,
                 "the codeword at symbol {symbol} is bad: unfinished at the roll's end, or of a rank not in the table"
             ),
             Refusal::NotOneCodeword => write!(f, "the symbols are not exactly one codeword of a rank in the table"),
+            Refusal::EndsTooSoon { symbol, missing } => {
+                write!(f, "the roll ends too soon, at symbol {symbol}: {missing} bytes have not come in")
+            }
             Refusal::BadCharacterCount { read, n } => {
                 write!(f, "n is {n}, and the characters read are {read}")
             }
@@ -299,6 +337,7 @@ impl fmt::Display for Refusal {
             Refusal::ShortOutput { needed } => {
                 write!(f, "the output is too short: the length of the range is {needed}")
             }
+            Refusal::ShortHits { needed } => write!(f, "the hit slice is too short: entries needed are {needed}"),
             Refusal::Other { value, .. } => write!(f, "not known to this crate; its value is {value}"),
         }
     }
@@ -364,7 +403,7 @@ mod tests {
                 let said = if [1, 8, 10, 11].contains(&number) { 0 } else { value };
                 assert_eq!(refusal.value(), said, "{refusal}");
                 assert!(refusal.to_string().starts_with(&format!("refusal {number}: ")));
-                assert_eq!(matches!(refusal, Refusal::Other { .. }), number > 13 || number == 3 && value > 2);
+                assert_eq!(matches!(refusal, Refusal::Other { .. }), number > 14 || number == 3 && value > 2);
             }
         }
     }

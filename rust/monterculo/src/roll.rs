@@ -79,11 +79,11 @@ impl Roll {
         Roll { table, n, h }
     }
 
-    fn record(&self) -> sys::Roll {
+    pub(crate) fn record(&self) -> sys::Roll {
         sys::Roll { table: self.table.0, n: self.n, h: self.h }
     }
 
-    fn given(&self) -> Given<'_> {
+    pub(crate) fn given(&self) -> Given<'_> {
         Given { table: Some(&self.table.0), n: self.n, ..Given::default() }
     }
 

@@ -16,7 +16,7 @@
 //!
 //! All of this holds of every call below: slices are taken apart by `as_ptr`, `as_mut_ptr` and `len` alone.
 
-use crate::{LONGEST, PLACES};
+use crate::{LONGEST, PATTERN, PLACES};
 
 /// A table: the symbols below s are stoppers, the first sigma places hold the characters in rank order.
 #[repr(C)]
@@ -58,7 +58,7 @@ pub struct Codeword {
 #[repr(C)]
 #[derive(Clone, Copy, Debug, PartialEq, Eq, Hash)]
 pub struct Answer {
-    /// 0 for accepted work, 1 to 13 for a refusal.
+    /// 0 for accepted work, 1 to 14 for a refusal.
     pub number: u32,
     /// The refusal's value, or what is answered; 0 where there is nothing to answer.
     pub value: u64,
@@ -94,6 +94,78 @@ pub struct Rolled {
     pub roll: Roll,
 }
 
+/// How far the reading of a roll that comes in pieces has come.
+#[repr(C)]
+#[derive(Clone, Copy, Debug, PartialEq, Eq, Hash)]
+pub struct Progress {
+    /// Symbols read.
+    pub read: u32,
+    /// Codewords read.
+    pub count: u32,
+    /// The first symbol of the codeword that is open or bad; the symbols read where none is.
+    pub first: u32,
+    /// 1 if the open codeword has reached sigma.
+    pub past: u32,
+    /// The place of its next symbol, counted as far as 2.
+    pub place: u32,
+    /// How many codewords are no longer than what was read of it.
+    pub shorter: u32,
+    /// How many rows of so many continuers there are.
+    pub rows: u32,
+    /// What its continuers spell.
+    pub value: u32,
+    /// 1 if a bad codeword was met.
+    pub bad: u32,
+    /// 1 if an unused symbol of the last byte was not 0.
+    pub stained: u32,
+}
+
+/// A roll that comes in pieces, and how far it was read.
+#[repr(C)]
+#[derive(Clone, Copy, Debug, PartialEq, Eq, Hash)]
+pub struct Judge {
+    /// Its record.
+    pub roll: Roll,
+    /// How far it was read.
+    pub progress: Progress,
+}
+
+/// A search in a roll that comes in pieces.
+#[repr(C)]
+#[derive(Clone, Copy, Debug, PartialEq, Eq, Hash)]
+pub struct Searcher {
+    /// The roll, and how far it was read.
+    pub judge: Judge,
+    /// The characters past the length are 0 where the archive answers them, and not looked at where it takes them.
+    pub pattern: [u8; PATTERN],
+    /// How many characters the pattern has.
+    pub length: u32,
+    /// Bit j: the first j + 1 characters of the pattern, which are not all of them, are the last ones read.
+    pub ends: u64,
+}
+
+/// What starting a search answers.
+#[repr(C)]
+#[derive(Clone, Copy, Debug, PartialEq, Eq, Hash)]
+pub struct Started {
+    /// Its value is 0 if accepted.
+    pub answer: Answer,
+    /// Beside a refusal: that of the roll with an empty pattern.
+    pub searcher: Searcher,
+}
+
+/// What feeding a piece answers.
+#[repr(C)]
+#[derive(Clone, Copy, Debug, PartialEq, Eq, Hash)]
+pub struct Fed {
+    /// Its value is the number of hits if accepted.
+    pub answer: Answer,
+    /// How many hits were written, beside 6 too; beside every other refusal 0.
+    pub hits: usize,
+    /// Beside a refusal: the one that came in, but where 6 is met in this piece.
+    pub searcher: Searcher,
+}
+
 #[rustfmt::skip]
 extern "C" {
     fn monterculo_count(text: *const u8, text_len: usize, counts: *mut u32, counts_len: usize) -> Answer;
@@ -107,6 +179,9 @@ extern "C" {
     fn monterculo_read_one(roll: Roll, buf: *const u8, buf_len: usize, dir: *const u32, dir_len: usize, place: usize) -> Answer;
     fn monterculo_search(roll: Roll, buf: *const u8, buf_len: usize, pattern: *const u8, pattern_len: usize, hits: *mut u32, hits_len: usize) -> Answer;
     fn monterculo_edit(roll: Roll, buf: *mut u8, buf_len: usize, dir: *mut u32, dir_len: usize, start: usize, end: usize, text: *const u8, text_len: usize) -> Rolled;
+    fn monterculo_start(roll: Roll, pattern: *const u8, pattern_len: usize) -> Started;
+    fn monterculo_feed(searcher: Searcher, piece: *const u8, piece_len: usize, slice: *mut u32, slice_len: usize) -> Fed;
+    fn monterculo_finish(searcher: Searcher) -> Answer;
 }
 
 /// Writes each byte's count into the 256 counts. Refused: 2, 4.
@@ -198,4 +273,26 @@ pub fn edit(roll: Roll, buf: &mut [u8], directory: &mut [u32], start: usize, end
             text.len(),
         )
     }
+}
+
+/// Starts a search in a roll that comes in pieces. Refused: 1, 5, 11.
+#[inline]
+pub fn start(roll: Roll, pattern: &[u8]) -> Started {
+    // SAFETY: as above; pattern is read.
+    unsafe { monterculo_start(roll, pattern.as_ptr(), pattern.len()) }
+}
+
+/// Reads a piece and writes the hits that end in it. Refused: 1, 5, 11 of the searcher; then an earlier 6, 5, 14, and a
+/// 6 met in the piece, which writes the hits before it.
+#[inline]
+pub fn feed(searcher: Searcher, piece: &[u8], hits: &mut [u32]) -> Fed {
+    // SAFETY: as above; piece is read, hits are written. Numbers of the searcher out of their bounds are refused.
+    unsafe { monterculo_feed(searcher, piece.as_ptr(), piece.len(), hits.as_mut_ptr(), hits.len()) }
+}
+
+/// Says whether all has come in and is sound. Refused: 1, 5, 11 of the searcher; then 6, 7, 8.
+#[inline]
+pub fn finish(searcher: Searcher) -> Answer {
+    // SAFETY: nothing is lent; numbers of the searcher out of their bounds are refused.
+    unsafe { monterculo_finish(searcher) }
 }

@@ -3,7 +3,8 @@
 use std::ops::Bound;
 
 use monterculo::{
-    bytes_for, count, entries_for, sys, Codeword, Line, OwnedRoll, Refusal, Roll, Table, TableFault, Width,
+    bytes_for, count, entries_for, hits_for, sys, Codeword, Line, OwnedRoll, Refusal, Roll, Searcher, Table,
+    TableFault, Width,
 };
 
 /// SplitMix64, from a fixed seed.
@@ -87,7 +88,7 @@ impl Garbage {
 
 /// How often each number was answered, 0 for accepted.
 #[derive(Default)]
-struct Tally([u32; 14]);
+struct Tally([u32; 15]);
 
 impl Tally {
     /// What was accepted. The words of a refusal are written, and none is unknown.
@@ -148,6 +149,51 @@ fn lent(garbage: &mut Garbage, tally: &mut Tally) {
     tally.told(roll.edit(&mut buf, &mut directory, range, &garbage.bytes(6, 7)));
 }
 
+/// A roll in pieces: some eight calls, and what the archive makes of a searcher that nothing made.
+fn pieces(garbage: &mut Garbage, tally: &mut Tally) {
+    let mut buf = garbage.bytes(24, 256);
+    let roll = garbage.roll(&mut buf);
+    if let Some(mut searcher) = tally.told(Searcher::new(&roll, &garbage.bytes(66, 4))) {
+        let mut fed = 0;
+        for _ in 0..4 {
+            let piece = &buf[fed..fed + garbage.below((buf.len() - fed + 1) as u64) as usize];
+            let missing = searcher.missing();
+            let answer = match garbage.below(3) {
+                0 => tally.told(searcher.find(piece).map_err(Refusal::from)).is_some(),
+                _ => tally.told(searcher.feed(piece, &mut garbage.numbers(99)).map_err(Refusal::from)).is_some(),
+            };
+            if answer {
+                fed += piece.len();
+                assert_eq!(searcher.missing() + piece.len(), missing);
+            }
+            tally.told(searcher.finish());
+        }
+        assert_eq!((searcher.roll(), searcher.pattern().is_empty()), (roll, false));
+    }
+    hits_for(garbage.next() as u8, garbage.place());
+    // As it stands in the archive: any numbers, mostly small ones.
+    let mut raw = sys::start(sys::pack(TABLE, &[0; 9], &mut [0; 9]).roll, &[0]).searcher;
+    let progress = &mut raw.judge.progress;
+    let sys::Progress { read, count, first, past, place, shorter, rows, value, bad, stained } = progress;
+    for number in [read, count, first, past, place, shorter, rows, value, bad, stained] {
+        if garbage.below(4) == 0 {
+            *number = garbage.number() as u32;
+        }
+    }
+    (raw.length, raw.ends) = (garbage.below(4) as u32, garbage.number());
+    sys::feed(raw, &garbage.bytes(3, 256), &mut [0; 12]);
+    sys::finish(raw);
+}
+
+/// Three characters, of one symbol, two and two.
+const TABLE: sys::Table = sys::Table { k: 2, s: 1, sigma: 3, places: PLACES };
+const PLACES: [u8; 256] = {
+    let mut places = [0; 256];
+    places[1] = 1;
+    places[2] = 2;
+    places
+};
+
 /// The owned roll: some ten calls, and what is accepted leaves it sound.
 fn owned(garbage: &mut Garbage, tally: &mut Tally) {
     let mut buf = garbage.bytes(24, 256);
@@ -185,6 +231,7 @@ fn every_call_comes_back() {
     for _ in 0..12_000 {
         code(&mut garbage, &mut tally);
         lent(&mut garbage, &mut tally);
+        pieces(&mut garbage, &mut tally);
         owned(&mut garbage, &mut tally);
     }
     // No number is left out, so the garbage comes far enough.

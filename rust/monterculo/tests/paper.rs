@@ -3,7 +3,7 @@
 use std::collections::HashSet;
 use std::error::Error;
 
-use monterculo::{bytes_for, count, entries_for, Codeword, Refusal, Roll, Table, TableFault};
+use monterculo::{bytes_for, count, entries_for, Codeword, Refusal, Roll, Searcher, Table, TableFault};
 
 /// A text packed with its best table, in a buffer of just its size.
 fn packed(k: u8, text: &[u8]) -> (Roll, Vec<u8>) {
@@ -224,6 +224,8 @@ fn each_refusal() {
     assert_eq!(refused(roll.search(&buf, b"", &mut [0; 4])), (11, 0));
     assert_eq!(refused(roll.make_directory(&buf, &mut [])), (12, 1));
     assert_eq!(refused(roll.unpack(&buf, 2..7, &mut [0; 4])), (13, 5));
+    let mut searcher = Searcher::new(&roll, b"abra").unwrap();
+    assert_eq!(refused(searcher.feed(&buf, &mut [0; 15]).map_err(Refusal::from)), (14, 16));
 }
 
 #[test]
@@ -290,6 +292,14 @@ fn refusals_by_name() {
     let no_place = roll.read_one(&buf, &[0], 11).map(|_| ());
     let search = |pattern: &[u8]| roll.search(&buf, pattern, &mut []).map(|_| ());
     let edit = |directory: &mut [u32]| roll.clone().edit(&mut buf.clone(), directory, 4..5, b"d");
+    let start = |h| Searcher::new(&with(11, h), b"abra");
+    let fed =
+        |h, piece: &[u8], entries| start(h)?.feed(piece, &mut vec![0; entries]).map(|_| ()).map_err(Refusal::from);
+    let finished = |piece: &[u8]| {
+        let mut searcher = start(13)?;
+        searcher.find(piece)?;
+        searcher.finish()
+    };
 
     #[rustfmt::skip]
     let cases = [
@@ -313,6 +323,14 @@ fn refusals_by_name() {
             "4: a text of 70000 characters is too long to be counted: at most 65536 can be"),
         (with(11, 17).check(&buf), Refusal::BadSymbolCount { h: 17 },
             "5: h is 17, more symbols than the buffer has room for"),
+        (start(65_537).map(|_| ()), Refusal::LongRoll { h: 65_537 },
+            "5: h is 65537, and a roll has at most 65536 symbols"),
+        (fed(12, &buf, 16), Refusal::LongPiece { length: 4, missing: 3, h: 12 },
+            "5: a piece of 4 bytes reaches past the roll's last: 3 had not come in"),
+        (fed(8, &buf[..2], 8), Refusal::BadCodeword { symbol: 7 },
+            "6: the codeword at symbol 7 is bad: unfinished at the roll's end, or of a rank not in the table"),
+        (finished(&buf[..2]), Refusal::EndsTooSoon { symbol: 7, missing: 2 },
+            "6: the roll ends too soon, at symbol 7: 2 bytes have not come in"),
         (with(11, 8).check(&buf), Refusal::BadCodeword { symbol: 7 },
             "6: the codeword at symbol 7 is bad: unfinished at the roll's end, or of a rank not in the table"),
         (table.character_of(&Codeword::new(&[3, 2])).map(|_| ()), Refusal::NotOneCodeword,
@@ -339,6 +357,8 @@ fn refusals_by_name() {
             "12: the directory is too short: entries needed are 1"),
         (range(2..7), Refusal::ShortOutput { needed: 5 },
             "13: the output is too short: the length of the range is 5"),
+        (fed(13, &buf, 15), Refusal::ShortHits { needed: 16 },
+            "14: the hit slice is too short: entries needed are 16"),
     ];
     let mut numbers = HashSet::new();
     for (answer, refusal, words) in cases {
@@ -348,7 +368,7 @@ fn refusals_by_name() {
         assert_eq!(format!("{:?}", refusal), refusal.to_string());
         numbers.insert(refusal.number());
     }
-    assert_eq!(numbers, (1..=13).collect());
+    assert_eq!(numbers, (1..=14).collect());
 
     fn answer() -> Result<(), Box<dyn Error + Send + Sync>> {
         count(b"", &mut [])?;

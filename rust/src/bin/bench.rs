@@ -23,6 +23,12 @@ const PLACES: usize = 2_000;
 /// What lies in a lent buffer before a call that writes it.
 const FILL: u8 = 0xAA;
 const MARK: f64 = 1.5;
+/// Characters of the patterns searched for.
+const PATTERNS: [usize; 4] = [4, 8, 16, 32];
+/// Bytes of the pieces that a roll comes in, and how they are shown.
+const PIECES: [(usize, &str); 2] = [(64, "64"), (1_024, "1,024")];
+/// A roll searched as it comes in, beside the whole search of the archive.
+const MARK_IN_PIECES: f64 = 1.0;
 
 // The texts.
 
@@ -244,6 +250,11 @@ impl Case {
         Case { name: format!("{}, k {}", name, k), text, roll, buf, directory }
     }
 
+    /// A run of its text, at two thirds of it.
+    fn pattern(&self, length: usize) -> &[u8] {
+        &self.text[self.text.len() * 2 / 3..][..length]
+    }
+
     fn symbols(&self, text: &[u8]) -> usize {
         let list = reference::listing(self.roll.table.k, self.roll.table.s);
         let rank = |&byte: &u8| self.roll.table.places.iter().position(|&place| place == byte);
@@ -408,8 +419,8 @@ fn measure(case: &Case) -> Vec<Row> {
     rows.push(Row::new("read one", times.map(|time| time / PLACES as f64)));
 
     let mut after = Vec::new();
-    for length in [4, 8, 16, 32] {
-        let pattern = &text[text.len() * 2 / 3..][..length];
+    for length in PATTERNS {
+        let pattern = case.pattern(length);
         let mut ours = vec![9; text.len()];
         let (mut theirs, mut tuned, mut unpacked) = (ours.clone(), ours.clone(), ours.clone());
         // The checks are measured once more among the searches they are taken from.
@@ -480,6 +491,53 @@ fn measure(case: &Case) -> Vec<Row> {
     rows
 }
 
+/// Starts a search, feeds it the roll's bytes in pieces of this size, and finishes: the finishing's number and how many
+/// hits there are, one behind the other.
+fn fed(record: sys::Roll, bytes: &[u8], pattern: &[u8], size: usize, hits: &mut [u32]) -> (u32, usize) {
+    let mut searcher = sys::start(record, pattern).searcher;
+    let mut total = 0;
+    for piece in bytes.chunks(size) {
+        let fed = sys::feed(searcher, piece, &mut hits[total..]);
+        total += fed.hits;
+        searcher = fed.searcher;
+    }
+    (sys::finish(searcher).number, total)
+}
+
+/// A pattern's whole search by the archive, and the same in pieces of each size.
+struct InPieces {
+    length: usize,
+    whole: f64,
+    fed: [f64; PIECES.len()],
+}
+
+fn measure_in_pieces(case: &Case) -> Vec<InPieces> {
+    let (record, k) = (roll_of(&case.roll), usize::from(case.roll.table.k));
+    let bytes = &case.buf[..(case.roll.h as usize * k + 7) / 8];
+    let mut rows = Vec::new();
+    for length in PATTERNS {
+        let pattern = case.pattern(length);
+        // No piece has more hits than symbols.
+        let mut whole = vec![9; case.text.len() + PIECES[1].0 * 8 / k];
+        let (mut small, mut great) = (whole.clone(), whole.clone());
+        let feed = |size: usize, hits: &mut [u32]| {
+            let (time, (number, total)) = timed(|| fed(record, bytes, pattern, size, hits));
+            (time, (number, total, sum_entries(&hits[..total])))
+        };
+        let [whole, small, great] = medians([
+            &mut || {
+                let (time, answer) = timed(|| sys::search(record, bytes, pattern, &mut whole));
+                let total = answer.value as usize;
+                (time, (answer.number, total, sum_entries(&whole[..total])))
+            },
+            &mut || feed(PIECES[0].0, &mut small),
+            &mut || feed(PIECES[1].0, &mut great),
+        ]);
+        rows.push(InPieces { length, whole, fed: [small, great] });
+    }
+    rows
+}
+
 /// Name, range and run of each edit measured.
 fn edits(case: &Case) -> Vec<(&'static str, usize, usize, Vec<u8>)> {
     let (text, table) = (&case.text, &case.roll.table);
@@ -527,6 +585,22 @@ fn table_of(case: &Case, rows: &[Row]) -> String {
             row.tuned.map_or(String::new(), |tuned| shown(row.archive / tuned)),
             time(row.unpacked)
         );
+    }
+    lines
+}
+
+fn table_in_pieces(rows: &[InPieces]) -> String {
+    let mut lines = String::from("| as it comes in | archive µs | whole search µs | ratio |\n|---|--:|--:|--:|\n");
+    for (number, (_, size)) in PIECES.iter().enumerate() {
+        for InPieces { length, whole, fed } in rows {
+            let ratio = fed[number] / whole;
+            let bold = if ratio > MARK_IN_PIECES { "**" } else { "" };
+            let _ = writeln!(
+                lines,
+                "| search for {} characters, fed in pieces of {} bytes, finishing included | {:.1} | {:.1} | {}{:.2}{} |",
+                length, size, fed[number], whole, bold, ratio, bold
+            );
+        }
     }
     lines
 }
@@ -647,13 +721,15 @@ fn main() {
          a directory were not cleared but filled with other values before each call, and each edit had a fresh copy\n\
          of buffer and directory; neither is timed. A hit list keeps the hits of the call before. Reading one is the\n\
          mean over {} places. Less the check: the median of the search less that of the check, both measured in turn.\n\
-         Unpacked text: its plain search. Bold: over {}.\n",
-        REPETITIONS, WARM_UP, PLACES, MARK
+         Unpacked text: its plain search. Bold: over {}. As it comes in: started, fed and finished, in turn with the\n\
+         archive's whole search of the same roll, its check included; bold: over {:.1}.\n",
+        REPETITIONS, WARM_UP, PLACES, MARK, MARK_IN_PIECES
     );
     let mut rows = Vec::new();
     for case in &cases {
         let measured = measure(case);
         println!("{}", table_of(case, &measured));
+        println!("{}", table_in_pieces(&measure_in_pieces(case)));
         rows.push(measured);
     }
     if let Some(path) = std::env::args().nth(1) {

@@ -1,5 +1,7 @@
 //! What is made wrong with a sound case: none, one or several faults.
 
+use monterculo_reference::reference::PATTERN;
+
 use crate::rng::Rng;
 
 #[derive(Clone, Copy, PartialEq)]
@@ -90,6 +92,13 @@ pub fn wrong_entry(rng: &mut Rng, entry: u32, h: u32) -> u32 {
     } else {
         rng.pick(&over)
     }
+}
+
+/// A pattern that refusal 11 names, from one that it does not.
+pub fn bad_pattern(rng: &mut Rng, pattern: &[u8]) -> Vec<u8> {
+    let any = rng.between(PATTERN + 1, 400);
+    let length = rng.pick(&[0, 0, PATTERN + 1, PATTERN + 1, PATTERN + 2, 256 + pattern.len(), any]);
+    pattern.iter().copied().cycle().take(length).collect()
 }
 
 /// The length of a counts slice, wrong one time in six.

@@ -15,7 +15,10 @@ use crate::operation::{make, Library, Listed};
 
 #[cfg(test)]
 mod by_bytes;
+mod coming;
 mod faults;
+#[cfg(test)]
+mod in_pieces;
 mod lent;
 mod long_rolls;
 mod operation;

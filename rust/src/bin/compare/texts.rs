@@ -1,7 +1,7 @@
-//! What texts and rolls are made of: ranks, foreign characters, codewords that are none.
+//! What texts and rolls are made of: ranks, foreign characters, codewords that are none; and what is looked for in them.
 
 use monterculo::sys::Table;
-use monterculo_reference::reference::codeword_by_rule;
+use monterculo_reference::reference::{codeword_by_rule, listing, PATTERN};
 
 use crate::rng::Rng;
 use crate::tables::characters;
@@ -82,4 +82,59 @@ pub fn continuers(rng: &mut Rng, table: &Table, length: usize) -> Vec<u8> {
             _ => table.s + rng.below(c) as u8,
         })
         .collect()
+}
+
+/// A piece of the text of 1 to 64 characters; the text is not empty.
+fn piece(rng: &mut Rng, text: &[u8]) -> Vec<u8> {
+    let longest = rng.pick(&[1, 2, 3, 8, PATTERN, PATTERN]).min(text.len());
+    let any = rng.between(1, longest);
+    let length = rng.pick(&[any, longest]);
+    let last = text.len() - length;
+    let inside = rng.between(0, last);
+    let start = rng.pick(&[inside, inside, inside, 0, last]);
+    text[start..start + length].to_vec()
+}
+
+/// A pattern of 1 to 64 characters, mostly one that stands in the text or nearly does.
+pub fn pattern(rng: &mut Rng, table: &Table, text: &[u8]) -> Vec<u8> {
+    let characters = characters(table);
+    if text.is_empty() || characters.is_empty() {
+        let length = rng.between(1, PATTERN);
+        return rng.bytes(length);
+    }
+    let mut pattern = piece(rng, text);
+    let length = pattern.len();
+    let any = rng.below(length);
+    match rng.below(16) {
+        0 => pattern = text[..text.len().min(PATTERN)].to_vec(),
+        // The whole text and more of the same.
+        1 => pattern = text.iter().copied().cycle().take((text.len() + rng.between(1, 3)).min(PATTERN)).collect(),
+        2 | 3 => pattern = vec![rng.pick(text); rng.between(1, 6)],
+        4 => {
+            let absent: Vec<u8> = (0..=255).filter(|byte| !characters.contains(byte)).collect();
+            if !absent.is_empty() {
+                let place = rng.pick(&[0, length - 1, any]);
+                pattern[place] = rng.pick(&absent);
+            }
+        }
+        // The first codeword cut to its end, so that the symbols stand there and the character does not.
+        5..=7 => {
+            let list = listing(table.k, table.s);
+            let rank = characters.iter().position(|&character| character == pattern[0]);
+            let codeword = &list.codewords[rank.unwrap_or(0)];
+            let rank = list.rank(&codeword[rng.below(codeword.len())..]).unwrap_or(0);
+            pattern[0] = table.places[rank];
+        }
+        8 => {
+            let place = rng.pick(&[0, length - 1, length - 1, any]);
+            pattern[place] = rng.pick(characters);
+        }
+        9 => pattern.fill_with(|| rng.pick(characters)),
+        10 => {
+            let pair = [rng.pick(text), rng.pick(text)];
+            pattern = pair.iter().copied().cycle().take(rng.between(2, 7)).collect();
+        }
+        _ => {}
+    }
+    pattern
 }

@@ -723,7 +723,7 @@ mod tests {
 
     #[test]
     fn two_refusals_that_stand_side_by_side_come_together() {
-        let (_, reached) = compare_calls(&operations::all(), Library::Reference, 4_000, 3).unwrap();
+        let (_, reached) = compare_calls(&operations::all(), Library::Reference, 6_000, 3).unwrap();
         for corner in [
             "edits refused 8 with a wrong entry too",
             "edits refused 9 with a bad range too",

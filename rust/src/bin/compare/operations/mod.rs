@@ -1,4 +1,4 @@
-//! The operations, in the paper's order.
+//! The operations, in the paper's order; a roll that comes in pieces is one more, from start to finish.
 
 use crate::operation::Listed;
 
@@ -8,10 +8,14 @@ mod choose;
 mod codeword_of;
 mod count;
 mod edit;
+mod feed;
+mod finish;
 mod make_directory;
 mod pack;
+mod pieces;
 mod read_one;
 mod search;
+mod start;
 mod unpack;
 
 pub fn all() -> Vec<Listed> {
@@ -27,5 +31,9 @@ pub fn all() -> Vec<Listed> {
         Listed::of::<read_one::ReadOne>(),
         Listed::of::<search::Search>(),
         Listed::of::<edit::Edit>(),
+        Listed::of::<start::Start>(),
+        Listed::of::<feed::Feed>(),
+        Listed::of::<finish::Finish>(),
+        Listed::of::<pieces::Pieces>(),
     ]
 }

@@ -1,10 +1,10 @@
 //! Searching a roll for a pattern.
 
-use monterculo::sys::{self, Answer, Roll, Table};
+use monterculo::sys::{self, Answer, Roll};
 use monterculo_reference::library::told;
 use monterculo_reference::reference::{self, listing, symbols_of, LONGEST, PATTERN};
 
-use crate::faults::{faults, Fault};
+use crate::faults::{bad_pattern, faults, Fault};
 use crate::lent::Lent;
 use crate::operation::{Cases, Corners, Operation};
 #[cfg(test)]
@@ -14,6 +14,7 @@ use crate::rolls::roll_of;
 #[cfg(test)]
 use crate::rolls::starts;
 use crate::tables::{characters, table_to_search};
+use crate::texts::pattern;
 
 #[derive(Clone, Debug, PartialEq)]
 pub struct Search {
@@ -176,61 +177,6 @@ impl Operation for Search {
     }
 }
 
-/// A piece of the text of 1 to 64 characters; the text is not empty.
-fn piece(rng: &mut Rng, text: &[u8]) -> Vec<u8> {
-    let longest = rng.pick(&[1, 2, 3, 8, PATTERN, PATTERN]).min(text.len());
-    let any = rng.between(1, longest);
-    let length = rng.pick(&[any, longest]);
-    let last = text.len() - length;
-    let inside = rng.between(0, last);
-    let start = rng.pick(&[inside, inside, inside, 0, last]);
-    text[start..start + length].to_vec()
-}
-
-/// A pattern of 1 to 64 characters, mostly one that stands in the text or nearly does.
-fn pattern(rng: &mut Rng, table: &Table, text: &[u8]) -> Vec<u8> {
-    let characters = &table.places[..usize::from(table.sigma)];
-    if text.is_empty() || characters.is_empty() {
-        let length = rng.between(1, PATTERN);
-        return rng.bytes(length);
-    }
-    let mut pattern = piece(rng, text);
-    let length = pattern.len();
-    let any = rng.below(length);
-    match rng.below(16) {
-        0 => pattern = text[..text.len().min(PATTERN)].to_vec(),
-        // The whole text and more of the same.
-        1 => pattern = text.iter().copied().cycle().take((text.len() + rng.between(1, 3)).min(PATTERN)).collect(),
-        2 | 3 => pattern = vec![rng.pick(text); rng.between(1, 6)],
-        4 => {
-            let absent: Vec<u8> = (0..=255).filter(|byte| !characters.contains(byte)).collect();
-            if !absent.is_empty() {
-                let place = rng.pick(&[0, length - 1, any]);
-                pattern[place] = rng.pick(&absent);
-            }
-        }
-        // The first codeword cut to its end, so that the symbols stand there and the character does not.
-        5..=7 => {
-            let list = listing(table.k, table.s);
-            let rank = characters.iter().position(|&character| character == pattern[0]);
-            let codeword = &list.codewords[rank.unwrap_or(0)];
-            let rank = list.rank(&codeword[rng.below(codeword.len())..]).unwrap_or(0);
-            pattern[0] = table.places[rank];
-        }
-        8 => {
-            let place = rng.pick(&[0, length - 1, length - 1, any]);
-            pattern[place] = rng.pick(characters);
-        }
-        9 => pattern.fill_with(|| rng.pick(characters)),
-        10 => {
-            let pair = [rng.pick(text), rng.pick(text)];
-            pattern = pair.iter().copied().cycle().take(rng.between(2, 7)).collect();
-        }
-        _ => {}
-    }
-    pattern
-}
-
 fn make(rng: &mut Rng) -> Search {
     use Fault::*;
     #[rustfmt::skip]
@@ -240,9 +186,7 @@ fn make(rng: &mut Rng) -> Search {
     let text = made.cut().0;
     let mut pattern = pattern(rng, &made.under, &text);
     if faults.contains(&Pattern) {
-        let any = rng.between(PATTERN + 1, 400);
-        let length = rng.pick(&[0, 0, PATTERN + 1, PATTERN + 1, PATTERN + 2, 256 + pattern.len(), any]);
-        pattern = pattern.iter().copied().cycle().take(length).collect();
+        pattern = bad_pattern(rng, &pattern);
     }
     let total = if pattern.is_empty() { 0 } else { text.windows(pattern.len()).filter(|&at| at == pattern).count() };
     let any = rng.between(0, total);

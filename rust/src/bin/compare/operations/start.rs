@@ -1,0 +1,155 @@
+//! Starting a search in a roll that comes in pieces.
+
+use monterculo::sys::{self, Answer, Roll, Started};
+use monterculo_reference::library::started;
+use monterculo_reference::reference::{self, LIMIT, PATTERN};
+
+use crate::faults::{bad_pattern, faults, wrong, Fault};
+use crate::lent::Lent;
+use crate::operation::{Answered, Cases, Corners, Operation};
+#[cfg(test)]
+use crate::planted::says;
+use crate::rng::Rng;
+use crate::tables::{characters, good_table, spoil_table};
+use crate::texts::pattern;
+
+#[derive(Clone, Debug, PartialEq)]
+pub struct Start {
+    roll: Roll,
+    pattern: Lent<u8>,
+}
+
+impl Answered for Started {
+    fn answer(&self) -> Answer {
+        self.answer
+    }
+}
+
+impl Start {
+    fn of(&self, pattern: &[u8]) -> Started {
+        started(reference::start(&self.roll.into(), pattern))
+    }
+}
+
+impl Operation for Start {
+    const NAME: &'static str = "start";
+    const LISTED: &'static [u32] = &[0, 1, 5, 11];
+    const CASES: Cases<Self> = &[(4, make)];
+    type Answer = Started;
+
+    fn archive(&mut self) -> Started {
+        sys::start(self.roll, &self.pattern)
+    }
+
+    fn reference(&mut self) -> Started {
+        self.of(&self.pattern)
+    }
+
+    fn refused(&self, refusal: Answer) -> Started {
+        Started { answer: refusal, ..self.of(b"") }
+    }
+
+    fn corners(&self, started: &Started, met: &mut Corners) {
+        let bad_length = self.pattern.is_empty() || self.pattern.len() > PATTERN;
+        match started.answer.number {
+            0 => {
+                let foreign = self.pattern.iter().any(|byte| !characters(&self.roll.table).contains(byte));
+                met.meet(foreign, "searches started for a character not in the table");
+                met.meet(self.pattern.len() == PATTERN, "searches started for 64 characters");
+                met.meet(self.roll.h as usize == LIMIT, "searches started in 65,536 symbols");
+            }
+            1 => met.meet(self.roll.h as usize > LIMIT, "starts refused 1 with h over the limit too"),
+            5 => met.meet(bad_length, "starts refused 5 with a bad pattern too"),
+            _ => {}
+        }
+    }
+
+    #[cfg(test)]
+    const ERRORS: &'static [&'static str] = &[
+        "refuses everything",
+        "asks 5 before 1",
+        "asks 11 before 5",
+        "asks no table",
+        "knows no limit",
+        "refuses 65,536 symbols",
+        "refuses 64 characters",
+        "takes 65 characters",
+        "takes the empty pattern",
+        "refuses a foreign character",
+        "asks n",
+        "answers the length",
+        "keeps the pattern though refused",
+        "leaves out the last character",
+        "leaves something behind the pattern",
+        "clears the places past sigma",
+        "begins with no row",
+        "begins with a symbol read",
+        "begins with a beginning that ends",
+    ];
+
+    #[cfg(test)]
+    fn with_error(&mut self, error: &str) -> Started {
+        let Start { roll, pattern } = &*self;
+        let mut started = self.of(pattern);
+        let Started { answer, searcher } = &mut started;
+        let bad_length = pattern.is_empty() || pattern.len() > PATTERN;
+        let foreign = || pattern.iter().position(|byte| !characters(&roll.table).contains(byte));
+        match (error, answer.number) {
+            ("refuses everything", _) => return self.refused(says(1, 0)),
+            ("asks 5 before 1", 1) if roll.h as usize > LIMIT => *answer = says(5, roll.h as usize),
+            ("asks 11 before 5", 5) if bad_length => *answer = says(11, 0),
+            ("asks no table", 1) => *answer = says(0, 0),
+            ("knows no limit", 5) => *answer = says(0, 0),
+            ("refuses 65,536 symbols", 0) if roll.h as usize == LIMIT => return self.refused(says(5, LIMIT)),
+            ("refuses 64 characters", 0) if pattern.len() == PATTERN => return self.refused(says(11, 0)),
+            ("takes 65 characters", 11) if pattern.len() == PATTERN + 1 => return self.of(&pattern[..PATTERN]),
+            ("takes the empty pattern", 11) if pattern.is_empty() => *answer = says(0, 0),
+            ("refuses a foreign character", 0) => {
+                if let Some(place) = foreign() {
+                    return self.refused(says(3, place));
+                }
+            }
+            ("asks n", 0) if roll.n > roll.h => return self.refused(says(7, 0)),
+            ("answers the length", 0) => answer.value = pattern.len() as u64,
+            ("keeps the pattern though refused", 1 | 5 | 11) => {
+                searcher.pattern.iter_mut().zip(pattern.iter()).for_each(|(kept, &character)| *kept = character);
+            }
+            ("leaves out the last character", 0) => searcher.pattern[pattern.len() - 1] = 0,
+            ("leaves something behind the pattern", 0) if pattern.len() < PATTERN => {
+                searcher.pattern[pattern.len()] = 1
+            }
+            ("clears the places past sigma", 0) => {
+                searcher.judge.roll.table.places[usize::from(roll.table.sigma)..].fill(0);
+            }
+            ("begins with no row", _) => searcher.judge.progress.rows = 0,
+            ("begins with a symbol read", _) => searcher.judge.progress.read = 1,
+            ("begins with a beginning that ends", _) => searcher.ends = 1,
+            _ => {}
+        }
+        started
+    }
+}
+
+fn make(rng: &mut Rng) -> Start {
+    use Fault::*;
+    let faults = faults(rng, &[Table, Room, Count, Pattern]);
+    let mut table = good_table(rng);
+    let (any, few) = (rng.between(0, LIMIT), rng.below(150));
+    let text: Vec<u8> = characters(&table).iter().copied().cycle().take(few).collect();
+    let mut pattern = pattern(rng, &table, &text);
+    let mut h = rng.pick(&[any, any, 0, few, LIMIT]) as u32;
+    let mut n = rng.between(0, h as usize) as u32;
+    if faults.contains(&Pattern) {
+        pattern = bad_pattern(rng, &pattern);
+    }
+    if faults.contains(&Room) {
+        h = rng.pick(&[65_537, 65_537, 65_538, 0x8000_0000 + h, u32::MAX, 131_072]);
+    }
+    if faults.contains(&Count) {
+        n = wrong(rng, n);
+    }
+    if faults.contains(&Table) {
+        spoil_table(rng, &mut table);
+    }
+    Start { roll: Roll { table, n, h }, pattern: pattern.into() }
+}
