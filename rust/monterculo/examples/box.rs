@@ -1,10 +1,11 @@
-//! A notice box, as examples/box.c and with the same output: it packs a small members' file, finds a pan where the roll
-//! lies, reads that member's line, corrects the telephone number in it and saves the roll.
+//! A notice box, as examples/box.c and with the same output. The office packs a small members' file and sends it. The box
+//! names the members' lines while the roll is still coming in, finds a pan where the roll lies, reads that member's line,
+//! corrects the telephone number in it and saves the roll.
 
 use std::error::Error;
 use std::io::{self, Cursor, Read, Write};
 
-use monterculo::{OwnedRoll, Refusal, Roll, Table, Width};
+use monterculo::{OwnedRoll, Refusal, Roll, Searcher, Table, Width};
 
 /// Pan number, name and telephone number, a line for each member. All ten digits stand here, so all are in the table.
 const MEMBERS: &[u8] = b"pan 7 Oda 5550143\n\
@@ -13,6 +14,10 @@ const MEMBERS: &[u8] = b"pan 7 Oda 5550143\n\
                          pan 21 Tavo 5550190\n";
 /// With the word before it and the blank behind it, pan 12 is not found in pan 112 or in a pan 120.
 const PAN: &str = "pan 12 ";
+/// Each line begins so.
+const EACH: &str = "pan ";
+/// So many packed bytes come at a time. Here each border between two pieces cuts a codeword.
+const PIECE: usize = 12;
 const FOREIGN: &str = "+445550186";
 const CORRECTED: &str = "0445550186";
 
@@ -25,6 +30,34 @@ fn print_roll(roll: &OwnedRoll, out: &mut impl Write) -> io::Result<()> {
     }
     writeln!(out)?;
     out.write_all(&roll.text())
+}
+
+/// Receives the packed bytes of the roll whose record came: each piece is searched as it comes.
+fn receive(record: &Roll, sent: &[u8], out: &mut impl Write) -> Result<(), Box<dyn Error>> {
+    let mut searcher = Searcher::new(record, EACH.as_bytes())?;
+    for (number, piece) in sent.chunks(PIECE).enumerate() {
+        let at = number * PIECE;
+        let hits = searcher.find(piece)?;
+        write!(out, "bytes {}..{} come in: '{}' at", at, at + piece.len(), EACH)?;
+        for hit in &hits {
+            write!(out, " {}", hit)?;
+        }
+        if hits.is_empty() {
+            write!(out, " none")?;
+        }
+        if searcher.missing() > 0 {
+            match searcher.finish() {
+                Err(Refusal::EndsTooSoon { symbol, .. }) => {
+                    writeln!(out, "; symbol {} begins a codeword that is not finished", symbol)?;
+                }
+                answer => return Err(format!("finishing too soon is answered {:?}", answer).into()),
+            }
+        }
+    }
+    // What was named is to be believed from here on.
+    searcher.finish()?;
+    writeln!(out, "; the roll is whole and sound")?;
+    Ok(())
 }
 
 /// A checksum over what is saved (FNV-1a), as the check finds no fault that leaves the form whole.
@@ -99,6 +132,8 @@ pub fn run(out: &mut impl Write) -> Result<(), Box<dyn Error>> {
         table.sigma(),
         symbols
     )?;
+    let (record, sent, _) = roll.as_parts();
+    receive(record, sent, out)?;
     print_roll(&roll, out)?;
 
     let hits = roll.find(PAN.as_bytes())?;
