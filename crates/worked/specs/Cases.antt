@@ -120,7 +120,7 @@ banana : List ℕ
 banana = 98 ∷ 97 ∷ 110 ∷ 97 ∷ 110 ∷ 97 ∷ []
 
 -- a n b
-bananas : Table
+unfoldable pub bananas : Table
 bananas = tableOf (record { k = 4; s = 3 }) (97 ∷ 110 ∷ 98 ∷ [])
 
 cases : List Case

@@ -1,5 +1,6 @@
--- The paper's worked cases, computed (Cases, Program), and what the promises forbid on named inputs (Not, ProgramNot). Nothing rests on this crate.
+-- The paper's worked cases, computed (Cases, Program), and what the promises forbid on named inputs (Not, ProgramNot, RadioNot). Nothing rests on this crate.
 pub mod Not
 pub mod Cases
 pub mod Program
 pub mod ProgramNot
+pub mod RadioNot

@@ -18,10 +18,10 @@ use Rattle.roll.specs.declared.edit.Edited.{Edited}
 use Rattle.worked.specs.Cases.{abra, packedAbra, rolled, computed}
 
 -- an accepted outcome is no refusal
-apart : {n v : ℕ} → _≡_ {A = Outcome (Unit {0})} (accepted tt) (refused n v) → ⊥
+pub apart : {n v : ℕ} → _≡_ {A = Outcome (Unit {0})} (accepted tt) (refused n v) → ⊥
 apart e = let z : _≡_ {A = ℕ} 0 1 = cc in omega arith
 
-first-of : {x y : ℕ} {xs ys : List ℕ} → x ∷ xs ≡ y ∷ ys → x ≡ y
+pub first-of : {x y : ℕ} {xs ys : List ℕ} → x ∷ xs ≡ y ∷ ys → x ≡ y
 first-of e = ap (λ (l : List ℕ). getD l 0 0) e
 
 -- a pack that refuses everything: a fits
@@ -156,7 +156,7 @@ pub edit-not-before : {e : Edited} {rest dirAfter : List ℕ} → Editing packed
 unfolding abra packedAbra computed
 edit-not-before p = let e = first-of (p .leaves) in omega arith
 
-number-of : {n m v w : ℕ} → _≡_ {A = Outcome (Unit {0})} (refused n v) (refused m w) → n ≡ m
+pub number-of : {n m v w : ℕ} → _≡_ {A = Outcome (Unit {0})} (refused n v) (refused m w) → n ≡ m
 number-of e = cc
 
 -- 12 asked before 4: 32 times a fill 8 bytes and one entry, and one more has neither room nor an entry
