@@ -98,7 +98,8 @@ pub fn spoil_table(rng: &mut Rng, table: &mut Table) {
     match rng.below(5) {
         0 => table.k = bad_width(rng),
         1 => table.s = 0,
-        2 => {
+        // A table may be spoilt twice.
+        2 if matches!(table.k, 2 | 4) => {
             let any = rng.between(1 << table.k, 255) as u8;
             table.s = rng.pick(&[1 << table.k, (1 << table.k) + 1, 128, 255, any]);
         }
