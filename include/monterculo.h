@@ -69,7 +69,7 @@ extern "C" {
 enum monterculo_number {
     MONTERCULO_ACCEPTED = 0,
     /* k not 2 or 4; s below 1 or above 2^k - 1; sigma > 256; a character twice among the first sigma; a searcher's number
-     * that no start and no feeding leave there. Value 0. */
+     * out of its bounds. Value 0. */
     MONTERCULO_BAD_TABLE = 1,
     /* Counts slice not 256 long. Value: its length. */
     MONTERCULO_BAD_COUNTS = 2,
@@ -78,7 +78,8 @@ enum monterculo_number {
     /* The packed result exceeds the room, or a text to be counted is over 65,536 characters. Value: number of the first
      * character whose codeword does not fit (for an edit, in the edited text); counting: 65,536. */
     MONTERCULO_NO_ROOM = 4,
-    /* h exceeds the room, or a piece reaches past the byte that holds symbol h - 1. Value: h. */
+    /* h exceeds the room, or where there is no buffer 65,536; or a piece reaches past the byte that holds symbol h - 1.
+     * Value: h. */
     MONTERCULO_BAD_SYMBOL_COUNT = 5,
     /* Reading meets a codeword unfinished at h, or of rank sigma or more. Value: its first symbol's number. */
     MONTERCULO_BAD_CODEWORD = 6,
@@ -164,7 +165,7 @@ struct monterculo_rolled {
 };
 
 /* How far a roll that comes in was read: symbols and codewords; the first symbol of the codeword that is open, or of the
- * bad one; the reading state of the open one; 1 where a codeword was bad; 1 where an unused symbol was not 0. */
+ * bad one, or of the next where none is; the reading state of the open one; 1 where a codeword was bad; 1 where an unused symbol was not 0. */
 struct monterculo_progress {
     uint32_t read, count, first, past, place, shorter, rows, value, bad, stained;
 };
@@ -271,10 +272,11 @@ struct monterculo_rolled monterculo_edit(struct monterculo_roll roll, uint8_t *b
                                          size_t text_len);
 
 /* A roll searched while it still comes in. Its record is known beforehand; its packed bytes come in pieces of any size,
- * empty ones too, and however they are cut, the hits are the same and so is the searcher at the end. Nothing is kept of a
- * piece: a box that wants the roll keeps its bytes itself. */
+ * empty ones too, and however they are cut, where none is refused 5 or 14 the hits are the same and so is the searcher at
+ * the end. Nothing is kept of a piece: a box that wants the roll keeps its bytes itself. */
 
-/* The searcher of a roll and a pattern of 1 to 64 characters, before the first piece. It does not look at n.
+/* The searcher of a roll and a pattern of 1 to 64 characters, before the first piece. It does not look at n. A pattern
+ * with a character that is not in the table has no hits.
  * Refused: 1 (0), 5 (h; h over 65,536), 11 (0); the searcher is then that of the roll with an empty pattern, which feed
  * and finish refuse in their turn. */
 struct monterculo_started monterculo_start(struct monterculo_roll roll, const uint8_t *pattern, size_t pattern_len);
@@ -295,7 +297,8 @@ struct monterculo_fed monterculo_feed(struct monterculo_searcher searcher, const
  * the unfinished codeword, or the symbols read if none is open), 7 (codewords read), 8 (0). */
 struct monterculo_answer monterculo_finish(struct monterculo_searcher searcher);
 
-/* The same two for a caller that keeps one searcher in its place and lends it. */
+/* Start and feed for a caller that keeps one searcher in its place and lends it: the searcher that is answered is stored
+ * there, with a refusal too. */
 static inline struct monterculo_answer monterculo_start_into(struct monterculo_searcher *searcher,
                                                              struct monterculo_roll roll, const uint8_t *pattern,
                                                              size_t pattern_len)

@@ -2,9 +2,9 @@
 use sound::records::Roll;
 use texts::pattern::MOST_PATTERN;
 
-// How far a roll was read: so many symbols and codewords; the first symbol of the codeword that is open, or of the bad one; the
-// reading state of the open one (a stopper::reading::Reader, past being 1 or 0); 1 where a codeword was bad; 1 where an unused
-// symbol was not 0.
+// How far a roll was read: so many symbols and codewords; the first symbol of the codeword that is open, or of the bad one, or
+// of the next where none is; the reading state of the open one (a stopper::reading::Reader, past being 1 or 0); 1 where a
+// codeword was bad; 1 where an unused symbol was not 0.
 #[repr(C)]
 pub struct Progress {
     pub read: u32,

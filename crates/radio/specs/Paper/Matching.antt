@@ -7,7 +7,7 @@ use lib.Dec.{leb, eqb}
 use lib.ListN.{length}
 
 -- one character more, the whole pattern among them: the beginning of one character ends there if it is that character; one that is longer if it is its last character and
--- the beginning without it ended just before. `before` says this of the empty beginning, which ends everywhere
+-- the beginning without it ended just before. `before` says whether that one did: for the first character it is the empty one, which ends everywhere
 unfoldable pub grown : ℕ → ℕ → List ℕ → ℕ → ℕ
 grown before bits [] character = 0
 grown before bits (x ∷ pattern) character = cond (eqb x character) before 0 + 2 * grown (bits % 2) (bits / 2) pattern character

@@ -51,7 +51,7 @@ pub record Starting (r : Roll) (pattern : List ℕ) (s : Started) : Type 0 where
 abbrev pub patternIn : Searcher → List ℕ
 patternIn s = take (s .length) (s .pattern)
 
--- a beginning that ended has no more characters than were read
+-- a beginning that ended has no more characters than were read, and is not the whole pattern
 unfoldable pub inBounds : Searcher → Bool
 inBounds s = judgeBounds (s .judge) && (ltb (s .ends) (2 ^ s .judge .progress .count) && ltb (s .ends) (wholeBit (patternIn s)))
 
