@@ -58,15 +58,14 @@ fn nowhere(progress: Progress, ends: u64) -> Followed
 }
 
 // The symbols of a piece, as long as a codeword may still end well: up to symbol h, or to where one is bad whatever follows.
-fn follow(searcher: Searcher, piece: &[u8], all: usize, slice: &mut [u32]) -> Followed
-    requires { ⌜ Follows searcher (now piece) all (now slice) ⌝ }
+fn follow(k: u8, searcher: Searcher, piece: &[u8], all: usize, slice: &mut [u32]) -> Followed
+    requires { ⌜ Follows k searcher (now piece) all (now slice) ⌝ }
     ensures { λ r. ⌜ Went searcher (now (piece .entry)) (now (slice .entry)) r (now (slice .exit)) ⌝ }
 {
     let judge = searcher.judge;
     let roll = judge.roll;
     let table = roll.table;
     let code = table.code;
-    let k = code.k;
     let sigma = table.sigma as u32;
     let places = table.places;
     let h = roll.h;
@@ -138,6 +137,21 @@ fn follow(searcher: Searcher, piece: &[u8], all: usize, slice: &mut [u32]) -> Fo
     }
 }
 
+// A function for each width, so that the compiler makes a loop for each.
+fn follow_two(searcher: Searcher, piece: &[u8], all: usize, slice: &mut [u32]) -> Followed
+    requires { ⌜ Follows 2 searcher (now piece) all (now slice) ⌝ }
+    ensures { λ r. ⌜ Went searcher (now (piece .entry)) (now (slice .entry)) r (now (slice .exit)) ⌝ }
+{
+    follow(2, searcher, piece, all, slice)
+}
+
+fn follow_four(searcher: Searcher, piece: &[u8], all: usize, slice: &mut [u32]) -> Followed
+    requires { ⌜ Follows 4 searcher (now piece) all (now slice) ⌝ }
+    ensures { λ r. ⌜ Went searcher (now (piece .entry)) (now (slice .entry)) r (now (slice .exit)) ⌝ }
+{
+    follow(4, searcher, piece, all, slice)
+}
+
 pub fn feed(searcher: Searcher, piece: &[u8], slice: &mut [u32]) -> Fed
     ensures { λ r. ⌜ Feeding searcher (now (piece .entry)) (now (slice .entry)) r (now (slice .exit)) ⌝ }
 {
@@ -162,7 +176,11 @@ pub fn feed(searcher: Searcher, piece: &[u8], slice: &mut [u32]) -> Fed
     if slice.len() < all {
         return refused(searcher, 14, all as u64);
     }
-    let went = follow(searcher, piece, all, slice);
+    let went = if k == 2 {
+        follow_two(searcher, piece, all, slice)
+    } else {
+        follow_four(searcher, piece, all, slice)
+    };
     let progress = hear_run(
         code,
         table.sigma as u32,

@@ -27,12 +27,12 @@ use Rattle.radio.proofs.feed.follow.Statement.{statement}
 use Rattle.radio.proofs.feed.follow.Tie as tie
 
 abbrev Inv-loop : tie.InvT-loop
-Inv-loop piece all slice₀ code k sigma places h p left long ends₀ upto masks whole r₀ count₀ first₀ hits₀ i₀ slice ends r count first hits i =
+Inv-loop k piece all slice₀ code sigma places h p left long ends₀ upto masks whole r₀ count₀ first₀ hits₀ i₀ slice ends r count first hits i =
     (i ≤ upto) × (length slice ≡ length slice₀)
     × ((pattern : List ℕ) → Masked masks whole long pattern → Along code sigma places h p pattern ends₀ (symbolsOf (code .k) piece) slice₀ slice ends r count first hits i)
 
 abbrev μ-loop : tie.MeasureT-loop
-μ-loop piece all slice₀ code k sigma places h p left long ends₀ upto masks whole r₀ count₀ first₀ hits₀ i₀ slice ends r count first hits i = upto - i
+μ-loop k piece all slice₀ code sigma places h p left long ends₀ upto masks whole r₀ count₀ first₀ hits₀ i₀ slice ends r count first hits i = upto - i
 
 -- the way back from a place, and the searcher that came
 abbrev start : tie.After-struct-known3 Inv-loop μ-loop → tie.Start Inv-loop μ-loop
@@ -66,8 +66,12 @@ upto-is c =
     (λ w. (omega (arith, w .1, w .0 .left, r), omega (arith, w .1), inr (omega (arith, w .1))))
     (c .if3 .came)
 
+-- the row of the piece's symbols is that of the searcher's width
+row-is : (c : tie.Start Inv-loop μ-loop) → symbolsOf (c .args .k) (c .args .piece .now) ≡ row (c .args .searcher) (c .args .piece .now)
+row-is c = ap (λ (k : ℕ). symbolsOf k (c .args .piece .now)) (c .pre .width)
+
 all-is : (c : tie.Start Inv-loop μ-loop) → c .args .all ≡ length (row (c .args .searcher) (c .args .piece .now))
-all-is c = c .pre .symbols
+all-is c = c .pre .symbols ∙ ap length (row-is c)
 
 h-fits : (c : tie.Start Inv-loop μ-loop) → c .args .searcher .judge .roll .h < 2 ^ 32
 h-fits c = omega (arith, c .pre .ready .limited, limit-fits)
@@ -108,7 +112,7 @@ step-is c =
     let l = c .before .before .before in
     let s = searcher l in
     c .read-symbol .ensures
-    ∙ ap (stepped (codeIn s) (s .judge .roll .table .sigma) (l .loop .r)) (c .before .get .ensures)
+    ∙ ap (stepped (codeIn s) (s .judge .roll .table .sigma) (l .loop .r)) (c .before .get .ensures ∙ ap (λ (w : List ℕ). getD w (l .loop .i) 0) (row-is (root l)))
 
 -- a codeword ends: its rank, below σ, and its character
 abbrev turn : tie.After-known-told Inv-loop μ-loop → tie.In-loop Inv-loop μ-loop
@@ -222,7 +226,7 @@ loop-holds c =
 get-requires : tie.Need-get-requires Inv-loop μ-loop
 get-requires c κs =
     let x = root (c .before) in
-    (code-width (codeIn (x .args .searcher)) (table-code _ (x .pre .ready .table)), within c .1)
+    (rw (x .pre .width) (code-width (codeIn (x .args .searcher)) (table-code _ (x .pre .ready .table))), rw (row-is x) (within c .1))
 
 read-symbol-requires : tie.Need-read-symbol-requires Inv-loop μ-loop
 read-symbol-requires c κs =
