@@ -8,3 +8,4 @@ pub mod Operations
 pub mod Reading
 pub mod Judged
 pub mod Joined
+pub mod Kept

@@ -80,7 +80,7 @@ module _ (c : Code) (σ h : ℕ) where
 
   -- ---- by what a symbol is: one behind a bad codeword, an unused one, one of the roll
 
-  by-hears {ℓ} : (P : Progress → Type ℓ) (p : Progress) (y : ℕ) → (p .bad ≢ 0 → P p) → (p .bad ≡ 0 → h ≤ p .read → P (stainedBy p y))
+  pub by-hears {ℓ} : (P : Progress → Type ℓ) (p : Progress) (y : ℕ) → (p .bad ≢ 0 → P p) → (p .bad ≡ 0 → h ≤ p .read → P (stainedBy p y))
       → (p .bad ≡ 0 → p .read < h → P (heardAs h p (stepped c σ (readerOf p) y))) → P (hears c σ h p y)
   by-hears P p y a b d =
       elim (ℕ-discrete (p .bad) 0) [
