@@ -2,20 +2,26 @@
 use mathlib.Core.Path.{_≡_, refl, sym, ap, ap₂, _∙_}
 use mathlib.Core.Logic.{_≢_}
 use mathlib.Core.List.{List, [], _∷_, _++_, map, map-append}
-use Prim.Native.Nat.{ℕ, _+_}
+use Prim.Native.Nat.{ℕ, _+_, _<_}
 use lib.Dec.{T}
 use lib.ListN.{length, getD, length-map}
+use Rattle.ground.specs.Laws.Rows.{take-padded}
 use Rattle.stopper.specs.Paper.Table.{goodCode}
 use Rattle.stopper.specs.Laws.Table.{code-width}
 use Rattle.stopper.specs.declared.code.Code.{Code}
 use Rattle.symbols.specs.Paper.Symbols.{symbolsOf}
 use Rattle.symbols.specs.Laws.Rows.{symbols-none, symbols-append}
+use Rattle.texts.specs.Paper.Hits.{hits, mostPattern}
+use Rattle.reading.specs.Paper.Reading.{ranksRead}
+use Rattle.sound.specs.Paper.Roll.{reading, textOf}
+use Rattle.sound.specs.declared.records.Roll.{Roll}
 use Rattle.radio.specs.Paper.Judge.{hearsAll, ranksHeard, judgeAfter}
 use Rattle.radio.specs.Paper.Matching.{matchesAll, named}
-use Rattle.radio.specs.Paper.Operations.{patternIn, codeIn, charactersHeard, searcherAfter, hitsNamed}
+use Rattle.radio.specs.Paper.Operations.{searcherFor, patternIn, codeIn, charactersHeard, searcherAfter, hitsNamed}
 use Rattle.radio.specs.Laws.Judge.{ranks-append, bad-all, bad-silent, count-all}
 use Rattle.radio.specs.Laws.Matching.{matches-append, named-append}
-use Rattle.radio.specs.Laws.Judged.{judge-append}
+use Rattle.radio.specs.Laws.Named.{named-hits}
+use Rattle.radio.specs.Laws.Judged.{judge-append, judge-ranks}
 use Rattle.radio.specs.declared.records.Judge.{Judge}
 use Rattle.radio.specs.declared.records.Searcher.{Searcher}
 
@@ -86,3 +92,11 @@ module _ (s : Searcher) where
         let y : List ℕ = charactersHeard (searcherAfter s a) b in
         ap (named p (s .ends) m) characters-append ∙ named-append p (s .ends) m x y
         ∙ ap (λ (n : ℕ). named p (s .ends) m x ++ named p (matchesAll p (s .ends) x) n y) (sym (after-count a))
+
+-- ---- from the first byte on: the hits are those in the text read so far
+
+pub hits-so-far : (r : Roll) (pattern : List ℕ) → T (goodCode (r .table .code)) → 0 < length pattern → (bytes : List ℕ)
+    → hitsNamed (searcherFor r pattern) bytes ≡ hits pattern (textOf r bytes)
+unfolding hitsNamed charactersHeard textOf
+hits-so-far r pattern g some bytes =
+    rw (take-padded mostPattern pattern, judge-ranks r g bytes) (named-hits pattern (map (λ rank. getD (r .table .places) rank 0) (ranksRead (reading r bytes))) some)

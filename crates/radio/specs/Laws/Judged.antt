@@ -25,7 +25,7 @@ use Rattle.sound.specs.Paper.Roll.{readingFrom, reading, unusedOf}
 use Rattle.sound.specs.declared.records.Roll.{Roll}
 use Rattle.radio.specs.Paper.Judge.{hearsAll, ranksHeard, judgeFor, judgeAfter, verdictSays}
 use Rattle.radio.specs.Laws.Judge.{hears-append}
-use Rattle.radio.specs.Laws.Reading.{begun, heard-ranks, heard-count, heard-bad, heard-whole}
+use Rattle.radio.specs.Laws.Reading.{begun, heard-ranks, heard-count, heard-bad, heard-whole, heard-part}
 use Rattle.radio.specs.declared.records.Progress.{Progress}
 use Rattle.radio.specs.declared.records.Judge.{Judge}
 
@@ -62,6 +62,11 @@ module _ (r : Roll) (g : T (goodCode (r .table .code))) (bytes : List ℕ) where
   pub judge-bad : q .bad ≢ 0 → (isBad (reading r bytes) ≡ true) × (q .first ≡ firstBad (r .h) (reading r bytes))
   unfolding readingFrom judgeAfter
   judge-bad = heard-bad (r .table .code) g (r .table .sigma) (r .h) row
+
+  -- while bytes are missing
+  pub judge-part : length row ≤ r .h → q .bad ≡ 0 → (q .read ≡ length row) × (q .first ≡ firstBad (length row) (reading r bytes))
+  unfolding readingFrom judgeAfter
+  judge-part = heard-part (r .table .code) g (r .table .sigma) (r .h) row
 
   -- with all its bytes
   module _ (all : length bytes ≡ bytesFor k (r .h)) where

@@ -124,6 +124,12 @@ module _ (s : Searcher) (e : keptSays s ≡ accepted tt) where
       let (x, y) = and-yes first second b in
       (a, ltb→lt _ _ x, ltb→lt _ _ y)
 
+  pub kept-table : T (goodTable (j .roll .table))
+  kept-table = not-no (goodTable (j .roll .table)) (within .0)
+
+  pub kept-limited : j .roll .h ≤ limit
+  kept-limited = no-lt _ _ (within .1 .0)
+
   -- its judge's numbers, one by one
   abbrev whole : Bool
   whole = eqb (j .progress .bad) 1 || eqb (j .progress .read) (j .roll .h) || eqb (j .progress .read % per (j .roll .table .code .k)) 0
@@ -166,8 +172,8 @@ module _ (s : Searcher) (e : keptSays s ≡ accepted tt) where
   kept-ready b =
       let p = and-yes (leb (s .length) mostPattern) (goodPattern (patternIn s)) (not-no (leb (s .length) mostPattern && goodPattern (patternIn s)) (within .1 .1 .0)) in
       record {
-        table = not-no (goodTable (j .roll .table)) (within .0);
-        limited = no-lt _ _ (within .1 .0);
+        table = kept-table;
+        limited = kept-limited;
         long = leb→le _ _ (p .0);
         pattern = p .1;
         steady = kept-judge .1;

@@ -11,7 +11,7 @@ use native.Mathlib.Omega.{arith}
 use borrow.Author.Tests.{le-leb, lt-leb}
 use lib.Dec.{T, leb, eqb}
 use lib.ListN.{length, take, drop, length-take, take-append-drop, drop-of-length-le}
-use lib.Seq.{length-take-le}
+use lib.Seq.{take-all, length-take-le}
 use Rattle.ground.specs.Paper.Rows.{allZero}
 use Rattle.ground.specs.Laws.Tests.{by-value}
 use Rattle.stopper.specs.Paper.Table.{base, stoppers, goodCode}
@@ -206,3 +206,11 @@ module _ (c : Code) (g : T (goodCode c)) (σ h : ℕ) where
               (heard-used .whole (length-take-le h row l) d, rw heard-rest (z .read ∙ used-full l d), rw heard-rest (z .clean ∙ rw (heard-used .stained)))
           | no d ↦ absurd (d (ap (λ (q : Progress). q .bad) (sym (rest-bad d)) ∙ b))
         ]
+
+    -- while symbols are missing: the codeword that is open, or the next one
+    pub heard-part : length row ≤ h → hearsAll c σ h begun row .bad ≡ 0 → (hearsAll c σ h begun row .read ≡ length row) × (hearsAll c σ h begun row .first ≡ firstBad (length row) o)
+    heard-part l b =
+        let all : take h row ≡ row = take-all h row l in
+        let z : Heard h (length row) 0 (hearsAll c σ h begun row) (ranksHeard c σ h begun row) (rowReading c σ row 0) = rw all at heard-used in
+        let e = z .read b in
+        (e, rw all (z .first ∙ ap (λ (n : ℕ). firstBad n (rowReading c σ row 0)) e))
