@@ -35,6 +35,10 @@ module _ (s : Searcher) where
   abbrev row : List ℕ → List ℕ
   row piece = symbolsOf (codeIn s .k) piece
 
+  pub after-roll : (piece : List ℕ) → searcherAfter s piece .judge .roll ≡ s .judge .roll
+  unfolding searcherAfter judgeAfter
+  after-roll piece = refl
+
   -- the codewords read are those of the characters
   pub after-count : (piece : List ℕ) → searcherAfter s piece .judge .progress .count ≡ s .judge .progress .count + length (charactersHeard s piece)
   unfolding searcherAfter judgeAfter charactersHeard
