@@ -1,14 +1,13 @@
 -- A searcher after one piece and then another is as after both joined, and so are the hits.
 use mathlib.Core.Path.{_≡_, refl, sym, ap, ap₂, _∙_}
 use mathlib.Core.Logic.{_≢_}
-use mathlib.Core.List.{List, [], _∷_, _++_, map, map-append}
+use mathlib.Core.List.{List, [], _++_, map, map-append}
 use Prim.Native.Nat.{ℕ, _+_, _<_}
 use lib.Dec.{T}
 use lib.ListN.{length, getD, length-map}
 use Rattle.ground.specs.Laws.Rows.{take-padded}
 use Rattle.stopper.specs.Paper.Table.{goodCode}
 use Rattle.stopper.specs.Laws.Table.{code-width}
-use Rattle.stopper.specs.declared.code.Code.{Code}
 use Rattle.symbols.specs.Paper.Symbols.{symbolsOf}
 use Rattle.symbols.specs.Laws.Rows.{symbols-none, symbols-append}
 use Rattle.texts.specs.Paper.Hits.{hits, mostPattern}

@@ -1,7 +1,7 @@
 -- A judge's verdict is what check says of 6, 7 and 8; and a piece after another is both joined.
 use mathlib.Core.Path.{_≡_, refl, sym, ap, _∙_}
 use mathlib.Core.Logic.{_≢_}
-use mathlib.Core.Bool.{Bool, true, false, not}
+use mathlib.Core.Bool.{true, false, not}
 use mathlib.Core.List.{List, [], _∷_, _++_}
 use Prim.Native.Nat.{ℕ, _-_, _*_, _≤_}
 use native.Mathlib.Nat.{le-refl}
@@ -17,13 +17,12 @@ use Rattle.stopper.specs.Paper.Table.{goodCode}
 use Rattle.stopper.specs.Laws.Table.{code-width}
 use Rattle.stopper.specs.declared.code.Code.{Code}
 use Rattle.symbols.specs.Paper.Symbols.{per, bytesFor, symbolsOf}
-use Rattle.symbols.specs.Helpers.Widths.{Width}
 use Rattle.symbols.specs.Laws.Sizes.{bytesFor-enough}
 use Rattle.symbols.specs.Laws.Rows.{symbols-length, symbols-append}
 use Rattle.reading.specs.Paper.Reading.{isBad, ranksRead, firstBad}
 use Rattle.sound.specs.Paper.Roll.{readingFrom, reading, unusedOf}
 use Rattle.sound.specs.declared.records.Roll.{Roll}
-use Rattle.radio.specs.Paper.Judge.{hearsAll, ranksHeard, judgeFor, judgeAfter, verdictSays}
+use Rattle.radio.specs.Paper.Judge.{ranksHeard, judgeFor, judgeAfter, verdictSays}
 use Rattle.radio.specs.Laws.Judge.{hears-append}
 use Rattle.radio.specs.Laws.Reading.{begun, heard-ranks, heard-count, heard-bad, heard-whole, heard-part}
 use Rattle.radio.specs.declared.records.Progress.{Progress}

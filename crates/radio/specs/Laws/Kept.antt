@@ -1,15 +1,15 @@
 -- Start makes searchers within their bounds, and feeding keeps them there.
 use mathlib.Core.Path.{_≡_, refl, sym, ap, _∙_}
-use mathlib.Core.Logic.{_≢_, _⊎_, inl, inr, ⊎-elim}
-use mathlib.Core.Bool.{Bool, true, false, _&&_, _||_}
+use mathlib.Core.Logic.{_⊎_, inl, inr, ⊎-elim}
+use mathlib.Core.Bool.{Bool, true, false, _||_}
 use mathlib.Core.List.{List, [], _∷_}
-use Prim.Native.Nat.{ℕ, _+_, _-_, _*_, _%_, _^_, _≤_, _<_}
+use Prim.Native.Nat.{ℕ, _+_, _-_, _*_, _%_, _≤_}
 use native.Mathlib.Nat.{lt-of-not-le, zero-mod, add-mul, add-mul-mod-self-right, mul-le-mul-right}
 use native.Mathlib.Decide.{ℕ-discrete, decLe}
 use native.Mathlib.Omega.{arith}
-use borrow.Author.Tests.{le-ltb, lt-ltb, le-leb, eq-eqb, ltb-false, eqb-true, not-false}
-use lib.Dec.{T, leb, eqb, ltb}
-use lib.ListN.{length, take}
+use borrow.Author.Tests.{lt-ltb, le-leb, eq-eqb, ltb-false, eqb-true, not-false}
+use lib.Dec.{T, leb, eqb}
+use lib.ListN.{length}
 use lib.Pow.{pow-pos}
 use Rattle.ground.specs.Paper.Refusals.{accepted}
 use Rattle.ground.specs.Laws.Refusals.{accepted-none, accepted-parts}
@@ -24,7 +24,7 @@ use Rattle.stopper.specs.declared.reading.Step.the-variants.{Rank, Bad, Open}
 use Rattle.symbols.specs.Paper.Symbols.{per, bytesFor, symbolsOf}
 use Rattle.symbols.specs.Laws.Sizes.{bytesFor-enough, bytesFor-least, bytesFor-one}
 use Rattle.symbols.specs.Laws.Rows.{symbols-length}
-use Rattle.texts.specs.Paper.Hits.{goodPattern, mostPattern}
+use Rattle.texts.specs.Paper.Hits.{goodPattern}
 use Rattle.texts.specs.Laws.Patterns.{pattern-most}
 use Rattle.sound.specs.declared.records.Roll.{Roll}
 use Rattle.radio.specs.Paper.Judge.{flag, readerOf, heardAs, stainedBy, hears, hearsAll, judgeFor, judgeBounds, judgeAfter}
@@ -36,7 +36,7 @@ use Rattle.radio.specs.Laws.Judge.{by-hears, hears-symbol, bad-all, all-
 use Rattle.radio.specs.Laws.Matching.{all-low, all-count}
 use Rattle.radio.specs.Laws.Reading.{begun, unused}
 use Rattle.radio.specs.Laws.Joined.{after-count}
-use Rattle.radio.specs.Laws.Operations.{kept-accepted, kept-judge, kept-stained, kept-whole, kept-ready}
+use Rattle.radio.specs.Laws.Operations.{kept-accepted, kept-stained, kept-whole, kept-ready}
 use Rattle.radio.specs.declared.records.Progress.{Progress}
 use Rattle.radio.specs.declared.records.Judge.{Judge}
 use Rattle.radio.specs.declared.records.Searcher.{Searcher}

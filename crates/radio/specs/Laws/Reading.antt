@@ -1,22 +1,21 @@
 -- What is heard of a roll is what reading it gives: the ranks, their count, the bad codeword; and what is left is unused.
-use mathlib.Core.Path.{_≡_, refl, sym, ap, ap₂, subst, _∙_}
+use mathlib.Core.Path.{_≡_, refl, sym, ap, _∙_}
 use mathlib.Core.Logic.{_≢_}
-use mathlib.Core.Bool.{Bool, true, false, _&&_, and-true, and-false}
+use mathlib.Core.Bool.{Bool, not, true, false, _&&_, and-true, and-false}
 use mathlib.Core.List.{List, [], _∷_, _++_, append-nil}
 use Prim.Native.Nat.{ℕ, zero, suc, _+_, _-_, _*_, _≤_, _<_}
-use native.Mathlib.Nat.{add-zero, zero-add, lt-of-not-le}
-use native.Mathlib.Numerals.{add-one}
+use native.Mathlib.Nat.{zero-add, lt-of-not-le}
 use native.Mathlib.Decide.{ℕ-discrete, decLe}
 use native.Mathlib.Omega.{arith}
-use borrow.Author.Tests.{le-leb, lt-leb}
-use lib.Dec.{T, leb, eqb}
+use borrow.Author.Tests.{le-leb, lt-leb, eq-eqb, ne-eqb}
+use lib.Dec.{T, eqb}
 use lib.ListN.{length, take, drop, length-take, take-append-drop, drop-of-length-le}
 use lib.Seq.{take-all, length-take-le}
 use Rattle.ground.specs.Paper.Rows.{allZero}
 use Rattle.ground.specs.Laws.Tests.{by-value}
 use Rattle.stopper.specs.Paper.Table.{base, stoppers, goodCode}
 use Rattle.stopper.specs.Paper.Reading.{Reading, done, bad, ahead, readFrom}
-use Rattle.stopper.specs.Helpers.State.{stateAt, opened, stepped}
+use Rattle.stopper.specs.Helpers.State.{stateAt, opened}
 use Rattle.stopper.specs.Laws.Reading.{read-stop, read-stuck, read-more}
 use Rattle.stopper.specs.Laws.State.{Turn, stops, stuck, goes, turn, state-opened}
 use Rattle.stopper.specs.Laws.Table.{code-good}
@@ -24,7 +23,7 @@ use Rattle.stopper.specs.declared.code.Code.{Code}
 use Rattle.stopper.specs.declared.reading.Step.{Step}
 use Rattle.reading.specs.Paper.Reading.{rowReading, isBad, ranksRead, firstBad}
 use Rattle.reading.specs.Laws.Reading.{ranks-ahead, bad-ahead}
-use Rattle.radio.specs.Paper.Judge.{flag, readerOf, progress, heardAs, endedAs, stainedBy, hears, hearsAll, ranksHeard}
+use Rattle.radio.specs.Paper.Judge.{readerOf, progress, heardAs, endedAs, stainedBy, hearsAll, ranksHeard}
 use Rattle.radio.specs.Laws.Judge.{hears-symbol, hears-unused, ends-symbol, hears-append, ranks-append, bad-all, bad-silent, count-all, full-silent}
 use Rattle.radio.specs.Laws.Following.{reader-is}
 use Rattle.radio.specs.declared.records.Progress.{Progress}
@@ -64,7 +63,7 @@ pub record Unused (p q : Progress) (w : List ℕ) : Type 0 where
   pub clean : eqb (q .stained) 0 ≡ (eqb (p .stained) 0 && allZero w)
 
 -- the bad codeword is one
-first-one : (m n : ℕ) (o : Reading) → isBad o ≡ true → firstBad m o ≡ firstBad n o
+pub first-one : (m n : ℕ) (o : Reading) → isBad o ≡ true → firstBad m o ≡ firstBad n o
 unfolding isBad firstBad
 first-one m n (done rs) e = let z : _≡_ {A = ℕ} 0 1 = cc in absurd (omega arith)
 first-one m n (bad f p rs) e = refl
@@ -205,6 +204,13 @@ module _ (c : Code) (g : T (goodCode c)) (σ h : ℕ) where
               let z = unused (drop h row) used d (omega (arith, used-full l d)) in
               (heard-used .whole (length-take-le h row l) d, rw heard-rest (z .read ∙ used-full l d), rw heard-rest (z .clean ∙ rw (heard-used .stained)))
           | no d ↦ absurd (d (ap (λ (q : Progress). q .bad) (sym (rest-bad d)) ∙ b))
+        ]
+
+    pub heard-fault : h ≤ length row → eqb (hearsAll c σ h begun row .bad) 0 ≡ not (isBad o)
+    heard-fault l =
+        elim (ℕ-discrete (hearsAll c σ h begun row .bad) 0) [
+          | yes b ↦ rw (eq-eqb _ _ b, heard-whole l b .0)
+          | no b ↦ rw (ne-eqb _ _ b, heard-bad b .0)
         ]
 
     -- while symbols are missing: the codeword that is open, or the next one
