@@ -413,7 +413,7 @@ module _ {r : Roll} {pattern : List ℕ} {st : Started} {pieces : List (List ℕ
     pub refused-same : {answer : Done} → Finishing s′ answer → answer ≡ Refused n v
     refused-same {answer} f = done-one answer (Refused n v) (f .says ∙ finish-check refused-fits ∙ sym (c .says))
 
-  -- with 6: so did the call that read its last symbol, and each one after it, which changes nothing
+  -- with 6: feeding names it too, the call that reads the bad codeword and each one after it, which changes nothing
   module _ {v : ℕ} (c : Checking r bytes (Refused 6 v)) where
     six-row : (isBad (reading r bytes) ≡ true) × (firstBad (r .h) (reading r bytes) ≡ v)
     unfolding checkSays
