@@ -10,3 +10,4 @@ pub mod Meaning
 pub mod Counted
 pub mod Made
 pub mod Edits
+pub mod Radio

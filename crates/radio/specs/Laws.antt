@@ -5,3 +5,7 @@ pub mod Matching
 pub mod Named
 pub mod Following
 pub mod Operations
+pub mod Reading
+pub mod Judged
+pub mod Joined
+pub mod Kept

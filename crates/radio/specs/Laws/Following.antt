@@ -46,7 +46,7 @@ flag-is true = refl
 flag-is false = refl
 
 -- the reading state of a progress is the one that was put into it
-reader-is : (read count first : ℕ) (r : Reader) (bad stained : ℕ) → readerOf (progress read count first r bad stained) ≡ r
+pub reader-is : (read count first : ℕ) (r : Reader) (bad stained : ℕ) → readerOf (progress read count first r bad stained) ≡ r
 reader-is read count first r bad stained =
     ap (λ (b : Bool). record { past = b; place = r .place; shorter = r .shorter; rows = r .rows; value = r .value }) (flag-is (r .past))
 

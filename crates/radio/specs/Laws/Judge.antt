@@ -10,7 +10,7 @@ use native.Mathlib.Decide.{ℕ-discrete, decLe}
 use native.Mathlib.Omega.{arith}
 use borrow.Author.Tests.{lt-ltb, le-ltb, eq-eqb, ne-eqb}
 use lib.Dec.{T, ltb, eqb}
-use lib.ListN.{length, drop, getD}
+use lib.ListN.{length, drop, getD, length-append}
 use lib.Seq.{drop-cons}
 use Rattle.ground.specs.Paper.Runs.{run}
 use Rattle.ground.specs.Laws.Tests.{by-value}
@@ -80,7 +80,7 @@ module _ (c : Code) (σ h : ℕ) where
 
   -- ---- by what a symbol is: one behind a bad codeword, an unused one, one of the roll
 
-  by-hears {ℓ} : (P : Progress → Type ℓ) (p : Progress) (y : ℕ) → (p .bad ≢ 0 → P p) → (p .bad ≡ 0 → h ≤ p .read → P (stainedBy p y))
+  pub by-hears {ℓ} : (P : Progress → Type ℓ) (p : Progress) (y : ℕ) → (p .bad ≢ 0 → P p) → (p .bad ≡ 0 → h ≤ p .read → P (stainedBy p y))
       → (p .bad ≡ 0 → p .read < h → P (heardAs h p (stepped c σ (readerOf p) y))) → P (hears c σ h p y)
   by-hears P p y a b d =
       elim (ℕ-discrete (p .bad) 0) [
@@ -92,7 +92,31 @@ module _ (c : Code) (σ h : ℕ) where
         | no e ↦ rw (hears-bad p y e) (a e)
       ]
 
-  -- ---- nor does a codeword end well where all symbols of the roll are read
+  -- ---- the codewords read are those that ended
+
+  hears-count : (p : Progress) (y : ℕ) → hears c σ h p y .count ≡ p .count + length (ends c σ h p y)
+  unfolding stainedBy heardAs endedAs
+  hears-count p y =
+      elim (ℕ-discrete (p .bad) 0) [
+        | yes e ↦
+            elim (decLe h (p .read)) [
+              | yes l ↦ rw (hears-unused p y e l, ends-unused p y l) (by-value (eqb y 0) (λ f. rw f (omega arith)) (λ f. rw f (omega arith)))
+              | no l ↦ rw (hears-symbol p y e (lt-of-not-le l), ends-symbol p y e (lt-of-not-le l)) (go (stepped c σ (readerOf p) y))
+            ]
+        | no e ↦ rw (hears-bad p y e, ends-bad p y e) (omega arith)
+      ]
+    where
+      go : (s : Step) → heardAs h p s .count ≡ p .count + length (endedAs s)
+      go (Rank r) = refl
+      go Bad = omega arith
+      go (Open r) = omega arith
+
+  pub count-all : (p : Progress) (w : List ℕ) → hearsAll c σ h p w .count ≡ p .count + length (ranksHeard c σ h p w)
+  unfolding hearsAll ranksHeard
+  count-all p [] = omega arith
+  count-all p (y ∷ w) = omega (arith, count-all (hears c σ h p y) w, hears-count p y, length-append (ends c σ h p y) (ranksHeard c σ h (hears c σ h p y) w))
+
+  -- ---- no codeword ends well where all symbols of the roll are read
 
   full-stays : (p : Progress) (y : ℕ) → h ≤ p .read → h ≤ hears c σ h p y .read
   unfolding stainedBy

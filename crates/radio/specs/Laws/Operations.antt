@@ -124,18 +124,34 @@ module _ (s : Searcher) (e : keptSays s ≡ accepted tt) where
       let (x, y) = and-yes first second b in
       (a, ltb→lt _ _ x, ltb→lt _ _ y)
 
+  pub kept-table : T (goodTable (j .roll .table))
+  kept-table = not-no (goodTable (j .roll .table)) (within .0)
+
+  pub kept-limited : j .roll .h ≤ limit
+  kept-limited = no-lt _ _ (within .1 .0)
+
   -- its judge's numbers, one by one
-  pub kept-judge : (j .progress .past ≤ 1) × Steady (j .roll .h) (j .progress)
+  abbrev whole : Bool
+  whole = eqb (j .progress .bad) 1 || eqb (j .progress .read) (j .roll .h) || eqb (j .progress .read % per (j .roll .table .code .k)) 0
+
+  judge-parts : let p : Progress = j .progress in (
+      T (leb (p .past) 1) × T (leb (p .place) 2) × T (leb (p .shorter) 256) × T (leb (p .rows) 4096) × T (leb (p .value) 256) × T (leb (p .bad) 1) × T (leb (p .stained) 1)
+      ) × (T (leb (p .count) (p .first)) × T (leb (p .first) (p .read)) × T (leb (p .read) (j .roll .h))) × T whole
   unfolding judgeBounds
+  judge-parts =
+      let p : Progress = j .progress in
+      let state : Bool = leb (p .past) 1 && leb (p .place) 2 && leb (p .shorter) 256 && leb (p .rows) 4096 && leb (p .value) 256 && leb (p .bad) 1 && leb (p .stained) 1 in
+      let counts : Bool = leb (p .count) (p .first) && leb (p .first) (p .read) && leb (p .read) (j .roll .h) in
+      let (a, b, c) = three state counts whole (bounds .0) in (
+        seven (leb (p .past) 1) (leb (p .place) 2) (leb (p .shorter) 256) (leb (p .rows) 4096) (leb (p .value) 256) (leb (p .bad) 1) (leb (p .stained) 1) a,
+        three (leb (p .count) (p .first)) (leb (p .first) (p .read)) (leb (p .read) (j .roll .h)) b,
+        c,
+      )
+
+  pub kept-judge : (j .progress .past ≤ 1) × Steady (j .roll .h) (j .progress)
   kept-judge =
       let p : Progress = j .progress in
-      let h : ℕ = j .roll .h in
-      let state : Bool = leb (p .past) 1 && leb (p .place) 2 && leb (p .shorter) 256 && leb (p .rows) 4096 && leb (p .value) 256 && leb (p .bad) 1 && leb (p .stained) 1 in
-      let counts : Bool = leb (p .count) (p .first) && leb (p .first) (p .read) && leb (p .read) h in
-      let (a, b, c) = three state counts (eqb (p .bad) 1 || eqb (p .read) h || eqb (p .read % per (j .roll .table .code .k)) 0) (bounds .0) in
-      let (past, place, shorter, rows, value, bad, stained)
-      = seven (leb (p .past) 1) (leb (p .place) 2) (leb (p .shorter) 256) (leb (p .rows) 4096) (leb (p .value) 256) (leb (p .bad) 1) (leb (p .stained) 1) a in
-      let (count, first, read) = three (leb (p .count) (p .first)) (leb (p .first) (p .read)) (leb (p .read) h) b in (
+      let ((past, place, shorter, rows, value, bad, stained), (count, first, read), c) = judge-parts in (
         leb→le (p .past) 1 past,
         record {
           small = record { place = leb→le (p .place) 2 place; shorter = leb→le (p .shorter) 256 shorter; rows = leb→le (p .rows) 4096 rows; value = leb→le (p .value) 256 value };
@@ -145,12 +161,19 @@ module _ (s : Searcher) (e : keptSays s ≡ accepted tt) where
         },
       )
 
+  pub kept-stained : j .progress .stained ≤ 1
+  kept-stained = let ((past, place, shorter, rows, value, bad, stained), b, c) = judge-parts in leb→le (j .progress .stained) 1 stained
+
+  -- pieces are whole bytes
+  pub kept-whole : T whole
+  kept-whole = let (a, b, c) = judge-parts in c
+
   pub kept-ready : j .progress .bad ≡ 0 → Ready s
   kept-ready b =
       let p = and-yes (leb (s .length) mostPattern) (goodPattern (patternIn s)) (not-no (leb (s .length) mostPattern && goodPattern (patternIn s)) (within .1 .1 .0)) in
       record {
-        table = not-no (goodTable (j .roll .table)) (within .0);
-        limited = no-lt _ _ (within .1 .0);
+        table = kept-table;
+        limited = kept-limited;
         long = leb→le _ _ (p .0);
         pattern = p .1;
         steady = kept-judge .1;
