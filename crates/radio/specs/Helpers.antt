@@ -3,4 +3,3 @@ pub mod Steady
 pub mod Masks
 pub mod Kept
 pub mod Following
-pub mod Cursor

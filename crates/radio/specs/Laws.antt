@@ -1,5 +1,4 @@
 -- What is proved of the definitions, by subject: it needs no belief, and crates above may cite it.
-pub mod Cursor
 pub mod Small
 pub mod Judge
 pub mod Matching

@@ -1,6 +1,4 @@
 // A piece of a roll: the hits whose last symbol it brings.
-use crate::cursor::Cursor;
-use crate::cursor::take_symbol;
 use crate::judging::flag;
 use crate::judging::hear_run;
 use crate::judging::reader_of;
@@ -17,6 +15,7 @@ use stopper::reading::opening;
 use stopper::reading::read_symbol;
 use symbols::bits::per_byte;
 use symbols::size::bytes_for;
+use symbols::symbol::get;
 ghost use mathlib.Core.Path.{_≡_};
 ghost use Rattle.radio.specs.Paper.Operations.{Feeding};
 ghost use Rattle.radio.specs.Helpers.Kept.{refusedFed};
@@ -59,8 +58,8 @@ fn nowhere(progress: Progress, ends: u64) -> Followed
 }
 
 // The symbols of a piece, as long as a codeword may still end well: up to symbol h, or to where one is bad whatever follows.
-fn follow(searcher: Searcher, piece: &[u8], all: usize, slice: &mut [u32]) -> Followed
-    requires { ⌜ Follows searcher (now piece) all (now slice) ⌝ }
+fn follow(k: u8, searcher: Searcher, piece: &[u8], all: usize, slice: &mut [u32]) -> Followed
+    requires { ⌜ Follows k searcher (now piece) all (now slice) ⌝ }
     ensures { λ r. ⌜ Went searcher (now (piece .entry)) (now (slice .entry)) r (now (slice .exit)) ⌝ }
 {
     let judge = searcher.judge;
@@ -89,15 +88,8 @@ fn follow(searcher: Searcher, piece: &[u8], all: usize, slice: &mut [u32]) -> Fo
     let mut first = p.first;
     let mut hits: usize = 0;
     let mut i: usize = 0;
-    let mut at = Cursor {
-        byte: 0,
-        place: 0,
-        left: 0,
-    };
     while i < upto {
-        let taken = take_symbol(code, piece, at);
-        at = taken.on;
-        let y = taken.symbol;
+        let y = get(k, piece, i);
         let step = read_symbol(code, sigma, r, y);
         match step {
             Step::Rank(rank) => {
@@ -145,6 +137,21 @@ fn follow(searcher: Searcher, piece: &[u8], all: usize, slice: &mut [u32]) -> Fo
     }
 }
 
+// A function for each width: where the compiler knows the width, it can make a loop of its own.
+fn follow_two(searcher: Searcher, piece: &[u8], all: usize, slice: &mut [u32]) -> Followed
+    requires { ⌜ Follows 2 searcher (now piece) all (now slice) ⌝ }
+    ensures { λ r. ⌜ Went searcher (now (piece .entry)) (now (slice .entry)) r (now (slice .exit)) ⌝ }
+{
+    follow(2, searcher, piece, all, slice)
+}
+
+fn follow_four(searcher: Searcher, piece: &[u8], all: usize, slice: &mut [u32]) -> Followed
+    requires { ⌜ Follows 4 searcher (now piece) all (now slice) ⌝ }
+    ensures { λ r. ⌜ Went searcher (now (piece .entry)) (now (slice .entry)) r (now (slice .exit)) ⌝ }
+{
+    follow(4, searcher, piece, all, slice)
+}
+
 pub fn feed(searcher: Searcher, piece: &[u8], slice: &mut [u32]) -> Fed
     ensures { λ r. ⌜ Feeding searcher (now (piece .entry)) (now (slice .entry)) r (now (slice .exit)) ⌝ }
 {
@@ -169,7 +176,11 @@ pub fn feed(searcher: Searcher, piece: &[u8], slice: &mut [u32]) -> Fed
     if slice.len() < all {
         return refused(searcher, 14, all as u64);
     }
-    let went = follow(searcher, piece, all, slice);
+    let went = if k == 2 {
+        follow_two(searcher, piece, all, slice)
+    } else {
+        follow_four(searcher, piece, all, slice)
+    };
     let progress = hear_run(
         code,
         table.sigma as u32,

@@ -1,7 +1,6 @@
 // A roll searched while it still comes in: its packed bytes come in pieces, and each hit is named once its last symbol is read.
-// Read records.rt (what is kept between pieces), cursor.rt (the symbols of a piece), judging.rt (check, fed piece by piece) and
-// matching.rt (which beginnings of the pattern end at a character), then the three operations.
-pub mod cursor;
+// Read records.rt (what is kept between pieces), judging.rt (check, fed piece by piece) and matching.rt (which beginnings of the
+// pattern end at a character), then the three operations.
 pub mod feed;
 pub mod finish;
 pub mod judging;

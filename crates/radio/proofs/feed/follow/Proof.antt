@@ -12,8 +12,6 @@ use lib.Seq.{length-take-le}
 use Rattle.ground.specs.Laws.Limit.{limit-fits}
 use Rattle.stopper.specs.Laws.Table.{code-width, table-code, table-few}
 use Rattle.symbols.specs.Paper.Symbols.{symbolsOf}
-use Rattle.symbols.specs.Laws.Width.{per-pos}
-use Rattle.radio.specs.Helpers.Cursor.{numberOf, At}
 use Rattle.texts.specs.Laws.Patterns.{pattern-least, pattern-most}
 use Rattle.radio.specs.Paper.Judge.{progress, ranksHeard}
 use Rattle.radio.specs.Paper.Matching.{advanced, wholeBit}
@@ -29,13 +27,12 @@ use Rattle.radio.proofs.feed.follow.Statement.{statement}
 use Rattle.radio.proofs.feed.follow.Tie as tie
 
 abbrev Inv-loop : tie.InvT-loop
-Inv-loop piece all slice₀ code sigma places h p left long ends₀ upto masks whole r₀ count₀ first₀ hits₀ i₀ at₀ slice ends r count first hits i at =
+Inv-loop k piece all slice₀ code sigma places h p left long ends₀ upto masks whole r₀ count₀ first₀ hits₀ i₀ slice ends r count first hits i =
     (i ≤ upto) × (length slice ≡ length slice₀)
     × ((pattern : List ℕ) → Masked masks whole long pattern → Along code sigma places h p pattern ends₀ (symbolsOf (code .k) piece) slice₀ slice ends r count first hits i)
-    × At (code .k) piece at × (numberOf (code .k) at ≡ i)
 
 abbrev μ-loop : tie.MeasureT-loop
-μ-loop piece all slice₀ code sigma places h p left long ends₀ upto masks whole r₀ count₀ first₀ hits₀ i₀ at₀ slice ends r count first hits i at = upto - i
+μ-loop k piece all slice₀ code sigma places h p left long ends₀ upto masks whole r₀ count₀ first₀ hits₀ i₀ slice ends r count first hits i = upto - i
 
 -- the way back from a place, and the searcher that came
 abbrev start : tie.After-struct-known3 Inv-loop μ-loop → tie.Start Inv-loop μ-loop
@@ -69,8 +66,12 @@ upto-is c =
     (λ w. (omega (arith, w .1, w .0 .left, r), omega (arith, w .1), inr (omega (arith, w .1))))
     (c .if3 .came)
 
+-- the row of the piece's symbols is that of the searcher's width
+row-is : (c : tie.Start Inv-loop μ-loop) → symbolsOf (c .args .k) (c .args .piece .now) ≡ row (c .args .searcher) (c .args .piece .now)
+row-is c = ap (λ (k : ℕ). symbolsOf k (c .args .piece .now)) (c .pre .width)
+
 all-is : (c : tie.Start Inv-loop μ-loop) → c .args .all ≡ length (row (c .args .searcher) (c .args .piece .now))
-all-is c = c .pre .symbols
+all-is c = c .pre .symbols ∙ ap length (row-is c)
 
 h-fits : (c : tie.Start Inv-loop μ-loop) → c .args .searcher .judge .roll .h < 2 ^ 32
 h-fits c = omega (arith, c .pre .ready .limited, limit-fits)
@@ -105,24 +106,17 @@ along c = c .loop .inv .2 (patternIn (searcher c)) (masked (outer c))
 within : (c : tie.In-loop Inv-loop μ-loop) → let s = searcher (c .before) in (s .judge .progress .read + c .before .loop .i < s .judge .roll .h) × (c .before .loop .i < length (row s (root (c .before) .args .piece .now)))
 within c = let u = upto-is (begun (outer (c .before))) in (omega (arith, u .0, c .loop-test .taken), omega (arith, u .1, all-is (root (c .before)), c .loop-test .taken))
 
--- the cursor is before the next symbol
-number-on : (c : tie.After-take-symbol Inv-loop μ-loop) → numberOf (codeIn (searcher (c .before .before)) .k) (c .take-symbol .result .on) ≡ c .before .before .loop .i + 1
-number-on c = c .take-symbol .ensures .next ∙ ap (λ (n : ℕ). n + 1) (c .before .before .loop .inv .4)
-
-step-is : (c : tie.After-read-symbol Inv-loop μ-loop) → let l = c .before .before .before .before in let s = searcher l in
+step-is : (c : tie.After-read-symbol Inv-loop μ-loop) → let l = c .before .before .before in let s = searcher l in
     c .read-symbol .result ≡ stepped (codeIn s) (s .judge .roll .table .sigma) (l .loop .r) (getD (row s (root l .args .piece .now)) (l .loop .i) 0)
 step-is c =
-    let l = c .before .before .before .before in
+    let l = c .before .before .before in
     let s = searcher l in
     c .read-symbol .ensures
-    ∙ ap (stepped (codeIn s) (s .judge .roll .table .sigma) (l .loop .r)) (c .before .before .take-symbol .ensures .symbol ∙ ap (λ (n : ℕ). getD (row s (root l .args .piece .now)) n 0) (l .loop .inv .4))
+    ∙ ap (stepped (codeIn s) (s .judge .roll .table .sigma) (l .loop .r)) (c .before .get .ensures ∙ ap (λ (w : List ℕ). getD w (l .loop .i) 0) (row-is (root l)))
 
 -- a codeword ends: its rank, below σ, and its character
 abbrev turn : tie.After-known-told Inv-loop μ-loop → tie.In-loop Inv-loop μ-loop
-turn c = c .before .before .before .before .before .before
-
-abbrev taking : tie.After-known-told Inv-loop μ-loop → tie.After-take-symbol Inv-loop μ-loop
-taking c = c .before .before .before .before .before
+turn c = c .before .before .before .before .before
 
 abbrev rank : tie.After-known-told Inv-loop μ-loop → ℕ
 rank c = c .before .step .given .0 .0
@@ -227,18 +221,16 @@ loop-holds c =
           (row s (x .args .piece .now)) (x .args .slice .now)
           (y .steady .small) (past-not (e .before)) (y .going) (y .steady .count) (y .steady .first) (omega (arith, e .if2 .left))
           (rw (sym (k .bit) ∙ masked m .bit) (y .ends)) (y .ended)),
-      record { place = per-pos (code-width (codeIn s) (table-code _ (y .table))); left = λ h. absurd (omega arith) },
-      omega arith,
     )
 
-take-symbol-requires : tie.Need-take-symbol-requires Inv-loop μ-loop
-take-symbol-requires c κs =
-    let l = c .before in
-    (table-code _ (root l .pre .ready .table), l .loop .inv .3, rw (l .loop .inv .4) (within c .1))
+get-requires : tie.Need-get-requires Inv-loop μ-loop
+get-requires c κs =
+    let x = root (c .before) in
+    (rw (x .pre .width) (code-width (codeIn (x .args .searcher)) (table-code _ (x .pre .ready .table))), rw (row-is x) (within c .1))
 
 read-symbol-requires : tie.Need-read-symbol-requires Inv-loop μ-loop
 read-symbol-requires c κs =
-    let l = c .before .before .before in
+    let l = c .before .before in
     let t = root l .pre .ready .table in
     (table-code _ t, table-few _ t, along l .small)
 
@@ -321,8 +313,6 @@ loop-again c =
           rw (opened-at (c .before) .opening .ensures, k .bit, k .characters, advance-is (c .before) pattern k)
           (along-hit (codeIn x) (table-code _ t) _ (table-few _ t) (x .judge .roll .table .places) (x .judge .roll .h) (x .judge .progress) pattern (k .some) (x .ends) (row x (root l .args .piece .now)) (root l .args .slice .now) (l .loop .inv .2 pattern k) (within i .0) (within i .1)
           (rank-is o) (room l (i .loop-test .taken)) (hit c pattern k)),
-      taking o .take-symbol .ensures .on,
-      number-on (taking o),
     )
 
 loop-less-2 : tie.Need-loop-less-2 Inv-loop μ-loop
@@ -341,22 +331,19 @@ loop-again-2 c =
           rw (opened-at (c .before) .opening .ensures, advance-is (c .before) pattern k)
           (along-none (codeIn x) (table-code _ t) _ (table-few _ t) (x .judge .roll .table .places) (x .judge .roll .h) (x .judge .progress) pattern (k .some) (x .ends) (row x (root l .args .piece .now)) (root l .args .slice .now) (l .loop .inv .2 pattern k) (within i .0) (within i .1)
           (rank-is o) (none c pattern k)),
-      taking o .take-symbol .ensures .on,
-      number-on (taking o),
     )
 
 add-i-2 : tie.Need-add-i-2 Inv-loop μ-loop
-add-i-2 c = let i = c .before .before .before .before .before .before .before in omega (arith, within i .0, h-fits (root (i .before)))
+add-i-2 c = let i = c .before .before .before .before .before .before in omega (arith, within i .0, h-fits (root (i .before)))
 
 loop-less-3 : tie.Need-loop-less-3 Inv-loop μ-loop
-loop-less-3 c = let i = c .before .before .before .before .before .before .before in omega (arith, i .loop-test .taken)
+loop-less-3 c = let i = c .before .before .before .before .before .before in omega (arith, i .loop-test .taken)
 
 loop-again-3 : tie.Need-loop-again-3 Inv-loop μ-loop
 loop-again-3 c =
     let o = c .before .before in
     let y = o .before .before in
-    let n = y .before .before in
-    let i = n .before in
+    let i = y .before .before in
     let l = i .before in
     let x = searcher l in
     let t = root l .pre .ready .table in (
@@ -365,8 +352,6 @@ loop-again-3 c =
       λ pattern k.
           along-open (codeIn x) (table-code _ t) _ (table-few _ t) (x .judge .roll .table .places) (x .judge .roll .h) (x .judge .progress) pattern (k .some) (x .ends) (row x (root l .args .piece .now)) (root l .args .slice .now) (l .loop .inv .2 pattern k) (within i .0) (within i .1)
           (sym (step-is y) ∙ o .step2 .given .1) (c .if5 .left),
-      n .take-symbol .ensures .on,
-      number-on n,
     )
 
 cast-read : tie.Need-cast-read Inv-loop μ-loop
@@ -398,12 +383,12 @@ silent c =
     (⊎-elim
     (λ w.
     let i : tie.In-loop Inv-loop μ-loop = record { before = l; loop-test = w .0 } in
-    let y : tie.After-read-symbol Inv-loop μ-loop = record { before = record { before = record { before = i; take-symbol = w .1 }; at = w .2 }; read-symbol = w .3 } in
-    silent-bad x (root l .args .piece .now) (root l .args .slice .now) z (within i .0) (within i .1) (sym (step-is y) ∙ w .5 .given .1))
+    let y : tie.After-read-symbol Inv-loop μ-loop = record { before = record { before = i; get = w .1 }; read-symbol = w .2 } in
+    silent-bad x (root l .args .piece .now) (root l .args .slice .now) z (within i .0) (within i .1) (sym (step-is y) ∙ w .4 .given .1))
     (λ w.
     let i : tie.In-loop Inv-loop μ-loop = record { before = l; loop-test = w .0 } in
-    let y : tie.After-read-symbol Inv-loop μ-loop = record { before = record { before = record { before = i; take-symbol = w .1 }; at = w .2 }; read-symbol = w .3 } in
-    silent-past x (root l .args .piece .now) (root l .args .slice .now) z (within i .0) (within i .1) (sym (step-is y) ∙ w .5 .given .1) (w .7 .taken)))
+    let y : tie.After-read-symbol Inv-loop μ-loop = record { before = record { before = i; get = w .1 }; read-symbol = w .2 } in
+    silent-past x (root l .args .piece .now) (root l .args .slice .now) z (within i .0) (within i .1) (sym (step-is y) ∙ w .4 .given .1) (w .6 .taken)))
     (c .loop-test .came)
 
 returns-3 : tie.Need-returns-3 Inv-loop μ-loop
@@ -434,7 +419,7 @@ follow-spec =
     shl-whole
     (λ c κs. search needs)
     loop-holds
-    take-symbol-requires
+    get-requires
     read-symbol-requires
     (λ c. search needs)
     add-i
