@@ -1,6 +1,6 @@
 // The end of a roll that came in.
+use crate::bounds::kept;
 use crate::judging::verdict;
-use crate::kept::kept;
 use crate::records::Searcher;
 use ground::answers::Done;
 ghost use Rattle.radio.specs.Paper.Operations.{Finishing};

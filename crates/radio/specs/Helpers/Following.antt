@@ -40,6 +40,10 @@ pub record Follows (k : ℕ) (s : Searcher) (piece : List ℕ) (all : ℕ) (slic
   pub symbols : all ≡ length (symbolsOf k piece)
   pub room : all ≤ length slice
 
+-- the characters whose codewords end in a row of symbols
+abbrev pub charactersIn : Code → ℕ → List ℕ → ℕ → Progress → List ℕ → List ℕ
+charactersIn c σ places h p w = map (λ rank. getD places rank 0) (ranksHeard c σ h p w)
+
 -- the symbols of a piece, and the characters whose codewords end among its first n
 abbrev pub row : Searcher → List ℕ → List ℕ
 row s piece = symbolsOf (codeIn s .k) piece
@@ -48,7 +52,7 @@ abbrev pub heardUpto : Searcher → List ℕ → Progress
 heardUpto s w = hearsAll (codeIn s) (s .judge .roll .table .sigma) (s .judge .roll .h) (s .judge .progress) w
 
 abbrev pub charactersUpto : Searcher → List ℕ → List ℕ
-charactersUpto s w = map (λ rank. getD (s .judge .roll .table .places) rank 0) (ranksHeard (codeIn s) (s .judge .roll .table .sigma) (s .judge .roll .h) (s .judge .progress) w)
+charactersUpto s w = charactersIn (codeIn s) (s .judge .roll .table .sigma) (s .judge .roll .table .places) (s .judge .roll .h) (s .judge .progress) w
 
 abbrev pub namedUpto : Searcher → List ℕ → List ℕ
 namedUpto s w = named (patternIn s) (s .ends) (s .judge .progress .count) (charactersUpto s w)
@@ -70,10 +74,6 @@ followedNone p bits = record { progress = p; ends = bits; at = 0; hits = 0 }
 -- a codeword that is open at symbol h is bad
 abbrev pub badAt : ℕ → ℕ → ℕ → ℕ
 badAt h read first = flag (leb h read && ltb first read)
-
--- the characters whose codewords end in a row of symbols
-abbrev pub charactersIn : Code → ℕ → List ℕ → ℕ → Progress → List ℕ → List ℕ
-charactersIn c σ places h p w = map (λ rank. getD places rank 0) (ranksHeard c σ h p w)
 
 -- i symbols of a row followed from the progress p and the beginnings `bits` on: no codeword was bad, and none has reached σ
 pub record Along (c : Code) (σ : ℕ) (places : List ℕ) (h : ℕ) (p : Progress) (pattern : List ℕ) (bits : ℕ) (row slice after : List ℕ) (ends : ℕ) (r : Reader)

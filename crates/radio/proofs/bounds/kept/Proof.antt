@@ -1,4 +1,4 @@
--- `radio::kept::kept` meets its contract.
+-- `radio::bounds::kept` meets its contract.
 use mathlib.Core.Path.{_≡_, sym, ap, _∙_}
 use mathlib.Core.Bool.{true, _&&_}
 use Prim.Native.Nat.{ℕ, _-_, _^_, _≤_}
@@ -18,8 +18,8 @@ use Rattle.radio.specs.Paper.Operations.{patternIn, inBounds}
 use Rattle.radio.specs.declared.records.Searcher.{Searcher}
 use Rattle.radio.specs.Laws.Operations.{kept-1, kept-5, kept-11, kept-bounds, kept-accepted}
 use borrow.Author.Needs.{needs}
-use Rattle.radio.proofs.kept.kept.Statement.{statement}
-use Rattle.radio.proofs.kept.kept.Tie as tie
+use Rattle.radio.proofs.bounds.kept.Statement.{statement}
+use Rattle.radio.proofs.bounds.kept.Tie as tie
 
 -- the way back from a place
 abbrev start : tie.After-good-table → tie.Start

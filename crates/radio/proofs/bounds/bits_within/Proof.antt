@@ -1,4 +1,4 @@
--- `radio::kept::bits_within` meets its contract.
+-- `radio::bounds::bits_within` meets its contract.
 use mathlib.Core.Path.{sym, ap, _∙_}
 use Prim.Native.Nat.{_^_, _<_}
 use native.Mathlib.Nat.{one-mul, lt-of-lt-of-le}
@@ -7,8 +7,8 @@ use borrow.Author.Tests.{lt-ltb}
 use lib.Dec.{ltb}
 use lib.Pow.{pow-mono, shl-exact}
 use borrow.Author.Needs.{needs}
-use Rattle.radio.proofs.kept.bits_within.Statement.{statement}
-use Rattle.radio.proofs.kept.bits_within.Tie as tie
+use Rattle.radio.proofs.bounds.bits_within.Statement.{statement}
+use Rattle.radio.proofs.bounds.bits_within.Tie as tie
 
 returns : tie.Need-returns
 returns c =

@@ -1,9 +1,9 @@
--- `radio::kept::judge_bounds` meets its contract.
+-- `radio::bounds::judge_bounds` meets its contract.
 use Rattle.stopper.specs.Laws.Table.{code-width, table-code}
 use Rattle.radio.specs.Paper.Judge.{judgeBounds}
 use borrow.Author.Needs.{needs}
-use Rattle.radio.proofs.kept.judge_bounds.Statement.{statement}
-use Rattle.radio.proofs.kept.judge_bounds.Tie as tie
+use Rattle.radio.proofs.bounds.judge_bounds.Statement.{statement}
+use Rattle.radio.proofs.bounds.judge_bounds.Tie as tie
 
 place-in-byte-requires : tie.Need-place-in-byte-requires
 place-in-byte-requires c κs =
