@@ -15,7 +15,7 @@ use Rattle.ground.specs.Paper.Limit.{limit}
 use Rattle.ground.specs.Paper.Refusals.{accepted, refused, judged}
 use Rattle.ground.specs.Paper.Answers.{doneSays}
 use Rattle.ground.specs.Laws.Answers.{says-as, done-one, total-one}
-use Rattle.ground.specs.Laws.Refusals.{refused-keeps, accepted-leaves, accepted-none, accepted-parts, refused-row, refused-parts}
+use Rattle.ground.specs.Laws.Refusals.{refused-keeps, accepted-leaves, accepted-none, accepted-parts, Refuses, refused-row, refused-parts}
 use Rattle.ground.specs.Laws.Tests.{neither, true-yes}
 use Rattle.ground.specs.declared.answers.Done.{Done}
 use Rattle.ground.specs.declared.answers.Done.the-variants.{Yes, Refused}
@@ -34,7 +34,7 @@ use Rattle.reading.specs.Paper.Reading.{isBad, firstBad}
 use Rattle.sound.specs.Paper.Roll.{reading, textOf, Sound}
 use Rattle.sound.specs.declared.records.Roll.{Roll}
 use Rattle.radio.specs.Paper.Judge.{judgeFor, judgeAfter, verdictRows, verdictSays}
-use Rattle.radio.specs.Paper.Operations.{startRows, startSays, searcherFor, Starting, codeIn, keptSays, feedReads, searcherAfter, hitsNamed, badRows, feedSays, Feeding, finishSays, Finishing}
+use Rattle.radio.specs.Paper.Operations.{startRows, startSays, searcherFor, Starting, codeIn, keptRows, keptSays, feedRows, feedReads, searcherAfter, hitsNamed, badRows, feedSays, feedHits, Feeding, finishSays, Finishing}
 use Rattle.radio.specs.Laws.Reading.{first-one}
 use Rattle.radio.specs.Laws.Judged.{judge-roll, judge-bad, judge-part, judge-whole, verdict-is}
 use Rattle.radio.specs.Laws.Joined.{after-roll, after-none, hits-none, after-bad, hits-bad, after-append, hits-append, hits-so-far}
@@ -47,6 +47,7 @@ use Rattle.radio.specs.declared.start.Started.{Started}
 use Rattle.radio.specs.declared.feed.Fed.{Fed}
 use Rattle.roll.specs.Paper.Operations.{fitRows, fitSays, checkRows, checkSays, Checking, Searching}
 use Rattle.roll.specs.Laws.Accepting.{fits-is, accepted-sound, searches-is}
+use Rattle.demands.specs.Orders.{DecidedBy, decided, decided-then, then-refuses}
 
 -- a searcher that no refusal of start's and no bound stops: start makes such, and feeding keeps them so
 abbrev pub Within : Searcher → Type 0
@@ -475,3 +476,42 @@ module _ {r : Roll} {pattern : List ℕ} {st : Started} {pieces : List (List ℕ
 
     pub too-soon : {answer : Done} → Finishing s′ answer → (answer ≡ Refused 6 (p .first)) × (p .first ≡ firstBad (length bytes * per k) (reading r bytes))
     too-soon {answer} f = (done-one answer (Refused 6 (p .first)) (f .says ∙ soon-says), soon-first)
+
+-- ---- a refusal is the first that applies, in the fixed order, with its value (demand 1)
+
+pub order-start : {r : Roll} {pattern : List ℕ} {s : Started} {n v : ℕ} → Starting r pattern s → s .answer ≡ Refused n v → Refuses (startRows r pattern) n v
+unfolding startSays
+order-start {r} {pattern} call e = refused-row (startRows r pattern) tt (says-as (call .says) e)
+
+kept-decided : (s : Searcher) → DecidedBy (keptSays s) (keptRows s)
+unfolding keptSays
+kept-decided s = decided (keptRows s)
+
+reads-decided : (s : Searcher) (piece slice : List ℕ) → DecidedBy (feedReads s piece slice) (keptRows s ++ feedRows s piece slice)
+unfolding feedReads
+reads-decided s piece slice = decided-then (kept-decided s) (feedRows s piece slice)
+
+pub order-feed : {s : Searcher} {piece slice after : List ℕ} {r : Fed} {n v : ℕ} → Feeding s piece slice r after → r .answer ≡ Refused n v
+    → Refuses ((keptRows s ++ feedRows s piece slice) ++ badRows (searcherAfter s piece)) n v
+unfolding feedSays
+order-feed {s} {piece} {slice} call e = then-refuses (reads-decided s piece slice) (badRows (searcherAfter s piece)) tt (says-as (call .says) e)
+
+pub order-finish : {s : Searcher} {n v : ℕ} → Finishing s (Refused n v) → Refuses (keptRows s ++ verdictRows (s .judge)) n v
+unfolding finishSays verdictSays
+order-finish {s} call = then-refuses (kept-decided s) (verdictRows (s .judge)) tt (sym (call .says))
+
+-- a refusal other than 6 changes neither the searcher nor the slice
+pub feed-keeps : {s : Searcher} {piece slice after : List ℕ} {r : Fed} {n v : ℕ} → Feeding s piece slice r after → r .answer ≡ Refused n v → n ≢ 6
+    → (r .searcher ≡ s) × (after ≡ slice) × (r .hits ≡ 0)
+unfolding feedSays
+feed-keeps {s} {piece} {slice} call e other =
+    ⊎-elim
+    (λ x.
+    let none : feedHits s piece slice ≡ [] = refused-keeps x [] (hitsNamed s piece) in
+    (call .searcher ∙ refused-keeps x _ _, call .leaves ∙ rw none, call .hits ∙ rw none))
+    (λ q. absurd (other (bad-six (refused-row (badRows (searcherAfter s piece)) tt (q .1)))))
+    (refused-parts (feedReads s piece slice) (says-as (call .says) e))
+  where
+    bad-six : {n v : ℕ} → Refuses (badRows (searcherAfter s piece)) n v → n ≡ 6
+    bad-six (inl x) = sym (x .1)
+    bad-six (inr x) = absurd (x .1)
