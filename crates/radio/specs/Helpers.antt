@@ -3,3 +3,4 @@ pub mod Steady
 pub mod Masks
 pub mod Kept
 pub mod Following
+pub mod Codewords

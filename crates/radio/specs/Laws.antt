@@ -4,6 +4,7 @@ pub mod Judge
 pub mod Matching
 pub mod Named
 pub mod Following
+pub mod Codewords
 pub mod Operations
 pub mod Reading
 pub mod Judged

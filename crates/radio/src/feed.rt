@@ -1,21 +1,18 @@
 // A piece of a roll: the hits whose last symbol it brings.
 use crate::bounds::kept;
-use crate::judging::flag;
+use crate::codewords::AT_ONCE;
+use crate::codewords::read_stretch;
+use crate::judging::either;
 use crate::judging::hear_run;
 use crate::judging::reader_of;
-use crate::matching::advance;
-use crate::matching::masks_of;
-use crate::matching::wide;
+use crate::matching::mark_places;
+use crate::matching::name_hits;
 use crate::records::Judge;
 use crate::records::Progress;
 use crate::records::Searcher;
 use ground::answers::Done;
-use stopper::reading::Step;
-use stopper::reading::opening;
-use stopper::reading::read_symbol;
 use symbols::bits::per_byte;
 use symbols::size::bytes_for;
-use symbols::symbol::get;
 ghost use mathlib.Core.Path.{_≡_};
 ghost use Rattle.radio.specs.Paper.Operations.{Feeding};
 ghost use Rattle.radio.specs.Helpers.Kept.{refusedFed};
@@ -58,8 +55,8 @@ fn nowhere(progress: Progress, ends: u64) -> Followed
 }
 
 // The symbols of a piece, as long as a codeword may still end well: up to symbol h, or to where one is bad whatever follows.
-fn follow(k: u8, searcher: Searcher, piece: &[u8], all: usize, slice: &mut [u32]) -> Followed
-    requires { ⌜ Follows k searcher (now piece) all (now slice) ⌝ }
+fn follow(searcher: Searcher, piece: &[u8], all: usize, slice: &mut [u32]) -> Followed
+    requires { ⌜ Follows searcher (now piece) all (now slice) ⌝ }
     ensures { λ r. ⌜ Went searcher (now (piece .entry)) (now (slice .entry)) r (now (slice .exit)) ⌝ }
 {
     let judge = searcher.judge;
@@ -67,7 +64,6 @@ fn follow(k: u8, searcher: Searcher, piece: &[u8], all: usize, slice: &mut [u32]
     let table = roll.table;
     let code = table.code;
     let sigma = table.sigma as u32;
-    let places = table.places;
     let h = roll.h;
     let p = judge.progress;
     let left = (h - p.read) as usize;
@@ -81,41 +77,37 @@ fn follow(k: u8, searcher: Searcher, piece: &[u8], all: usize, slice: &mut [u32]
     }
     let upto = if left < all { left } else { all };
     let pattern = searcher.pattern;
-    let masks = masks_of(pattern, length as usize);
+    let mut masks = [0u64; 256];
+    mark_places(pattern, length as usize, &mut masks);
     let whole: u64 = 1 << (length - 1);
+    let mut text = [0u8; AT_ONCE];
     let mut r = reader_of(p);
     let mut count = p.count;
     let mut first = p.first;
     let mut hits: usize = 0;
     let mut i: usize = 0;
     while i < upto {
-        let y = get(k, piece, i);
-        let step = read_symbol(code, sigma, r, y);
-        match step {
-            Step::Rank(rank) => {
-                i += 1;
-                r = opening();
-                count += 1;
-                first = p.read + i as u32;
-                let b = wide(places[rank as usize]);
-                ends = advance(ends, masks[b]);
-                if whole <= ends {
-                    ends -= whole;
-                    slice[hits] = count - length;
-                    hits += 1;
-                }
-            }
-            Step::Bad => {
-                break;
-            }
-            Step::Open(on) => {
-                if on.past {
-                    break;
-                }
-                i += 1;
-                r = on;
-            }
+        let on = read_stretch(code, sigma, &table.places, r, piece, i, upto, &mut text);
+        if !on.going {
+            break;
         }
+        let named = name_hits(
+            &masks,
+            whole,
+            length,
+            &text,
+            on.characters,
+            count,
+            ends,
+            slice,
+            hits,
+        );
+        i = on.to;
+        r = on.reader;
+        first = either(on.ended, p.read + i as u32, first);
+        count += on.characters as u32;
+        ends = named.ends;
+        hits = named.hits;
     }
     let read = p.read + i as u32;
     Followed {
@@ -128,28 +120,13 @@ fn follow(k: u8, searcher: Searcher, piece: &[u8], all: usize, slice: &mut [u32]
             shorter: r.shorter,
             rows: r.rows,
             value: r.value,
-            bad: flag((h <= read) & (first < read)),
+            bad: either((h <= read) & (first < read), 1, 0),
             stained: p.stained,
         },
         ends,
         at: i,
         hits,
     }
-}
-
-// A function for each width: measured faster with k 2 than one for both, whose loop is the same.
-fn follow_two(searcher: Searcher, piece: &[u8], all: usize, slice: &mut [u32]) -> Followed
-    requires { ⌜ Follows 2 searcher (now piece) all (now slice) ⌝ }
-    ensures { λ r. ⌜ Went searcher (now (piece .entry)) (now (slice .entry)) r (now (slice .exit)) ⌝ }
-{
-    follow(2, searcher, piece, all, slice)
-}
-
-fn follow_four(searcher: Searcher, piece: &[u8], all: usize, slice: &mut [u32]) -> Followed
-    requires { ⌜ Follows 4 searcher (now piece) all (now slice) ⌝ }
-    ensures { λ r. ⌜ Went searcher (now (piece .entry)) (now (slice .entry)) r (now (slice .exit)) ⌝ }
-{
-    follow(4, searcher, piece, all, slice)
 }
 
 pub fn feed(searcher: Searcher, piece: &[u8], slice: &mut [u32]) -> Fed
@@ -176,11 +153,7 @@ pub fn feed(searcher: Searcher, piece: &[u8], slice: &mut [u32]) -> Fed
     if slice.len() < all {
         return refused(searcher, 14, all as u64);
     }
-    let went = if k == 2 {
-        follow_two(searcher, piece, all, slice)
-    } else {
-        follow_four(searcher, piece, all, slice)
-    };
+    let went = follow(searcher, piece, all, slice);
     let progress = hear_run(
         code,
         table.sigma as u32,
@@ -190,20 +163,19 @@ pub fn feed(searcher: Searcher, piece: &[u8], slice: &mut [u32]) -> Fed
         went.at,
         all,
     );
-    let pattern = searcher.pattern;
     let answer = if progress.bad != 0 {
         Done::Refused(6, progress.first as u64)
     } else {
         Done::Yes
     };
+    let mut judge = judge;
+    judge.progress = progress;
+    let mut next = searcher;
+    next.judge = judge;
+    next.ends = went.ends;
     Fed {
         answer,
         hits: went.hits,
-        searcher: Searcher {
-            judge: Judge { roll, progress },
-            pattern,
-            length: searcher.length,
-            ends: went.ends,
-        },
+        searcher: next,
     }
 }

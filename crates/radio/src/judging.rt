@@ -10,19 +10,21 @@ use stopper::reading::read_symbol;
 use symbols::bits::per_byte;
 use symbols::symbol::get;
 ghost use mathlib.Core.Path.{_≡_};
+ghost use mathlib.Core.Bool.{cond};
 ghost use Prim.Native.Nat.{_≤_, _<_};
 ghost use lib.Dec.{T};
 ghost use lib.ListN.{length};
 ghost use Rattle.ground.specs.Paper.Runs.{run};
 ghost use Rattle.stopper.specs.Paper.Table.{goodCode};
 ghost use Rattle.symbols.specs.Paper.Symbols.{symbolsOf};
-ghost use Rattle.radio.specs.Paper.Judge.{flag, readerOf, heardAs, stainedBy, hears, hearsAll, judgeFor, judgeAfter};
+ghost use Rattle.radio.specs.Paper.Judge.{readerOf, heardAs, stainedBy, hears, hearsAll, judgeFor, judgeAfter};
 ghost use Rattle.radio.specs.Helpers.Steady.{Steady, Judges, Verdict};
 
-pub fn flag(yes: bool) -> u32
-    ensures { λ r. ⌜ r ≡ flag yes ⌝ }
+// The one or the other.
+pub fn either(yes: bool, a: u32, b: u32) -> u32
+    ensures { λ r. ⌜ r ≡ cond yes a b ⌝ }
 {
-    if yes { 1 } else { 0 }
+    if yes { a } else { b }
 }
 
 pub fn reader_of(p: Progress) -> Reader
@@ -72,12 +74,12 @@ pub fn heard(h: u32, p: Progress, step: Step) -> Progress
             read,
             count: p.count,
             first: p.first,
-            past: flag(r.past),
+            past: either(r.past, 1, 0),
             place: r.place,
             shorter: r.shorter,
             rows: r.rows,
             value: r.value,
-            bad: flag(h <= read),
+            bad: either(h <= read, 1, 0),
             stained: p.stained,
         },
     }

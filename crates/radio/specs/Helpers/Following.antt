@@ -34,10 +34,9 @@ pub record Ready (s : Searcher) : Type 0 where
   pub ends : s .ends < wholeBit (patternIn s)
 
 -- a piece of `all` symbols, and an entry for each
-pub record Follows (k : ℕ) (s : Searcher) (piece : List ℕ) (all : ℕ) (slice : List ℕ) : Type 0 where
-  pub width : k ≡ codeIn s .k
+pub record Follows (s : Searcher) (piece : List ℕ) (all : ℕ) (slice : List ℕ) : Type 0 where
   pub ready : Ready s
-  pub symbols : all ≡ length (symbolsOf k piece)
+  pub symbols : all ≡ length (symbolsOf (codeIn s .k) piece)
   pub room : all ≤ length slice
 
 -- the characters whose codewords end in a row of symbols

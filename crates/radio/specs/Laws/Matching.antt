@@ -4,12 +4,14 @@ use mathlib.Core.Bool.{Bool, true, false, cond}
 use mathlib.Core.List.{List, [], _∷_, _++_}
 use Prim.Native.Nat.{ℕ, suc, _+_, _-_, _*_, _/_, _%_, _^_, _≤_, _<_, min}
 use native.Mathlib.Nat.{add-zero, add-suc, suc-add, pow-suc, mod-lt, mod-le, mod-eq-of-lt, mod-eq-sub-mod}
+use native.Mathlib.Numerals.{add-one}
 use native.Mathlib.Omega.{arith}
 use borrow.Author.Tests.{eq-eqb, ne-eqb}
 use lib.Bits.{bitAnd, and-step, and-zero-r, and-le-l, and-le-r}
 use lib.Dec.{leb, eqb, leb→le, nleb→lt}
-use lib.ListN.{length, getD, set}
+use lib.ListN.{length, take, getD, set}
 use lib.Pow.{pow-pos, pow-mono}
+use lib.Seq.{take-suc, length-take-le}
 use Rattle.ground.specs.Laws.Rows.{tab-at, tab-set}
 use Rattle.ground.specs.Laws.Tests.{by-test}
 use Rattle.radio.specs.Paper.Matching.{grown, advanced, wholeBit, endsThere, matches, matchesAll, named}
@@ -141,3 +143,18 @@ module _ (p : List ℕ) (e n x : ℕ) where
   pub named-none : endsThere p e x ≡ false → named p e n (x ∷ []) ≡ []
   unfolding named
   named-none h = rw h
+
+-- one character more of a text
+module _ (p : List ℕ) (e : ℕ) (t : List ℕ) (i : ℕ) (h : i < length t) where
+  take-next : take (i + 1) t ≡ take i t ++ (getD t i 0 ∷ [])
+  take-next = rw (add-one i) (take-suc t i 0 h)
+
+  pub matches-next : matchesAll p e (take (i + 1) t) ≡ matches p (matchesAll p e (take i t)) (getD t i 0)
+  unfolding matchesAll
+  matches-next = ap (matchesAll p e) take-next ∙ matches-append p e (take i t) (getD t i 0 ∷ [])
+
+  pub named-next : (n : ℕ) → named p e n (take (i + 1) t) ≡ named p e n (take i t) ++ named p (matchesAll p e (take i t)) (n + i) (getD t i 0 ∷ [])
+  named-next n =
+      ap (named p e n) take-next
+      ∙ named-append p e n (take i t) (getD t i 0 ∷ [])
+      ∙ ap (λ (k : ℕ). named p e n (take i t) ++ named p (matchesAll p e (take i t)) (n + k) (getD t i 0 ∷ [])) (length-take-le i t (omega arith))

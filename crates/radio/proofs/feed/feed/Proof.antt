@@ -18,14 +18,14 @@ use Rattle.ground.specs.Laws.Limit.{limit-fits}
 use Rattle.ground.specs.declared.answers.Done.{Done}
 use Rattle.ground.specs.declared.answers.Done.the-variants.{Yes, Refused}
 use Rattle.stopper.specs.Laws.Table.{code-width, table-code, table-few}
-use Rattle.symbols.specs.Paper.Symbols.{per, bytesFor, symbolsOf}
+use Rattle.symbols.specs.Paper.Symbols.{per, bytesFor}
 use Rattle.symbols.specs.Helpers.Widths.{Width}
 use Rattle.symbols.specs.Laws.Width.{per-few}
 use Rattle.symbols.specs.Laws.Sizes.{bytesFor-mono, bytesFor-least}
 use Rattle.symbols.specs.Laws.Rows.{symbols-length}
 use Rattle.radio.specs.Paper.Judge.{hearsAll}
 use Rattle.radio.specs.Paper.Operations.{codeIn, keptSays, feedReads, Feeding}
-use Rattle.radio.specs.Helpers.Following.{Ready, Follows, Went, row}
+use Rattle.radio.specs.Helpers.Following.{Ready, Went, row}
 use Rattle.radio.specs.Laws.Judge.{all-steady}
 use Rattle.radio.specs.Laws.Operations.{kept-ready, feed-refused, feed-kept, feed-6, feed-5, feed-14, feed-accepted, feed-read}
 use borrow.Author.Needs.{needs}
@@ -95,48 +95,48 @@ accepts c =
 symbols-are : (c : tie.After-per-byte) → let a = root c .args in length (a .piece .now) * c .per-byte .result ≡ length (row (a .searcher) (a .piece .now))
 symbols-are c = let a = root c .args in all-is c ∙ sym (symbols-length (codeIn (a .searcher) .k) (a .piece .now))
 
-follows : (c : tie.Else3) (k : ℕ) → let a = root (c .before) .args in k ≡ codeIn (a .searcher) .k
-    → Follows k (a .searcher) (a .piece .now) (length (a .piece .now) * c .before .per-byte .result) (a .slice .now)
-follows c k e =
-    let a = root (c .before) .args in
-    record {
-      width = e;
-      ready = ready (going (fitted (c .before) .before));
-      symbols = symbols-are (c .before) ∙ ap (λ (n : ℕ). length (symbolsOf n (a .piece .now))) (sym e);
-      room = c .if3 .left;
-    }
+-- the symbols followed, and the hits written
+abbrev fit : tie.After-follow → tie.Else3
+fit c = c .before .before
 
-four : (c : tie.Else4) → 4 ≡ codeIn (root (c .before .before) .args .searcher) .k
-four c = ⊎-elim (λ e. absurd (c .if4 .left e)) sym (width (going (fitted (c .before .before) .before)))
+abbrev came-to : tie.After-follow → tie.Start
+came-to c = root (fit c .before)
 
-went : (c : tie.Joined4) → let a = root (c .before .before) .args in Went (a .searcher) (a .piece .now) (a .slice .now) (c .if4 .went) (c .if4 .slice)
-went c = ⊎-elim (λ w. rw (w .5, w .6) (w .2 .ensures)) (λ w. rw (w .5, w .6) (w .2 .ensures)) (c .if4 .came)
+abbrev after : tie.After-follow → List ℕ
+after c = c .follow .last .1 .1 .1 .0
 
-kept-length : (c : tie.Joined4) → length (c .if4 .slice) ≡ length (root (c .before .before) .args .slice .now)
-kept-length c = ⊎-elim (λ w. rw (w .5) (w .2 .kept .1 .1 .1 .0)) (λ w. rw (w .5) (w .2 .kept .1 .1 .1 .0)) (c .if4 .came)
+went : (c : tie.After-follow) → let a = came-to c .args in Went (a .searcher) (a .piece .now) (a .slice .now) (c .follow .result) (after c)
+went c = c .follow .ensures
 
 -- the rest of the piece judged
-rest : (c : tie.After-hear-run) → let j = c .before .before in let a = root (j .before .before) .args in let s = a .searcher in
-    c .hear-run .result ≡ hearsAll (codeIn s) (s .judge .roll .table .sigma) (s .judge .roll .h) (j .if4 .went .progress) (drop (j .if4 .went .at) (row s (a .piece .now)))
+abbrev followed : tie.After-hear-run → tie.After-follow
+followed c = c .before .before .before .before
+
+rest : (c : tie.After-hear-run) → let f = followed c in let a = came-to f .args in let s = a .searcher in
+    c .hear-run .result ≡ hearsAll (codeIn s) (s .judge .roll .table .sigma) (s .judge .roll .h) (f .follow .result .progress) (drop (f .follow .result .at) (row s (a .piece .now)))
 rest c =
-    let j = c .before .before in
-    let a = root (j .before .before) .args in
+    let f = followed c in
+    let a = came-to f .args in
     let s = a .searcher in
     let w : List ℕ = row s (a .piece .now) in
-    let at = j .if4 .went .at in
+    let at = f .follow .result .at in
     let e : run w at (length w) ≡ drop at w = take-all (length w - at) (drop at w) (le-of-eq (length-drop at w)) in
-    c .hear-run .ensures ∙ ap (hearsAll (codeIn s) (s .judge .roll .table .sigma) (s .judge .roll .h) (j .if4 .went .progress)) (ap (run w at) (symbols-are (j .before .before)) ∙ e)
+    c .hear-run .ensures ∙ ap (hearsAll (codeIn s) (s .judge .roll .table .sigma) (s .judge .roll .h) (f .follow .result .progress)) (ap (run w at) (symbols-are (fit f .before)) ∙ e)
 
 -- what is answered then
 feeding : (c : tie.After-hear-run) (answer : Done) → doneSays answer ≡ judged (refuse 6 (c .hear-run .result .first) (not (eqb (c .hear-run .result .bad) 0)) ∷ []) tt
-    → let j = c .before .before in let a = root (j .before .before) .args in let s = a .searcher in
+    → let f = followed c in let a = came-to f .args in let s = a .searcher in
     Feeding s (a .piece .now) (a .slice .now)
-    (record { answer = answer; hits = j .if4 .went .hits; searcher = record { judge = record { roll = s .judge .roll; progress = c .hear-run .result }; pattern = s .pattern; length = s .length; ends = j .if4 .went .ends } })
-    (j .if4 .slice)
+    (record {
+      answer = answer;
+      hits = f .follow .result .hits;
+      searcher = record { judge = record { roll = s .judge .roll; progress = c .hear-run .result }; pattern = s .pattern; length = s .length; ends = f .follow .result .ends };
+    })
+    (after f)
 feeding c answer e =
-    let j = c .before .before in
-    let a = root (j .before .before) .args in
-    feed-read (a .searcher) (a .piece .now) (a .slice .now) (went j) (accepts (j .before)) (rest c) answer e
+    let f = followed c in
+    let a = came-to f .args in
+    feed-read (a .searcher) (a .piece .now) (a .slice .now) (went f) (accepts (fit f)) (rest c) answer e
 
 returns : tie.Need-returns
 returns c =
@@ -190,20 +190,19 @@ returns-4 c =
     (feed-14 (a .searcher) (a .piece .now) (a .slice .now) (kept-yes (asked (g .before))) (g .if1 .left) (fits (fitted b)) (omega (arith, all-is b, t .if3 .taken)))
     (rw (← all-is b) (c .refused4 .ensures))
 
-follow-two-requires : tie.Need-follow-two-requires
-follow-two-requires c κs = follows (c .before .before) 2 (sym (c .before .if4 .taken))
-
-follow-four-requires : tie.Need-follow-four-requires
-follow-four-requires c κs = follows (c .before .before) 4 (four (c .before))
+follow-requires : tie.Need-follow-requires
+follow-requires c κs =
+    let e = c .before in
+    record { ready = ready (going (fitted (e .before) .before)); symbols = symbols-are (e .before); room = e .if3 .left }
 
 hear-run-requires : tie.Need-hear-run-requires
 hear-run-requires c κs =
-    let j = c .before in
-    let b = j .before .before in
+    let f = c .before .before .before in
+    let b = fit f .before in
     let g = going (fitted b .before) in
     let s = came g .args .searcher in
     let t = ready g .table in
-    let w = went j in (
+    let w = went f in (
       table-code _ t,
       table-few _ t,
       rw (w .progress) (all-steady (codeIn s) _ (s .judge .roll .h) (table-code _ t) (table-few _ t) (s .judge .progress) _ (ready g .steady)),
@@ -211,17 +210,10 @@ hear-run-requires c κs =
       le-of-eq (symbols-are b),
     )
 
-same-length : tie.Need-same-length
-same-length c = kept-length (c .before .before .before .before .before .before)
-
 returns-5 : tie.Need-returns-5
-returns-5 c = let r = c .before .before .before .before in feeding r (Refused 6 (r .hear-run .result .first)) (rw (ne-eqb _ _ (c .before .if5 .taken)))
-
-same-length-2 : tie.Need-same-length-2
-same-length-2 c = kept-length (c .before .before .before .before .before)
-
-returns-6 : tie.Need-returns-6
-returns-6 c = let r = c .before .before .before in feeding r Yes (rw (eq-eqb _ _ (c .if5 .left)))
+returns-5 c =
+    let r = c .before .before in
+    feeding r (c .if4 .answer) (⊎-elim (λ w. rw (w .2, ne-eqb _ _ (w .0 .taken))) (λ w. rw (w .1, eq-eqb _ _ (w .0 .left))) (c .if4 .came))
 
 pub feed-spec : {M : Type 1} → statement M
 feed-spec =
@@ -247,12 +239,9 @@ feed-spec =
     mul-all
     (λ c κs. search needs)
     returns-4
-    follow-two-requires
-    follow-four-requires
+    follow-requires
     (λ c. search needs)
     hear-run-requires
     (λ c. search needs)
-    same-length
-    returns-5
-    same-length-2
-    returns-6)
+    (λ c. search needs)
+    returns-5)

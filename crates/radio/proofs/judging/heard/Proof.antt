@@ -14,7 +14,7 @@ returns-2 c = rw (c .enum-told2 .given .1)
 
 returns-3 : tie.Need-returns-3
 unfolding heardAs
-returns-3 c = rw (c .before .before .before .step .given .1, c .before .flag .ensures, c .flag2 .ensures)
+returns-3 c = rw (c .before .before .before .step .given .1, c .before .either .ensures, c .either2 .ensures)
 
 pub heard-spec : {M : Type 1} → statement M
 heard-spec =
