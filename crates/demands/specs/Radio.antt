@@ -33,15 +33,15 @@ use Rattle.texts.specs.Laws.Hits.{Front, stands-front, front-stands, Rising, hi
 use Rattle.reading.specs.Paper.Reading.{isBad, firstBad}
 use Rattle.sound.specs.Paper.Roll.{reading, textOf, Sound}
 use Rattle.sound.specs.declared.records.Roll.{Roll}
-use Rattle.radio.specs.Paper.Judge.{judgeFor, judgeAfter, verdictRows, verdictSays}
+use Rattle.judge.specs.Paper.Judge.{judgeFor, judgeAfter, verdictRows, verdictSays}
 use Rattle.radio.specs.Paper.Operations.{startRows, startSays, searcherFor, Starting, codeIn, keptRows, keptSays, feedRows, feedReads, searcherAfter, hitsNamed, badRows, feedSays, feedHits, Feeding, finishSays, Finishing}
-use Rattle.radio.specs.Laws.Reading.{first-one}
-use Rattle.radio.specs.Laws.Judged.{judge-roll, judge-bad, judge-part, judge-whole, verdict-is}
+use Rattle.judge.specs.Laws.Reading.{first-one}
+use Rattle.judge.specs.Laws.Judged.{judge-roll, judge-bad, judge-part, judge-whole, verdict-is}
 use Rattle.radio.specs.Laws.Joined.{after-roll, after-none, hits-none, after-bad, hits-bad, after-append, hits-append, hits-so-far}
 use Rattle.radio.specs.Laws.Operations.{kept-table, kept-limited, kept-judge, feed-6, feed-5, feed-14, feed-accepted}
 use Rattle.radio.specs.Laws.Kept.{start-kept, kept-after, bytes-after}
-use Rattle.radio.specs.declared.records.Progress.{Progress}
-use Rattle.radio.specs.declared.records.Judge.{Judge}
+use Rattle.judge.specs.declared.records.Progress.{Progress}
+use Rattle.judge.specs.declared.records.Judge.{Judge}
 use Rattle.radio.specs.declared.records.Searcher.{Searcher}
 use Rattle.radio.specs.declared.start.Started.{Started}
 use Rattle.radio.specs.declared.feed.Fed.{Fed}

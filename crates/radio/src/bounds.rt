@@ -1,40 +1,15 @@
 // Any searcher may come: what start asks is asked of it again, and that its numbers are within their bounds.
-use crate::records::Judge;
 use crate::records::Searcher;
 use ground;
 use ground::answers::Done;
+use judge::bounds::judge_bounds;
 use stopper::table::good_table;
-use symbols::bits::place_in_byte;
 use texts::pattern::MOST_PATTERN;
 use texts::pattern::good_pattern;
 ghost use mathlib.Core.Path.{_≡_};
-ghost use Prim.Native.Nat.{_^_, _≤_, _<_};
-ghost use lib.Dec.{T, ltb};
-ghost use Rattle.stopper.specs.Paper.Table.{goodTable};
-ghost use Rattle.radio.specs.Paper.Judge.{judgeBounds};
+ghost use Prim.Native.Nat.{_^_};
+ghost use lib.Dec.{ltb};
 ghost use Rattle.radio.specs.Helpers.Kept.{Kept};
-
-// Whether a judge's reading state and counts are within their bounds.
-pub fn judge_bounds(judge: Judge) -> bool
-    requires { ⌜ T (goodTable (judge .roll .table)) ⌝ }
-    ensures { λ r. ⌜ r ≡ judgeBounds judge ⌝ }
-{
-    let roll = judge.roll;
-    let table = roll.table;
-    let code = table.code;
-    let k = code.k;
-    let p = judge.progress;
-    let state = (p.past <= 1)
-        & (p.place <= 2)
-        & (p.shorter <= 256)
-        & (p.rows <= 4096)
-        & (p.value <= 256)
-        & (p.bad <= 1)
-        & (p.stained <= 1);
-    let counts = (p.count <= p.first) & (p.first <= p.read) & (p.read <= roll.h);
-    let whole = place_in_byte(k, p.read as usize) == 0;
-    state & counts & ((p.bad == 1) | (p.read == roll.h) | whole)
-}
 
 // Whether a number has no more than so many bits.
 fn bits_within(x: u64, bits: u32) -> bool

@@ -1,16 +1,15 @@
 // A piece of a roll: the hits whose last symbol it brings.
 use crate::bounds::kept;
-use crate::codewords::AT_ONCE;
-use crate::codewords::read_stretch;
-use crate::judging::either;
-use crate::judging::hear_run;
-use crate::judging::reader_of;
 use crate::matching::mark_places;
 use crate::matching::name_hits;
-use crate::records::Judge;
-use crate::records::Progress;
 use crate::records::Searcher;
 use ground::answers::Done;
+use judge::judging::either;
+use judge::judging::hear_run;
+use judge::judging::reader_of;
+use judge::records::Progress;
+use stretches::codewords::AT_ONCE;
+use stretches::codewords::read_stretch;
 use symbols::bits::per_byte;
 use symbols::size::bytes_for;
 ghost use mathlib.Core.Path.{_≡_};

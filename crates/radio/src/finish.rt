@@ -1,8 +1,8 @@
 // The end of a roll that came in.
 use crate::bounds::kept;
-use crate::judging::verdict;
 use crate::records::Searcher;
 use ground::answers::Done;
+use judge::judging::verdict;
 ghost use Rattle.radio.specs.Paper.Operations.{Finishing};
 
 pub fn finish(searcher: Searcher) -> Done

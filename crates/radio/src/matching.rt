@@ -1,5 +1,6 @@
 // Which beginnings of a pattern end at a character, one bit for each.
-use crate::codewords::AT_ONCE;
+use stretches::codewords::AT_ONCE;
+use stretches::codewords::wide;
 use texts::pattern::MOST_PATTERN;
 ghost use mathlib.Core.Path.{_≡_};
 ghost use Prim.Native.Nat.{_+_, _*_, _^_, _≤_, _<_};
@@ -8,18 +9,12 @@ ghost use lib.ListN.{length, take};
 ghost use Rattle.ground.specs.Paper.Rows.{padded, zeros};
 ghost use Rattle.texts.specs.Paper.Hits.{mostPattern};
 ghost use Rattle.radio.specs.Helpers.Masks.{masksOf};
-ghost use Rattle.radio.specs.Helpers.Codewords.{Names, NamedAll};
+ghost use Rattle.radio.specs.Helpers.Naming.{Names, NamedAll};
 
 // The beginnings that end at the last character, and so many hits in all.
 pub struct Named {
     pub ends: u64,
     pub hits: usize,
-}
-
-pub fn wide(x: u8) -> usize
-    ensures { λ r. ⌜ (r ≡ x) × (r < 256) ⌝ }
-{
-    x as usize
 }
 
 // For each character the places of the pattern where it stands: bit j of entry b is 1 where character j is b. The entries are lent, all 0.

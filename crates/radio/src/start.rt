@@ -1,9 +1,9 @@
 // A searcher before the first piece.
-use crate::judging::judge_of;
 use crate::matching::kept_pattern;
 use crate::records::Searcher;
 use ground;
 use ground::answers::Done;
+use judge::judging::judge_of;
 use sound::records::Roll;
 use stopper::table::good_table;
 use texts::pattern::MOST_PATTERN;

@@ -6,8 +6,8 @@ use casebook::printed::end;
 use casebook::printed::number_out;
 use casebook::printed::roll_out;
 use casebook::printed::runs;
-use radio::records::Judge;
-use radio::records::Progress;
+use judge::records::Judge;
+use judge::records::Progress;
 use radio::records::Searcher;
 
 pub struct SearcherAt {

@@ -10,7 +10,7 @@ use Rattle.ground.specs.declared.answers.Done.{Done}
 use Rattle.ground.specs.declared.answers.Done.the-variants.{Yes, Refused}
 use Rattle.stopper.specs.Helpers.State.{stepped, nearer}
 use Rattle.texts.specs.Paper.Hits.{goodPattern}
-use Rattle.radio.specs.Paper.Judge.{heardAs, endedAs, stainedBy, hears, ends, hearsAll, ranksHeard, judgeAfter, verdictSays, judgeBounds}
+use Rattle.judge.specs.Paper.Judge.{heardAs, endedAs, stainedBy, hears, ends, hearsAll, ranksHeard, judgeAfter, verdictSays, judgeBounds}
 use Rattle.radio.specs.Paper.Matching.{grown, matchesAll, named}
 use Rattle.radio.specs.Paper.Operations.{startSays, searcherFor, Starting, inBounds, keptSays, feedReads, charactersHeard, searcherAfter, hitsNamed, feedSays, Feeding, finishSays, Finishing}
 use Rattle.radio.specs.declared.records.Searcher.{Searcher}

@@ -1,10 +1,10 @@
 -- The symbols of a piece followed as long as a codeword may still end well.
 use mathlib.Core.Path.{_≡_}
-use mathlib.Core.Bool.{false, _&&_}
-use mathlib.Core.List.{List, [], _++_, map}
+use mathlib.Core.Bool.{false}
+use mathlib.Core.List.{List, [], _++_}
 use Prim.Native.Nat.{ℕ, _+_, _^_, _≤_, _<_}
-use lib.Dec.{T, ltb, leb}
-use lib.ListN.{length, take, drop, getD}
+use lib.Dec.{T}
+use lib.ListN.{length, take, drop}
 use Rattle.ground.specs.Paper.Limit.{limit}
 use Rattle.stopper.specs.Paper.Table.{goodTable}
 use Rattle.stopper.specs.Helpers.State.{Small}
@@ -12,12 +12,12 @@ use Rattle.stopper.specs.declared.code.Code.{Code}
 use Rattle.stopper.specs.declared.reading.Reader.{Reader}
 use Rattle.symbols.specs.Paper.Symbols.{symbolsOf}
 use Rattle.texts.specs.Paper.Hits.{goodPattern, mostPattern}
-use Rattle.radio.specs.Paper.Judge.{flag, progress, hearsAll, ranksHeard}
+use Rattle.judge.specs.Paper.Judge.{progress, hearsAll, ranksHeard}
+use Rattle.judge.specs.Helpers.Steady.{Steady}
+use Rattle.judge.specs.declared.records.Progress.{Progress}
+use Rattle.stretches.specs.Helpers.Codewords.{charactersIn, badAt}
 use Rattle.radio.specs.Paper.Matching.{wholeBit, matchesAll, named}
 use Rattle.radio.specs.Paper.Operations.{codeIn, patternIn}
-use Rattle.radio.specs.Helpers.Steady.{Steady}
-use Rattle.radio.specs.Helpers.Masks.{masksOf}
-use Rattle.radio.specs.declared.records.Progress.{Progress}
 use Rattle.radio.specs.declared.records.Searcher.{Searcher}
 use Rattle.radio.specs.declared.feed.Followed.{Followed}
 
@@ -38,10 +38,6 @@ pub record Follows (s : Searcher) (piece : List ℕ) (all : ℕ) (slice : List �
   pub ready : Ready s
   pub symbols : all ≡ length (symbolsOf (codeIn s .k) piece)
   pub room : all ≤ length slice
-
--- the characters whose codewords end in a row of symbols
-abbrev pub charactersIn : Code → ℕ → List ℕ → ℕ → Progress → List ℕ → List ℕ
-charactersIn c σ places h p w = map (λ rank. getD places rank 0) (ranksHeard c σ h p w)
 
 -- the symbols of a piece, and the characters whose codewords end among its first n
 abbrev pub row : Searcher → List ℕ → List ℕ
@@ -70,10 +66,6 @@ pub record Went (s : Searcher) (piece slice : List ℕ) (r : Followed) (after : 
 abbrev pub followedNone : Progress → ℕ → Followed
 followedNone p bits = record { progress = p; ends = bits; at = 0; hits = 0 }
 
--- a codeword that is open at symbol h is bad
-abbrev pub badAt : ℕ → ℕ → ℕ → ℕ
-badAt h read first = flag (leb h read && ltb first read)
-
 -- i symbols of a row followed from the progress p and the beginnings `bits` on: no codeword was bad, and none has reached σ
 pub record Along (c : Code) (σ : ℕ) (places : List ℕ) (h : ℕ) (p : Progress) (pattern : List ℕ) (bits : ℕ) (row slice after : List ℕ) (ends : ℕ) (r : Reader)
     (count first hits i : ℕ) : Type 0 where
@@ -91,10 +83,3 @@ pub record Along (c : Code) (σ : ℕ) (places : List ℕ) (h : ℕ) (p : Progre
   pub leaves : after ≡ named pattern bits (p .count) (charactersIn c σ places h p (take i row)) ++ drop hits slice
   pub low : ends < wholeBit pattern
   pub ended : ends < 2 ^ count
-
--- the masks of a pattern, its bit and its length
-pub record Masked (masks : List ℕ) (whole long : ℕ) (pattern : List ℕ) : Type 0 where
-  pub entries : masks ≡ masksOf pattern
-  pub bit : whole ≡ wholeBit pattern
-  pub characters : long ≡ length pattern
-  pub some : 0 < length pattern

@@ -1,91 +1,39 @@
--- Symbols followed: one that ends a codeword, one that leaves it open, and where nothing ends well any more.
+-- Symbols followed along a row, a stretch at once, with the hits among its characters; and where nothing ends well any more.
 use mathlib.Core.Path.{_≡_, refl, sym, ap, ap₂, _∙_}
-use mathlib.Core.Bool.{Bool, true, false, _&&_}
-use mathlib.Core.List.{List, [], _∷_, _++_, map, map-append, append-nil}
-use Prim.Native.Nat.{ℕ, _+_, _*_, _^_, _≤_, _<_}
-use native.Mathlib.Nat.{add-zero}
+use mathlib.Core.Bool.{Bool, false, cond}
+use mathlib.Core.List.{List, [], _++_, map, map-append}
+use Prim.Native.Nat.{ℕ, _+_, _-_, _*_, _^_, _≤_, _<_}
+use native.Mathlib.Nat.{le-refl, add-zero}
 use native.Mathlib.Omega.{arith}
-use borrow.Author.Tests.{lt-leb}
 use lib.Bits.{bitAnd}
-use lib.Dec.{eqb}
-use lib.ListN.{length, take, drop, getD, drop-of-length-le}
+use lib.ListN.{length, take, drop, getD, length-append, drop-of-length-le}
+use lib.Seq.{take-add, length-take-le}
+use Rattle.ground.specs.Paper.Runs.{run, over}
 use Rattle.ground.specs.Laws.Rows.{tab-at}
-use Rattle.stopper.specs.Helpers.State.{Small, stepped}
+use Rattle.ground.specs.Laws.Runs.{over-after, run-length}
+use Rattle.ground.specs.Laws.Tests.{by-value}
+use Rattle.stopper.specs.Helpers.State.{Small}
 use Rattle.stopper.specs.declared.code.Code.{Code}
 use Rattle.stopper.specs.declared.reading.Reader.{Reader}
-use Rattle.stopper.specs.declared.reading.Step.{Step}
-use Rattle.stopper.specs.declared.reading.Step.the-variants.{Bad, Open}
-use Rattle.radio.specs.Paper.Judge.{flag, readerOf, progress, heardAs, endedAs, hears, ends, hearsAll, ranksHeard}
+use Rattle.judge.specs.Paper.Judge.{readerOf, progress, hearsAll, ranksHeard}
+use Rattle.judge.specs.Laws.Judge.{hears-append, ranks-append, full-silent}
+use Rattle.judge.specs.declared.records.Progress.{Progress}
+use Rattle.stretches.specs.Helpers.Codewords.{charactersIn, badAt, Through, Silent}
+use Rattle.stretches.specs.Laws.Symbol.{bad-not}
 use Rattle.radio.specs.Paper.Matching.{advanced, wholeBit, matchesAll, named}
 use Rattle.radio.specs.Paper.Operations.{codeIn, patternIn}
 use Rattle.radio.specs.Helpers.Masks.{maskOf, masksOf}
-use Rattle.radio.specs.Helpers.Following.{row, followedNone, badAt, charactersIn, Along, Went}
-use Rattle.radio.specs.Laws.Judge.{hears-symbol, ends-symbol, hears-append, ranks-append, bad-silent, past-silent, full-silent}
-use Rattle.radio.specs.Laws.Matching.{named-few, mask-grown}
-use Rattle.radio.specs.declared.records.Progress.{Progress}
+use Rattle.radio.specs.Helpers.Naming.{NamedIn}
+use Rattle.radio.specs.Helpers.Following.{row, followedNone, Along, Went}
+use Rattle.radio.specs.Laws.Matching.{all-low, all-count, matches-append, named-append, named-few, mask-grown}
 use Rattle.radio.specs.declared.records.Searcher.{Searcher}
-
-pub and-true : (b : Bool) → (b && true) ≡ b
-and-true true = refl
-and-true false = refl
-
-pub and-false : (b : Bool) → (b && false) ≡ false
-and-false true = refl
-and-false false = refl
-
-flag-is : (b : Bool) → eqb (flag b) 1 ≡ b
-flag-is true = refl
-flag-is false = refl
-
--- the reading state of a progress is the one that was put into it
-pub reader-is : (read count first : ℕ) (r : Reader) (bad stained : ℕ) → readerOf (progress read count first r bad stained) ≡ r
-reader-is read count first r bad stained =
-    ap (λ (b : Bool). record { past = b; place = r .place; shorter = r .shorter; rows = r .rows; value = r .value }) (flag-is (r .past))
+use Rattle.radio.specs.declared.matching.Named.{Named}
 
 -- the record of a codeword that has not reached σ
 pub progress-is : (read count first : ℕ) (r : Reader) (stained : ℕ) {a b : ℕ} → r .past ≡ false → a ≡ b
     → record { read = read; count = count; first = first; past = 0; place = r .place; shorter = r .shorter; rows = r .rows; value = r .value; bad = a; stained = stained }
     ≡ progress read count first r b stained
 progress-is read count first r stained p e = rw (p, e)
-
-module _ (c : Code) (σ h : ℕ) where
-  -- no codeword is bad before symbol h
-  pub bad-not : (read first : ℕ) → read < h → badAt h read first ≡ 0
-  bad-not read first l = rw (lt-leb h read l)
-
-  -- one symbol more, where none was bad
-  module _ (read count first : ℕ) (r : Reader) (stained y : ℕ) (l : read < h) where
-    abbrev here : Progress
-    here = progress read count first r (badAt h read first) stained
-
-    one-heard : (s : Step) → stepped c σ r y ≡ s → hears c σ h here y ≡ heardAs h here s
-    one-heard s e = hears-symbol c σ h here y (bad-not read first l) l ∙ ap (heardAs h here) (ap (λ (x : Reader). stepped c σ x y) (reader-is read count first r (badAt h read first) stained) ∙ e)
-
-    one-ended : (s : Step) → stepped c σ r y ≡ s → ends c σ h here y ≡ endedAs s
-    one-ended s e = ends-symbol c σ h here y (bad-not read first l) l ∙ ap endedAs (ap (λ (x : Reader). stepped c σ x y) (reader-is read count first r (badAt h read first) stained) ∙ e)
-
-    -- behind a row of symbols
-    module _ (q : Progress) (done : List ℕ) (e : hearsAll c σ h q done ≡ here) (s : Step) (f : stepped c σ r y ≡ s) where
-      pub heard-after : hearsAll c σ h q (done ++ (y ∷ [])) ≡ heardAs h here s
-      unfolding hearsAll
-      heard-after = hears-append c σ h q done (y ∷ []) ∙ ap (λ (p : Progress). hears c σ h p y) e ∙ one-heard s f
-
-      pub told-after : (places : List ℕ) → charactersIn c σ places h q (done ++ (y ∷ [])) ≡ charactersIn c σ places h q done ++ map (λ rank. getD places rank 0) (endedAs s)
-      unfolding ranksHeard
-      told-after places =
-          ap (map (λ rank. getD places rank 0))
-          (ranks-append c σ h q done (y ∷ []) ∙ ap (λ (p : Progress). ranksHeard c σ h q done ++ ranksHeard c σ h p (y ∷ [])) e
-          ∙ ap (λ (l : List ℕ). ranksHeard c σ h q done ++ l) (append-nil (ends c σ h here y) ∙ one-ended s f))
-          ∙ map-append (λ rank. getD places rank 0) (ranksHeard c σ h q done) (endedAs s)
-
-    -- nothing ends well from here on: this symbol ends a bad codeword, or the codeword reaches σ with it
-    pub bad-here : stepped c σ r y ≡ Bad → (w : List ℕ) → ranksHeard c σ h here (y ∷ w) ≡ []
-    unfolding ranksHeard heardAs endedAs
-    bad-here e w = rw (one-ended Bad e, one-heard Bad e) (bad-silent c σ h _ w (λ z. omega arith))
-
-    pub past-here : {on : Reader} → stepped c σ r y ≡ Open on → on .past ≡ true → (w : List ℕ) → ranksHeard c σ h here (y ∷ w) ≡ []
-    unfolding ranksHeard heardAs endedAs
-    past-here {on} e p w = rw (one-ended (Open on) e, one-heard (Open on) e) (past-silent c σ h _ w (ap flag p))
 
 -- ---- along a row
 
@@ -136,6 +84,86 @@ module _ (c : Code) (σ : ℕ) (places : List ℕ) (h : ℕ) (p : Progress) (pat
   -- no more hits than symbols
   pub hits-few : {after : List ℕ} {e : ℕ} {r : Reader} {count first hits i : ℕ} → Along c σ places h p pattern bits row slice after e r count first hits i → hits ≤ i
   hits-few {i = i} z = omega (arith, z .listed, named-few pattern bits (p .count) (text i), z .few)
+
+  -- ---- a stretch at once
+
+  module _ {after : List ℕ} {e : ℕ} {r : Reader} {count first hits i : ℕ} (z : Along c σ places h p pattern bits row slice after e r count first hits i) (l : p .read + i < h) where
+    abbrev here : Progress
+    here = progress (p .read + i) count first r 0 (p .stained)
+
+    heard-here : hearsAll c σ h p (take i row) ≡ here
+    heard-here = z .heard ∙ ap (λ (bad : ℕ). progress (p .read + i) count first r bad (p .stained)) (bad-not c σ h (p .read + i) first l)
+
+    module _ {to : ℕ} (on : i ≤ to) (upto : p .read + to ≤ h) (inside : to ≤ length row) (room : to ≤ length slice)
+        {characters : List ℕ} {r′ : Reader} {ended : Bool} (w : Through c σ places r (run row i to) characters r′ ended) {x : Named} {after′ : List ℕ}
+        (m : NamedIn pattern characters count e after hits x after′) where
+      length-run : i + length (run row i to) ≡ to
+      length-run = run-length row i to on inside
+
+      row-on : take to row ≡ take i row ++ run row i to
+      row-on = let n : i + (to - i) ≡ to = omega arith in ap (λ (k : ℕ). take k row) (sym n) ∙ take-add i (to - i) row
+
+      text-on : text to ≡ text i ++ characters
+      text-on =
+          ap (charactersIn c σ places h p) row-on
+          ∙ ap (map (λ rank. getD places rank 0)) (ranks-append c σ h p (take i row) (run row i to))
+          ∙ map-append (λ rank. getD places rank 0) (ranksHeard c σ h p (take i row)) _
+          ∙ ap (λ (t : List ℕ). text i ++ t)
+          (ap (λ (q : Progress). charactersIn c σ places h q (run row i to)) heard-here ∙ w .told h (p .read + i) count first (p .stained) (z .started) l (omega (arith, length-run)))
+
+      length-on : length (text to) ≡ length (text i) + length characters
+      length-on = ap length text-on ∙ length-append (text i) characters
+
+      named-on : named pattern bits (p .count) (text to) ≡ named pattern bits (p .count) (text i) ++ named pattern e count characters
+      named-on =
+          ap (named pattern bits (p .count)) text-on ∙ named-append pattern bits (p .count) (text i) characters
+          ∙ ap₂ (λ (x n : ℕ). named pattern bits (p .count) (text i) ++ named pattern x n characters) (sym (z .matched)) (sym (z .counts))
+
+      hits-on : x .hits ≤ length slice
+      hits-on = omega (arith, m .hits, z .listed, z .few, named-few pattern bits (p .count) (text i), named-few pattern e count characters, w .few, length-run)
+
+      abbrev start : ℕ
+      start = cond ended (p .read + to) first
+
+      -- a codeword that ends with the last symbol, or the one that was open
+      start-within : (count + length characters ≤ start) × (start ≤ p .read + to)
+      start-within =
+          by-value ended
+          (λ e. rw e (omega (arith, z .counted, z .started, w .few, length-run), le-refl _))
+          (λ e. rw e (omega (arith, z .counted, w .none e), omega (arith, z .started)))
+
+      pub along-on : Along c σ places h p pattern bits row slice after′ (x .ends) r′ (count + length characters) start (x .hits) to
+      along-on =
+          let n : p .read + i + length (run row i to) ≡ p .read + to = omega (arith, length-run) in
+          record {
+            upto = upto;
+            inside = inside;
+            going = w .going;
+            small = w .small;
+            counted = start-within .0;
+            started = start-within .1;
+            heard = ap (hearsAll c σ h p) row-on ∙ hears-append c σ h p (take i row) (run row i to) ∙ ap (λ (q : Progress). hearsAll c σ h q (run row i to)) heard-here
+                ∙ w .heard h (p .read + i) count first (p .stained) (z .started) l (omega (arith, length-run)) ∙ rw n;
+            few = omega (arith, length-on, z .few, w .few, length-run);
+            counts = omega (arith, length-on, z .counts);
+            matched = m .ends ∙ ap (λ (x : ℕ). matchesAll pattern x characters) (z .matched) ∙ sym (ap (matchesAll pattern bits) text-on ∙ matches-append pattern bits (text i) characters);
+            listed = rw (named-on, length-append) (omega (arith, m .hits, z .listed));
+            leaves = m .leaves ∙ ap (λ (l : List ℕ). over l hits (named pattern e count characters) (x .hits)) (z .leaves)
+                ∙ over-after slice 0 hits (x .hits) (named pattern bits (p .count) (text i)) (named pattern e count characters) (omega (arith, z .listed)) (omega (arith, m .hits)) hits-on
+                ∙ ap (λ (l : List ℕ). l ++ drop (x .hits) slice) (sym named-on);
+            low = rw (m .ends) (all-low pattern e characters (z .low));
+            ended = rw (m .ends) (all-count pattern e count characters (z .ended));
+          }
+
+    -- and where no codeword ends well any more
+    pub along-silent : Silent c σ r (drop i row) → ranksHeard c σ h (progress (p .read + i) count first r (badAt h (p .read + i) first) (p .stained)) (drop i row) ≡ []
+    along-silent q =
+        ap (λ (bad : ℕ). ranksHeard c σ h (progress (p .read + i) count first r bad (p .stained)) (drop i row)) (bad-not c σ h (p .read + i) first l)
+        ∙ q h (p .read + i) count first (p .stained) l
+
+-- what is passed is so many characters long
+pub characters-length : (text : List ℕ) (n : ℕ) → length text ≡ 256 → n ≤ 256 → length (take n text) ≡ n
+characters-length text n e h = length-take-le n text (omega arith)
 
 -- ---- masks
 

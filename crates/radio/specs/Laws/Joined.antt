@@ -14,14 +14,14 @@ use Rattle.texts.specs.Paper.Hits.{hits, mostPattern}
 use Rattle.reading.specs.Paper.Reading.{ranksRead}
 use Rattle.sound.specs.Paper.Roll.{reading, textOf}
 use Rattle.sound.specs.declared.records.Roll.{Roll}
-use Rattle.radio.specs.Paper.Judge.{hearsAll, ranksHeard, judgeAfter}
+use Rattle.judge.specs.Paper.Judge.{hearsAll, ranksHeard, judgeAfter}
 use Rattle.radio.specs.Paper.Matching.{matchesAll, named}
 use Rattle.radio.specs.Paper.Operations.{searcherFor, patternIn, codeIn, charactersHeard, searcherAfter, hitsNamed}
-use Rattle.radio.specs.Laws.Judge.{ranks-append, bad-all, bad-silent, count-all}
+use Rattle.judge.specs.Laws.Judge.{ranks-append, bad-all, bad-silent, count-all}
 use Rattle.radio.specs.Laws.Matching.{matches-append, named-append}
 use Rattle.radio.specs.Laws.Named.{named-hits}
-use Rattle.radio.specs.Laws.Judged.{judge-append, judge-ranks}
-use Rattle.radio.specs.declared.records.Judge.{Judge}
+use Rattle.judge.specs.Laws.Judged.{judge-append, judge-ranks}
+use Rattle.judge.specs.declared.records.Judge.{Judge}
 use Rattle.radio.specs.declared.records.Searcher.{Searcher}
 
 module _ (s : Searcher) where

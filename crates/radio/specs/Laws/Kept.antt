@@ -27,18 +27,18 @@ use Rattle.symbols.specs.Laws.Rows.{symbols-length}
 use Rattle.texts.specs.Paper.Hits.{goodPattern}
 use Rattle.texts.specs.Laws.Patterns.{pattern-most}
 use Rattle.sound.specs.declared.records.Roll.{Roll}
-use Rattle.radio.specs.Paper.Judge.{flag, readerOf, heardAs, stainedBy, hears, hearsAll, judgeFor, judgeBounds, judgeAfter}
+use Rattle.judge.specs.Paper.Judge.{flag, readerOf, heardAs, stainedBy, hears, hearsAll, judgeFor, judgeBounds, judgeAfter}
 use Rattle.radio.specs.Paper.Matching.{wholeBit}
 use Rattle.radio.specs.Paper.Operations.{startRows, startSays, searcherFor, patternIn, codeIn, inBounds, keptSays, feedRows, feedReads, charactersHeard, searcherAfter}
-use Rattle.radio.specs.Helpers.Steady.{Steady}
+use Rattle.judge.specs.Helpers.Steady.{Steady}
 use Rattle.radio.specs.Helpers.Following.{Ready}
-use Rattle.radio.specs.Laws.Judge.{by-hears, hears-symbol, bad-all, all-steady}
+use Rattle.judge.specs.Laws.Judge.{by-hears, hears-symbol, bad-all, all-steady}
 use Rattle.radio.specs.Laws.Matching.{all-low, all-count}
-use Rattle.radio.specs.Laws.Reading.{begun, unused}
+use Rattle.judge.specs.Laws.Reading.{begun, unused}
 use Rattle.radio.specs.Laws.Joined.{after-count}
 use Rattle.radio.specs.Laws.Operations.{kept-accepted, kept-stained, kept-whole, kept-ready}
-use Rattle.radio.specs.declared.records.Progress.{Progress}
-use Rattle.radio.specs.declared.records.Judge.{Judge}
+use Rattle.judge.specs.declared.records.Progress.{Progress}
+use Rattle.judge.specs.declared.records.Judge.{Judge}
 use Rattle.radio.specs.declared.records.Searcher.{Searcher}
 
 -- ---- the marks are 0 or 1

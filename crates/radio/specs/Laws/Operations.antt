@@ -19,15 +19,15 @@ use Rattle.stopper.specs.Paper.Table.{goodTable}
 use Rattle.symbols.specs.Paper.Symbols.{per, bytesFor}
 use Rattle.texts.specs.Paper.Hits.{goodPattern, mostPattern}
 use Rattle.sound.specs.declared.records.Roll.{Roll}
-use Rattle.radio.specs.Paper.Judge.{hearsAll, ranksHeard, judgeBounds, judgeAfter}
+use Rattle.judge.specs.Paper.Judge.{hearsAll, ranksHeard, judgeBounds, judgeAfter}
 use Rattle.radio.specs.Paper.Matching.{wholeBit, named}
 use Rattle.radio.specs.Paper.Operations.{startSays, searcherFor, Starting, patternIn, codeIn, inBounds, keptRows, keptSays, feedReads, charactersHeard, searcherAfter, hitsNamed, feedSays, Feeding}
-use Rattle.radio.specs.Helpers.Steady.{Steady}
+use Rattle.judge.specs.Helpers.Steady.{Steady}
 use Rattle.radio.specs.Helpers.Kept.{refusedStart, refusedFed}
 use Rattle.radio.specs.Helpers.Following.{Ready, row, heardUpto, charactersUpto, namedUpto, Went}
-use Rattle.radio.specs.Laws.Judge.{hears-append, ranks-append}
-use Rattle.radio.specs.declared.records.Progress.{Progress}
-use Rattle.radio.specs.declared.records.Judge.{Judge}
+use Rattle.judge.specs.Laws.Judge.{hears-append, ranks-append}
+use Rattle.judge.specs.declared.records.Progress.{Progress}
+use Rattle.judge.specs.declared.records.Judge.{Judge}
 use Rattle.radio.specs.declared.records.Searcher.{Searcher}
 use Rattle.radio.specs.declared.start.Started.{Started}
 use Rattle.radio.specs.declared.feed.Fed.{Fed}

@@ -15,9 +15,9 @@ use Rattle.stopper.specs.declared.code.Code.{Code}
 use Rattle.symbols.specs.Paper.Symbols.{per, bytesFor, symbolsOf}
 use Rattle.texts.specs.Paper.Hits.{goodPattern, mostPattern}
 use Rattle.sound.specs.declared.records.Roll.{Roll}
-use Rattle.radio.specs.Paper.Judge.{judgeFor, judgeAfter, judgeBounds, ranksHeard, verdictSays}
+use Rattle.judge.specs.Paper.Judge.{judgeFor, judgeAfter, judgeBounds, ranksHeard, verdictSays}
 use Rattle.radio.specs.Paper.Matching.{wholeBit, matchesAll, named}
-use Rattle.radio.specs.declared.records.Progress.{Progress}
+use Rattle.judge.specs.declared.records.Progress.{Progress}
 use Rattle.radio.specs.declared.records.Searcher.{Searcher}
 use Rattle.radio.specs.declared.start.Started.{Started}
 use Rattle.radio.specs.declared.feed.Fed.{Fed}

@@ -12,7 +12,7 @@ use Rattle.ground.specs.Laws.Tests.{true-yes}
 use Rattle.stopper.specs.Paper.Table.{goodTable}
 use Rattle.texts.specs.Paper.Hits.{goodPattern, mostPattern}
 use Rattle.texts.specs.Laws.Patterns.{pattern-least}
-use Rattle.radio.specs.Paper.Judge.{judgeBounds}
+use Rattle.judge.specs.Paper.Judge.{judgeBounds}
 use Rattle.radio.specs.Paper.Matching.{wholeBit}
 use Rattle.radio.specs.Paper.Operations.{patternIn, inBounds}
 use Rattle.radio.specs.declared.records.Searcher.{Searcher}

@@ -23,10 +23,10 @@ use Rattle.symbols.specs.Helpers.Widths.{Width}
 use Rattle.symbols.specs.Laws.Width.{per-few}
 use Rattle.symbols.specs.Laws.Sizes.{bytesFor-mono, bytesFor-least}
 use Rattle.symbols.specs.Laws.Rows.{symbols-length}
-use Rattle.radio.specs.Paper.Judge.{hearsAll}
+use Rattle.judge.specs.Paper.Judge.{hearsAll}
 use Rattle.radio.specs.Paper.Operations.{codeIn, keptSays, feedReads, Feeding}
 use Rattle.radio.specs.Helpers.Following.{Ready, Went, row}
-use Rattle.radio.specs.Laws.Judge.{all-steady}
+use Rattle.judge.specs.Laws.Judge.{all-steady}
 use Rattle.radio.specs.Laws.Operations.{kept-ready, feed-refused, feed-kept, feed-6, feed-5, feed-14, feed-accepted, feed-read}
 use borrow.Author.Needs.{needs}
 use Rattle.radio.proofs.feed.feed.Statement.{statement}

@@ -6,6 +6,7 @@ use Prim.Native.Nat.{ℕ, _+_, _-_, _*_, _%_, _^_, _≤_, _<_}
 use native.Mathlib.Nat.{one-mul}
 use native.Mathlib.Omega.{arith}
 use borrow.Author.Needs.{needs}
+use borrow.Author.Tests.{not-true, not-false}
 use lib.Pow.{shl-exact}
 use lib.Dec.{T}
 use lib.ListN.{length, drop}
@@ -13,15 +14,17 @@ use lib.Seq.{length-take-le}
 use Rattle.ground.specs.Paper.Rows.{zeros}
 use Rattle.ground.specs.Laws.Limit.{limit-fits}
 use Rattle.ground.specs.Laws.Runs.{run-length}
+use Rattle.ground.specs.Laws.Tests.{true-yes}
 use Rattle.stopper.specs.Laws.Table.{table-code, table-few}
 use Rattle.symbols.specs.Paper.Symbols.{symbolsOf}
 use Rattle.texts.specs.Laws.Patterns.{pattern-least, pattern-most}
-use Rattle.radio.specs.Paper.Judge.{progress, ranksHeard}
+use Rattle.judge.specs.Paper.Judge.{progress, ranksHeard}
+use Rattle.judge.specs.Laws.Judge.{past-silent, full-silent}
+use Rattle.stretches.specs.Helpers.Codewords.{badAt}
 use Rattle.radio.specs.Paper.Operations.{codeIn, patternIn}
-use Rattle.radio.specs.Helpers.Following.{row, badAt, Along, Masked}
-use Rattle.radio.specs.Laws.Judge.{past-silent, full-silent}
-use Rattle.radio.specs.Laws.Following.{progress-is, along-start, hits-few, went-none, along-went, silent-piece, silent-roll}
-use Rattle.radio.specs.Laws.Codewords.{not-false, not-true, along-on, along-silent, characters-length}
+use Rattle.radio.specs.Helpers.Naming.{Masked}
+use Rattle.radio.specs.Helpers.Following.{row, Along}
+use Rattle.radio.specs.Laws.Following.{progress-is, along-start, hits-few, along-on, along-silent, characters-length, went-none, along-went, silent-piece, silent-roll}
 use Rattle.radio.specs.declared.records.Searcher.{Searcher}
 use Rattle.radio.proofs.feed.follow.Statement.{statement}
 use Rattle.radio.proofs.feed.follow.Tie as tie
@@ -105,7 +108,7 @@ abbrev turn : tie.Else4 Inv-loop μ-loop → tie.In-loop Inv-loop μ-loop
 turn c = c .before .before .before .before .before .before .before
 
 yes-going : (c : tie.Else4 Inv-loop μ-loop) → T (c .before .before .before .read-stretch .result .going)
-yes-going c = not-false (c .before .before .before .read-stretch .result .going) (c .if4 .left)
+yes-going c = true-yes _ (not-false (c .before .before .before .read-stretch .result .going) (c .if4 .left))
 
 -- the text after it
 abbrev text : tie.Else4 Inv-loop μ-loop → List ℕ

@@ -10,8 +10,7 @@ use lib.ListN.{length, take, getD, set, length-append, length-set}
 use lib.Pow.{pow-mono}
 use Rattle.ground.specs.Laws.Runs.{over-none, over-more}
 use Rattle.radio.specs.Paper.Matching.{advanced, wholeBit, matches, matchesAll, named}
-use Rattle.radio.specs.Helpers.Following.{Masked}
-use Rattle.radio.specs.Helpers.Codewords.{NamedIn}
+use Rattle.radio.specs.Helpers.Naming.{Masked, NamedIn}
 use Rattle.radio.specs.Laws.Matching.{grown-count, matches-low, hit-fits, hit-none, hit-rest, named-hit, named-none, matches-next, named-next}
 use Rattle.radio.specs.Laws.Following.{advanced-is}
 use Rattle.radio.proofs.matching.name_hits.Statement.{statement}

@@ -1,0 +1,2 @@
+-- What helpers ask and answer. No promise of an operation speaks of it.
+pub mod Codewords

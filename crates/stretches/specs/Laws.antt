@@ -1,0 +1,3 @@
+-- What is proved of the definitions, by subject: it needs no belief, and crates above may cite it.
+pub mod Symbol
+pub mod Codewords
