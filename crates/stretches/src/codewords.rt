@@ -9,6 +9,9 @@ use stopper::reading::Reader;
 use stopper::reading::Step;
 use stopper::reading::opening;
 use stopper::reading::read_symbol;
+use symbols::bits::byte_of;
+use symbols::bits::cut_out;
+use symbols::bits::place_in_byte;
 use symbols::symbol::get;
 ghost use mathlib.Core.Path.{_≡_};
 ghost use Prim.Native.Nat.{_≤_, _<_};
@@ -17,7 +20,8 @@ ghost use lib.ListN.{length};
 ghost use Rattle.stopper.specs.Paper.Table.{goodCode};
 ghost use Rattle.stopper.specs.Helpers.State.{opened};
 ghost use Rattle.symbols.specs.Paper.Symbols.{symbolsOf};
-ghost use Rattle.stretches.specs.Helpers.Codewords.{roleOf, RolesOf, Passes, PassedAll, PassedSome, Reads, ReadStretch};
+ghost use Rattle.symbols.specs.Helpers.Widths.{Width};
+ghost use Rattle.stretches.specs.Helpers.Codewords.{roleOf, RolesOf, LaidOut, Passes, PassedAll, PassedSome, Reads, ReadStretch};
 
 // So many symbols are passed at once, at most.
 pub const AT_ONCE: usize = 256;
@@ -38,7 +42,7 @@ pub struct Roles {
     pub stops: [u32; 16],
 }
 
-// Whether good codewords were passed, up to symbol `to` where the last of them ends, and how many.
+// Whether good codewords were passed, up to symbol `to` where the last of them ends, and how many. If not, they may be up to `to`.
 pub struct Passed {
     pub whole: bool,
     pub to: usize,
@@ -105,17 +109,60 @@ fn roles_of(s: u32, c: u32) -> Roles
     }
 }
 
-// The last place up to `to` where a stopper lies just before, or `from`.
-fn last_end(code: Code, piece: &[u8], from: usize, to: usize) -> usize
-    requires { ⌜ T (goodCode code) × (from ≤ to) × (to ≤ length (symbolsOf (code .k) (now piece))) ⌝ }
-    ensures { λ r. ⌜ (from ≤ r) × (r ≤ to) ⌝ }
+// The symbols of the bytes from byte `first` on, one a place, as many as the row takes; so many are laid out.
+fn lay_twos(piece: &[u8], first: usize, row: &mut [u8]) -> usize
+    requires { ⌜ (first ≤ length (now piece)) × (length (now row) ≡ 256) ⌝ }
+    ensures { λ r. ⌜ LaidOut 2 (now (piece .entry)) first r (now (row .exit)) ⌝ }
 {
-    let k = code.k;
-    let s = stoppers_at(code, 0);
+    let left = piece.len() - first;
+    let n = if left < 64 { left } else { 64 };
+    let mut j: usize = 0;
+    while j < n {
+        let b = piece[first + j];
+        row[4 * j] = cut_out(b, 2, 6);
+        row[4 * j + 1] = cut_out(b, 2, 4);
+        row[4 * j + 2] = cut_out(b, 2, 2);
+        row[4 * j + 3] = cut_out(b, 2, 0);
+        j += 1;
+    }
+    4 * n
+}
+
+fn lay_fours(piece: &[u8], first: usize, row: &mut [u8]) -> usize
+    requires { ⌜ (first ≤ length (now piece)) × (length (now row) ≡ 256) ⌝ }
+    ensures { λ r. ⌜ LaidOut 4 (now (piece .entry)) first r (now (row .exit)) ⌝ }
+{
+    let left = piece.len() - first;
+    let n = if left < 128 { left } else { 128 };
+    let mut j: usize = 0;
+    while j < n {
+        let b = piece[first + j];
+        row[2 * j] = cut_out(b, 4, 4);
+        row[2 * j + 1] = cut_out(b, 4, 0);
+        j += 1;
+    }
+    2 * n
+}
+
+fn lay_out(k: u8, piece: &[u8], first: usize, row: &mut [u8]) -> usize
+    requires { ⌜ (Width k) × (first ≤ length (now piece)) × (length (now row) ≡ 256) ⌝ }
+    ensures { λ r. ⌜ LaidOut k (now (piece .entry)) first r (now (row .exit)) ⌝ }
+{
+    if k == 2 {
+        return lay_twos(piece, first, row);
+    }
+    lay_fours(piece, first, row)
+}
+
+// The last place of a row up to `to` where a stopper lies just before, or `from`.
+fn last_end(s: u32, row: &[u8], from: usize, to: usize) -> usize
+    requires { ⌜ to ≤ length (now row) ⌝ }
+    ensures { λ r. ⌜ r ≤ to ⌝ }
+{
     let mut end = to;
     while from < end {
-        let y = get(k, piece, end - 1);
-        if (y as u32) < s {
+        let y = wide(row[end - 1]);
+        if y < s as usize {
             return end;
         }
         end -= 1;
@@ -123,20 +170,19 @@ fn last_end(code: Code, piece: &[u8], from: usize, to: usize) -> usize
     end
 }
 
-// The symbols from `from` to `to`, the characters of their codewords to the text.
+// The symbols of a row from `from` to `to`, the characters of their codewords to the text.
 fn pass_all(
     code: Code,
     sigma: u32,
     places: &[u8; 256],
-    piece: &[u8],
+    row: &[u8],
     from: usize,
     to: usize,
     text: &mut [u8],
 ) -> Passed
-    requires { ⌜ Passes code sigma (now piece) from to (now text) ⌝ }
-    ensures { λ r. ⌜ PassedAll code sigma (now (places .entry)) (now (piece .entry)) from to r (now (text .exit)) ⌝ }
+    requires { ⌜ Passes code sigma (now row) from to (now text) ⌝ }
+    ensures { λ r. ⌜ PassedAll code sigma (now (places .entry)) (now (row .entry)) from to r (now (text .exit)) ⌝ }
 {
-    let k = code.k;
     let s = stoppers_at(code, 0);
     let c = base_of(code) - s;
     let roles = roles_of(s, c);
@@ -148,12 +194,12 @@ fn pass_all(
     let mut n: usize = 0;
     let mut i = from;
     while i < to {
-        let y = wide(get(k, piece, i));
+        let y = wide(row[i]);
         let rank = x * s + low[y];
         if sigma <= rank {
             return Passed {
                 whole: false,
-                to,
+                to: i,
                 characters: 0,
             };
         }
@@ -163,8 +209,15 @@ fn pass_all(
         n += stops[y] as usize;
         i += 1;
     }
+    if x != 0 {
+        return Passed {
+            whole: false,
+            to: from,
+            characters: 0,
+        };
+    }
     Passed {
-        whole: (from < to) & (x == 0),
+        whole: true,
         to,
         characters: n,
     }
@@ -198,13 +251,35 @@ fn pass(
             characters: 0,
         };
     }
-    let far = if upto - from < AT_ONCE {
-        upto
-    } else {
-        from + AT_ONCE
-    };
-    let to = last_end(code, piece, from, far);
-    pass_all(code, sigma, places, piece, from, to, text)
+    let k = code.k;
+    let first = byte_of(k, from);
+    let skip = place_in_byte(k, from);
+    let mut row = [0u8; AT_ONCE];
+    let laid = lay_out(k, piece, first, &mut row);
+    let left = upto - from + skip;
+    let s = stoppers_at(code, 0);
+    let mut far = if left < laid { left } else { laid };
+    // A second turn only where a codeword is bad: those before it.
+    while skip < far {
+        let to = last_end(s, &row, skip, far);
+        if to <= skip {
+            break;
+        }
+        let passed = pass_all(code, sigma, places, &row, skip, to, text);
+        if passed.whole {
+            return Passed {
+                whole: true,
+                to: from - skip + to,
+                characters: passed.characters,
+            };
+        }
+        far = passed.to;
+    }
+    Passed {
+        whole: false,
+        to: from,
+        characters: 0,
+    }
 }
 
 // Whole codewords at once; or one symbol, of a codeword that began in an earlier piece, goes on into the next or is bad. The characters go to the text.

@@ -12,7 +12,7 @@ use Rattle.stopper.specs.Paper.Table.{base, stoppers, goodCode}
 use Rattle.stopper.specs.Helpers.State.{Small, opened}
 use Rattle.stopper.specs.declared.code.Code.{Code}
 use Rattle.stopper.specs.declared.reading.Reader.{Reader}
-use Rattle.symbols.specs.Paper.Symbols.{symbolsOf}
+use Rattle.symbols.specs.Paper.Symbols.{per, symbolsOf}
 use Rattle.judge.specs.Paper.Judge.{flag, progress, hearsAll, ranksHeard}
 use Rattle.judge.specs.declared.records.Progress.{Progress}
 use Rattle.stretches.specs.declared.codewords.Role.{Role}
@@ -102,20 +102,27 @@ Silent c σ r w = (h read count first stained : ℕ) → read < h → ranksHeard
 
 -- ---- what the functions ask and answer
 
-pub record Passes (c : Code) (σ : ℕ) (piece : List ℕ) (from to : ℕ) (text : List ℕ) : Type 0 where
+-- the first n places of a row hold the symbols of the bytes from byte `first` on
+pub record LaidOut (k : ℕ) (piece : List ℕ) (first n : ℕ) (row : List ℕ) : Type 0 where
+  pub long : length row ≡ 256
+  pub few : n ≤ 256
+  pub inside : first * per k + n ≤ length (symbolsOf k piece)
+  pub symbols : (i : ℕ) → i < n → getD row i 0 ≡ getD (symbolsOf k piece) (first * per k + i) 0
+
+pub record Passes (c : Code) (σ : ℕ) (row : List ℕ) (from to : ℕ) (text : List ℕ) : Type 0 where
   pub code : T (goodCode c)
   pub sigma : σ ≤ 256
-  pub order : from ≤ to
-  pub near : to ≤ from + 256
-  pub inside : to ≤ length (symbolsOf (c .k) piece)
+  pub order : from < to
+  pub near : to ≤ 256
+  pub inside : to ≤ length row
+  pub small : (i : ℕ) → i < to → getD row i 0 < 16
   pub long : length text ≡ 256
 
-pub record PassedAll (c : Code) (σ : ℕ) (places piece : List ℕ) (from end : ℕ) (r : Passed) (text : List ℕ) : Type 0 where
+pub record PassedAll (c : Code) (σ : ℕ) (places row : List ℕ) (from to : ℕ) (r : Passed) (text : List ℕ) : Type 0 where
   pub long : length text ≡ 256
-  pub to : r .to ≡ end
-  pub on : T (r .whole) → from < end
+  pub short : r .whole ≡ false → r .to < to
   pub few : T (r .whole) → r .characters ≤ 256
-  pub whole : T (r .whole) → Through c σ places opened (run (symbolsOf (c .k) piece) from end) (take (r .characters) text) opened true
+  pub whole : T (r .whole) → Through c σ places opened (run row from to) (take (r .characters) text) opened true
 
 pub record PassedSome (c : Code) (σ : ℕ) (places : List ℕ) (state : Reader) (piece : List ℕ) (from upto : ℕ) (r : Passed) (text : List ℕ) : Type 0 where
   pub long : length text ≡ 256

@@ -3,18 +3,18 @@ use mathlib.Core.Path.{_≡_, refl, sym, ap, ap₂, subst, _∙_}
 use mathlib.Core.Logic.{inl, inr}
 use mathlib.Core.Bool.{Bool, true, false, cond, and-true, and-false}
 use mathlib.Core.List.{List, [], _∷_, _++_, append-nil}
-use Prim.Native.Nat.{ℕ, suc, _+_, _-_, _*_, _≤_, _<_}
+use Prim.Native.Nat.{ℕ, suc, _+_, _-_, _*_, _^_, _≤_, _<_}
 use native.Mathlib.Nat.{le-refl, sub-self, add-zero, add-mul, mul-right-comm, le-mul-of-pos-right}
 use native.Mathlib.Decide.{ℕ-discrete}
 use native.Mathlib.Omega.{arith}
 use borrow.Author.Tests.{lt-ltb, le-ltb}
 use lib.Dec.{T, ltb, leb, ltb→lt, nltb→le, leb→le, nleb→lt}
 use lib.ListN.{length, take, drop, getD, set, length-append, length-drop, length-set}
-use lib.Seq.{take-suc, length-take-le, getD-drop, getD-set-same, getD-set-other}
+use lib.Seq.{take-suc, length-take-le, getD-take, getD-drop, getD-set-same, getD-set-other, ext-getD}
 use Rattle.ground.specs.Paper.Rows.{tab}
 use Rattle.ground.specs.Paper.Runs.{run}
-use Rattle.ground.specs.Laws.Rows.{tab-ext}
-use Rattle.ground.specs.Laws.Runs.{set-over, take-over, take-to}
+use Rattle.ground.specs.Laws.Rows.{tab-ext, below-at}
+use Rattle.ground.specs.Laws.Runs.{set-over, take-over, take-to, run-length}
 use Rattle.ground.specs.Laws.Tests.{by-test}
 use Rattle.stopper.specs.Paper.Table.{base, stoppers, goodCode}
 use Rattle.stopper.specs.Helpers.State.{Small, opened, nearer, pastAt, stepped}
@@ -23,10 +23,14 @@ use Rattle.stopper.specs.Laws.Table.{one-place, code-good}
 use Rattle.stopper.specs.declared.code.Code.{Code}
 use Rattle.stopper.specs.declared.reading.Reader.{Reader}
 use Rattle.stopper.specs.declared.reading.Step.the-variants.{Rank, Bad, Open}
+use Rattle.symbols.specs.Paper.Symbols.{per, shift, symbolsOf}
+use Rattle.symbols.specs.Helpers.Widths.{Width}
+use Rattle.symbols.specs.Helpers.Bits.{cutOut}
+use Rattle.symbols.specs.Laws.Rows.{symbols-in, symbols-below}
 use Rattle.judge.specs.Paper.Judge.{progress, heardAs, endedAs, hearsAll, ranksHeard}
 use Rattle.judge.specs.Laws.Small.{open-small}
 use Rattle.judge.specs.declared.records.Progress.{Progress}
-use Rattle.stretches.specs.Helpers.Codewords.{charactersIn, badAt, timesOf, plusOf, lowOf, stopsOf, few, many, OpenBy, ByNumber, Passing, PassingAny, Through, Silent}
+use Rattle.stretches.specs.Helpers.Codewords.{charactersIn, badAt, timesOf, plusOf, lowOf, stopsOf, few, many, OpenBy, ByNumber, Passing, PassingAny, Through, Silent, LaidOut}
 use Rattle.stretches.specs.Laws.Symbol.{bad-not, heard-after, told-after, bad-here, past-here}
 
 -- ---- a table filled entry after entry
@@ -43,6 +47,75 @@ filled-more f n l y v z h e = (length-set l y v ∙ z .0, λ j k. entry j k (ℕ
 
 pub filled-all : (f : ℕ → ℕ) (n : ℕ) (l : List ℕ) {y : ℕ} → Filled f n l y → n ≤ y → l ≡ tab f 0 n
 filled-all f n l z h = tab-ext f n l (z .0) (λ i p. z .1 i (omega arith))
+
+-- ---- symbols laid out, byte after byte
+
+-- place i of those of the bytes from byte `first` on
+abbrev pub laidAt : ℕ → List ℕ → ℕ → ℕ → ℕ
+laidAt k piece first i = getD (symbolsOf k piece) (first * per k + i) 0
+
+-- symbol t of byte j of those
+pub symbol-laid : {k : ℕ} → Width k → (piece : List ℕ) (first : ℕ) (row : List ℕ) (j t at v : ℕ) → Filled (laidAt k piece first) 256 row at → at ≡ j * per k + t → t < per k → at < 256
+    → v ≡ cutOut k (shift k t) (getD piece (first + j) 0) → Filled (laidAt k piece first) 256 (set row at v) (at + 1)
+symbol-laid {k} w piece first row j t at v z e h l f =
+    let n : first * per k + at ≡ (first + j) * per k + t = omega (arith, e, add-mul first j (per k)) in
+    filled-more (laidAt k piece first) 256 row at v z l (f ∙ sym (ap (λ (i : ℕ). getD (symbolsOf k piece) i 0) n ∙ symbols-in w piece (first + j) t h))
+
+-- all symbols of byte j
+module _ (piece : List ℕ) (first : ℕ) (row : List ℕ) (j : ℕ) where
+  abbrev byte : ℕ
+  byte = getD piece (first + j) 0
+
+  pub fours-laid : (a b : ℕ) → Filled (laidAt 4 piece first) 256 row (2 * j) → j < 128 → a ≡ cutOut 4 4 byte → b ≡ cutOut 4 0 byte
+      → Filled (laidAt 4 piece first) 256 (set (set row (2 * j) a) (2 * j + 1) b) (2 * (j + 1))
+  unfolding per shift
+  fours-laid a b z h e f =
+      let one : List ℕ = set row (2 * j) a in
+      let n : 2 * j + 1 + 1 ≡ 2 * (j + 1) = omega arith in
+      subst (Filled (laidAt 4 piece first) 256 (set one (2 * j + 1) b)) n
+      (symbol-laid (inr refl) piece first one j 1 (2 * j + 1) b
+      (symbol-laid (inr refl) piece first row j 0 (2 * j) a z (omega arith) (omega arith) (omega arith) e)
+      (omega arith) (omega arith) (omega arith) f)
+
+  pub twos-laid : (a b c d : ℕ) → Filled (laidAt 2 piece first) 256 row (4 * j) → j < 64 → a ≡ cutOut 2 6 byte → b ≡ cutOut 2 4 byte → c ≡ cutOut 2 2 byte → d ≡ cutOut 2 0 byte
+      → Filled (laidAt 2 piece first) 256 (set (set (set (set row (4 * j) a) (4 * j + 1) b) (4 * j + 2) c) (4 * j + 3) d) (4 * (j + 1))
+  unfolding per shift
+  twos-laid a b c d z h e f g i =
+      let one : List ℕ = set row (4 * j) a in
+      let two : List ℕ = set one (4 * j + 1) b in
+      let three : List ℕ = set two (4 * j + 2) c in
+      let n : 4 * j + 3 + 1 ≡ 4 * (j + 1) = omega arith in
+      let third : 4 * j + 2 + 1 ≡ 4 * j + 3 = omega arith in
+      let second : 4 * j + 1 + 1 ≡ 4 * j + 2 = omega arith in
+      subst (Filled (laidAt 2 piece first) 256 (set three (4 * j + 3) d)) n
+      (symbol-laid (inl refl) piece first three j 3 (4 * j + 3) d
+      (subst (Filled (laidAt 2 piece first) 256 three) third
+      (symbol-laid (inl refl) piece first two j 2 (4 * j + 2) c
+      (subst (Filled (laidAt 2 piece first) 256 two) second
+      (symbol-laid (inl refl) piece first one j 1 (4 * j + 1) b
+      (symbol-laid (inl refl) piece first row j 0 (4 * j) a z (omega arith) (omega arith) (omega arith) e)
+      (omega arith) (omega arith) (omega arith) f))
+      (omega arith) (omega arith) (omega arith) g))
+      (omega arith) (omega arith) (omega arith) i)
+
+-- a run of what is laid out is one of the piece's symbols
+module _ {k : ℕ} {piece : List ℕ} {first n : ℕ} {row : List ℕ} (z : LaidOut k piece first n row) where
+  pub run-laid : (from to : ℕ) → from ≤ to → to ≤ n → run row from to ≡ run (symbolsOf k piece) (first * per k + from) (first * per k + to)
+  run-laid from to o h =
+      let a : ℕ = first * per k in
+      let whole : List ℕ = symbolsOf k piece in
+      let here = run-length row from to o (omega (arith, z .long, z .few)) in
+      let there = run-length whole (a + from) (a + to) (omega arith) (omega (arith, z .inside)) in
+      ext-getD 0 (run row from to) (run whole (a + from) (a + to)) (omega (arith, here, there))
+      (λ i l.
+      let near : i < to - from = omega (arith, here) in
+      let far : i < a + to - (a + from) = omega arith in
+      let e : a + (from + i) ≡ a + from + i = omega arith in
+      getD-take (to - from) (drop from row) i 0 near ∙ getD-drop from row i 0 ∙ z .symbols (from + i) (omega arith)
+      ∙ ap (λ (j : ℕ). getD whole j 0) e ∙ sym (getD-take (a + to - (a + from)) (drop (a + from) whole) i 0 far ∙ getD-drop (a + from) whole i 0))
+
+  pub small-laid : (i : ℕ) → i < n → getD row i 0 < 2 ^ k
+  small-laid i h = rw (z .symbols i h) (below-at (symbols-below k piece) (first * per k + i) (omega (arith, z .inside)))
 
 -- ---- what is looked up is small
 

@@ -1,40 +1,35 @@
 -- `stretches::codewords::pass_all` meets its contract.
-use mathlib.Core.Path.{_≡_, refl, sym, ap, ap₂, subst, _∙_}
-use mathlib.Core.Bool.{_&&_}
+use mathlib.Core.Path.{_≡_, sym, ap, ap₂, subst, _∙_}
 use mathlib.Core.List.{List}
 use Prim.Native.Nat.{ℕ, _+_, _-_, _*_, _^_, _≤_, _<_}
 use native.Mathlib.Nat.{mul-le-mul, le-mul-of-pos-right, sub-self}
 use native.Mathlib.Omega.{arith}
 use borrow.Author.Needs.{needs}
-use mir.Facts.{and-yes, eqb-yes}
-use lib.Dec.{T, ltb, eqb, ltb→lt}
+use lib.Dec.{T}
 use lib.ListN.{length, getD, length-set}
 use Rattle.ground.specs.Paper.Runs.{run}
-use Rattle.ground.specs.Laws.Rows.{below-at, tab-at}
+use Rattle.ground.specs.Laws.Rows.{tab-at}
 use Rattle.ground.specs.Laws.Runs.{run-length}
 use Rattle.stopper.specs.Paper.Table.{goodCode}
-use Rattle.stopper.specs.Laws.Table.{code-width, code-base, code-good}
+use Rattle.stopper.specs.Laws.Table.{code-base, code-good}
 use Rattle.stopper.specs.declared.code.Code.{Code}
-use Rattle.symbols.specs.Paper.Symbols.{symbolsOf}
-use Rattle.symbols.specs.Laws.Rows.{symbols-below}
 use Rattle.stretches.specs.Helpers.Codewords.{timesOf, plusOf, lowOf, stopsOf, few, many, PassingAny}
 use Rattle.stretches.specs.Laws.Codewords.{low-small, times-small, plus-small, stops-small, run-more, any-none, any-more, any-whole}
 use Rattle.stretches.proofs.codewords.pass_all.Statement.{statement}
 use Rattle.stretches.proofs.codewords.pass_all.Tie as tie
 
 -- the numbers of a good code
-pub record Parts (code : Code) (k s c : ℕ) : Type 0 where
+pub record Parts (code : Code) (s c : ℕ) : Type 0 where
   pub good : T (goodCode code)
-  pub width : k ≡ code .k
   pub stops : s ≡ few code
   pub goes : c ≡ many code
 
 abbrev Inv-loop : tie.InvT-loop
-Inv-loop sigma places piece from to text₀ k s c times plus low stops x₀ n₀ i₀ text x n i =
-    (from + n ≤ i) × (i ≤ to) × (length text ≡ 256) × (x ≤ 4096) × ((code : Code) → Parts code k s c → PassingAny code sigma places (run (symbolsOf k piece) from i) text x n)
+Inv-loop sigma places row from to text₀ s c times plus low stops x₀ n₀ i₀ text x n i =
+    (from + n ≤ i) × (i ≤ to) × (length text ≡ 256) × (x ≤ 4096) × ((code : Code) → Parts code s c → PassingAny code sigma places (run row from i) text x n)
 
 abbrev μ-loop : tie.MeasureT-loop
-μ-loop sigma places piece from to text₀ k s c times plus low stops x₀ n₀ i₀ text x n i = to - i
+μ-loop sigma places row from to text₀ s c times plus low stops x₀ n₀ i₀ text x n i = to - i
 
 abbrev start : tie.After-stops Inv-loop μ-loop → tie.Start Inv-loop μ-loop
 start c = c .before .before .before .before .before .before .before .before .before
@@ -48,11 +43,10 @@ bases c = c .before .before .before .before .before
 abbrev roles : tie.After-stops Inv-loop μ-loop → tie.After-roles-of Inv-loop μ-loop
 roles c = c .before .before .before .before
 
-parts : (c : tie.After-stops Inv-loop μ-loop) → Parts (start c .args .code) (start c .args .code .k) (stoppers c .stoppers-at .result) (bases c .base-of .result - stoppers c .stoppers-at .result)
+parts : (c : tie.After-stops Inv-loop μ-loop) → Parts (start c .args .code) (stoppers c .stoppers-at .result) (bases c .base-of .result - stoppers c .stoppers-at .result)
 parts c =
     record {
       good = start c .pre .code;
-      width = refl;
       stops = stoppers c .stoppers-at .ensures;
       goes = ap₂ (λ (m s : ℕ). m - s) (bases c .base-of .ensures) (stoppers c .stoppers-at .ensures);
     }
@@ -74,19 +68,16 @@ abbrev outer : tie.After-wide Inv-loop μ-loop → tie.After-stops Inv-loop μ-l
 outer c = here c .before
 
 abbrev row : tie.After-wide Inv-loop μ-loop → List ℕ
-row c = symbolsOf (start (outer c) .args .code .k) (start (outer c) .args .piece .now)
+row c = start (outer c) .args .row .now
 
-inside : (c : tie.In-loop Inv-loop μ-loop) → c .before .loop .i < length (symbolsOf (start (c .before .before) .args .code .k) (start (c .before .before) .args .piece .now))
+inside : (c : tie.In-loop Inv-loop μ-loop) → c .before .loop .i < length (start (c .before .before) .args .row .now)
 inside c = omega (arith, start (c .before .before) .pre .inside, c .loop-test .taken)
 
 symbol-is : (c : tie.After-wide Inv-loop μ-loop) → c .wide .result ≡ getD (row c) (here c .loop .i) 0
-symbol-is c = c .wide .ensures .0 ∙ c .before .get .ensures
+symbol-is c = c .wide .ensures .0
 
 symbol-small : (c : tie.After-wide Inv-loop μ-loop) → c .wide .result < 16
-symbol-small c =
-    let code = start (outer c) .args .code in
-    let a : getD (row c) (here c .loop .i) 0 < 2 ^ code .k = below-at (symbols-below (code .k) (start (outer c) .args .piece .now)) (here c .loop .i) (inside (c .before .before)) in
-    omega (arith, symbol-is c, code-base code (start (outer c) .pre .code) .1)
+symbol-small c = omega (arith, symbol-is c, start (outer c) .pre .small (here c .loop .i) (c .before .before .loop-test .taken))
 
 abbrev s : tie.After-wide Inv-loop μ-loop → ℕ
 s c = stoppers (outer c) .stoppers-at .result
@@ -142,10 +133,7 @@ sub-c c = let x = c .before .before .before .before in omega (arith, c .before .
 
 loop-holds : tie.Need-loop-holds Inv-loop μ-loop
 loop-holds c =
-    (omega arith, start c .pre .order, start c .pre .long, omega arith, λ code p. rw sub-self (any-none code (p .good) (start c .args .sigma) (start c .args .places .now) (start c .args .text .now)))
-
-get-requires : tie.Need-get-requires Inv-loop μ-loop
-get-requires c κs = let x = start (c .before .before) in (code-width (x .args .code) (x .pre .code), inside c)
+    (omega arith, omega (arith, start c .pre .order), start c .pre .long, omega arith, λ code p. rw sub-self (any-none code (p .good) (start c .args .sigma) (start c .args .places .now) (start c .args .text .now)))
 
 mul-rank : tie.Need-mul-rank Inv-loop μ-loop
 mul-rank c = record { fits = omega (arith, product-fits c) }
@@ -154,7 +142,9 @@ add-rank : tie.Need-add-rank Inv-loop μ-loop
 add-rank c = record { fits = omega (arith, product-fits c, low-fits c) }
 
 returns : tie.Need-returns Inv-loop μ-loop
-returns c = record { long = c .before .before .before .before .loop .inv .2; to = refl; on = λ t. absurd t; few = λ t. absurd t; whole = λ t. absurd t }
+returns c =
+    let w = c .before in
+    record { long = here w .loop .inv .2; short = λ _. w .before .before .loop-test .taken; few = λ t. absurd t; whole = λ t. absurd t }
 
 mul-x-2 : tie.Need-mul-x-2 Inv-loop μ-loop
 mul-x-2 c = record { fits = omega (arith, number-fits c .0) }
@@ -178,30 +168,33 @@ loop-again c =
           (any-more code (p .good) (x .args .sigma) (x .args .places .now) (z code p) (s w) (goes w) (w .wide .result) (p .stops) (p .goes) (room k .1) (omega (arith, k .if1 .left, low-is w))),
     )
 
-both-tests : (from to x : ℕ) → T (ltb from to && eqb x 0) → (from < to) × (x ≡ 0)
-both-tests from to x t = let (a, b) = and-yes (ltb from to) (eqb x 0) t in (ltb→lt _ _ a, eqb-yes b)
-
 returns-2 : tie.Need-returns-2 Inv-loop μ-loop
 returns-2 c =
-    let l = c .before in
+    let l = c .before .before in
+    record { long = l .loop .inv .2; short = λ _. start (l .before) .pre .order; few = λ t. absurd t; whole = λ t. absurd t }
+
+returns-3 : tie.Need-returns-3 Inv-loop μ-loop
+returns-3 c =
+    let l = c .before .before in
     let x = start (l .before) in
     let (a, b, e, _, z) = l .loop .inv in
-    let row : List ℕ = symbolsOf (x .args .code .k) (x .args .piece .now) in
-    let at : l .loop .i ≡ x .args .to = omega (arith, b, c .loop-test .left) in
-    let long : x .args .from + length (run row (x .args .from) (x .args .to)) ≡ x .args .to = run-length row (x .args .from) (x .args .to) (x .pre .order) (x .pre .inside) in
+    let row : List ℕ = x .args .row .now in
+    let at : l .loop .i ≡ x .args .to = omega (arith, b, c .before .loop-test .left) in
+    let none : l .loop .x ≡ 0 = c .if2 .left in
+    let order : x .args .from ≤ x .args .to = omega (arith, x .pre .order) in
+    let long : x .args .from + length (run row (x .args .from) (x .args .to)) ≡ x .args .to = run-length row (x .args .from) (x .args .to) order (x .pre .inside) in
     let n : x .args .from + l .loop .n ≤ x .args .to = omega (arith, a, at) in
+    let places : List ℕ = x .args .places .now in
+    let upto : PassingAny (x .args .code) (x .args .sigma) places (run row (x .args .from) (x .args .to)) (l .loop .text) (l .loop .x) (l .loop .n)
+    = subst (λ (i : ℕ). PassingAny (x .args .code) (x .args .sigma) places (run row (x .args .from) i) (l .loop .text) (l .loop .x) (l .loop .n)) at (z (x .args .code) (parts (l .before))) in
     record {
       long = e;
-      to = refl;
-      on = λ t. both-tests (x .args .from) (x .args .to) (l .loop .x) t .0;
-      few = λ t. omega (arith, n, x .pre .near);
-      whole = λ t.
-          let (some, none) = both-tests (x .args .from) (x .args .to) (l .loop .x) t in
-          let places : List ℕ = x .args .places .now in
-          let upto : PassingAny (x .args .code) (x .args .sigma) places (run row (x .args .from) (x .args .to)) (l .loop .text) (l .loop .x) (l .loop .n)
-          = subst (λ (i : ℕ). PassingAny (x .args .code) (x .args .sigma) places (run row (x .args .from) i) (l .loop .text) (l .loop .x) (l .loop .n)) at (z (x .args .code) (parts (l .before))) in
+      short = λ t. absurd (subst T t tt);
+      few = λ _. omega (arith, n, x .pre .near);
+      whole = λ _.
           any-whole (x .args .code) (x .pre .code) (x .args .sigma) places (run row (x .args .from) (x .args .to)) (l .loop .text) (l .loop .n)
-          (subst (λ (m : ℕ). PassingAny (x .args .code) (x .args .sigma) places (run row (x .args .from) (x .args .to)) (l .loop .text) m (l .loop .n)) none upto) (omega (arith, long, some)) (omega (arith, n, long)) (omega (arith, n, x .pre .near, e));
+          (subst (λ (m : ℕ). PassingAny (x .args .code) (x .args .sigma) places (run row (x .args .from) (x .args .to)) (l .loop .text) m (l .loop .n)) none upto)
+          (omega (arith, long, x .pre .order)) (omega (arith, n, long)) (omega (arith, n, x .pre .near, e));
     }
 
 pub pass-all-spec : {M : Type 1} → statement M
@@ -215,7 +208,7 @@ pass-all-spec =
     sub-c
     (λ c κs. search needs)
     loop-holds
-    get-requires
+    (λ c. inside (c .before))
     (λ c κs. search needs)
     mul-rank
     (λ c. record { fits = omega (arith, symbol-small c) })
@@ -239,5 +232,7 @@ pass-all-spec =
     (λ c. search needs)
     (λ c. search needs)
     loop-again
-    (λ c. c .before .loop .inv .2 ∙ sym (start (c .before .before) .pre .long))
-    returns-2)
+    (λ c. c .before .before .loop .inv .2 ∙ sym (start (c .before .before .before) .pre .long))
+    returns-2
+    (λ c. c .before .before .loop .inv .2 ∙ sym (start (c .before .before .before) .pre .long))
+    returns-3)
