@@ -81,7 +81,8 @@ enum monterculo_number {
     /* h exceeds the room, or where there is no buffer 65,536; or a piece reaches past the byte that holds symbol h - 1.
      * Value: h. */
     MONTERCULO_BAD_SYMBOL_COUNT = 5,
-    /* Reading meets a codeword unfinished at h, or of rank sigma or more. Value: its first symbol's number. */
+    /* Reading meets a codeword unfinished at h, or of rank sigma or more. Value: its first symbol's number. For finish also
+     * bytes that have not come. Value: the open codeword's first symbol, or the symbols read if none is open. */
     MONTERCULO_BAD_CODEWORD = 6,
     /* Codewords read are not n. Value: codewords read. */
     MONTERCULO_BAD_CHARACTER_COUNT = 7,
@@ -111,7 +112,7 @@ static inline const char *monterculo_text(uint32_t number)
     case MONTERCULO_NOT_IN_TABLE: return "a text character not in the table";
     case MONTERCULO_NO_ROOM: return "the packed result exceeds the room, or the text to be counted 65,536 characters";
     case MONTERCULO_BAD_SYMBOL_COUNT: return "h exceeds the room, or a piece reaches past the roll's last byte";
-    case MONTERCULO_BAD_CODEWORD: return "a codeword unfinished at h, or of rank sigma or more";
+    case MONTERCULO_BAD_CODEWORD: return "a codeword unfinished at h, or of rank sigma or more; or bytes not come";
     case MONTERCULO_BAD_CHARACTER_COUNT: return "codewords read are not n";
     case MONTERCULO_BAD_UNUSED: return "an unused symbol of the last byte is not 0";
     case MONTERCULO_BAD_ENTRY: return "a directory entry missing or wrong";

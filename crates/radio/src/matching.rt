@@ -38,7 +38,7 @@ pub fn advance(ends: u64, mask: u64) -> u64
     (2 * ends + 1) & mask
 }
 
-// The hits whose last characters are the first n of a text, `count` characters being before it; they are listed from entry `hits` on.
+// The hits whose last character is among the first n of a text, `count` characters being before it; they are listed from entry `hits` on.
 pub fn name_hits(
     masks: &[u64; 256],
     whole: u64,

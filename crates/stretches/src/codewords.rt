@@ -1,7 +1,7 @@
 // Whole codewords of a piece at once: what a symbol does is looked up, so that no branch waits for the text.
 //
-// All places of a codeword being alike, one number x stands for its continuers: 0 for none, and each makes of x as many times x as there
-// are continuers, plus which of them it is, from 1 on. A stopper y behind them ends rank x times the number of stoppers, plus y.
+// With s stoppers and c continuers at every place, one number x stands for the continuers of the open codeword: 0 for none, and a
+// continuer y makes x * c + (y - s + 1) of it. A stopper y behind them ends rank x * s + y.
 use stopper::code::Code;
 use stopper::code::base_of;
 use stopper::code::stoppers_at;
@@ -42,7 +42,7 @@ pub struct Roles {
     pub stops: [u32; 16],
 }
 
-// Whether good codewords were passed, up to symbol `to` where the last of them ends, and how many. If not, they may be up to `to`.
+// Whether good codewords were passed, up to symbol `to` where the last of them ends, and how many. If not, only less can be tried: what lies before `to`.
 pub struct Passed {
     pub whole: bool,
     pub to: usize,
@@ -209,6 +209,7 @@ fn pass_all(
         n += stops[y] as usize;
         i += 1;
     }
+    // Never where the last symbol is a stopper; that it is one, nobody promised.
     if x != 0 {
         return Passed {
             whole: false,

@@ -39,7 +39,7 @@ pub record Follows (s : Searcher) (piece : List ℕ) (all : ℕ) (slice : List �
   pub symbols : all ≡ length (symbolsOf (codeIn s .k) piece)
   pub room : all ≤ length slice
 
--- the symbols of a piece, and the characters whose codewords end among its first n
+-- the symbols of a piece; and after symbols w from the searcher on: how far the roll is read, the characters whose codewords ended, the hits named
 abbrev pub row : Searcher → List ℕ → List ℕ
 row s piece = symbolsOf (codeIn s .k) piece
 

@@ -1,7 +1,7 @@
 -- Whole codewords by one number: what a symbol does to it, and what is heard meanwhile; and a symbol alone.
 use mathlib.Core.Path.{_≡_, refl, sym, ap, ap₂, subst, _∙_}
 use mathlib.Core.Logic.{inl, inr}
-use mathlib.Core.Bool.{Bool, true, false, cond, and-true, and-false}
+use mathlib.Core.Bool.{Bool, true, false, and-true, and-false}
 use mathlib.Core.List.{List, [], _∷_, _++_, append-nil}
 use Prim.Native.Nat.{ℕ, suc, _+_, _-_, _*_, _^_, _≤_, _<_}
 use native.Mathlib.Nat.{le-refl, sub-self, add-zero, add-mul, mul-right-comm, le-mul-of-pos-right}
@@ -30,7 +30,7 @@ use Rattle.symbols.specs.Laws.Rows.{symbols-in, symbols-below}
 use Rattle.judge.specs.Paper.Judge.{progress, heardAs, endedAs, hearsAll, ranksHeard}
 use Rattle.judge.specs.Laws.Small.{open-small}
 use Rattle.judge.specs.declared.records.Progress.{Progress}
-use Rattle.stretches.specs.Helpers.Codewords.{charactersIn, badAt, timesOf, plusOf, lowOf, stopsOf, few, many, OpenBy, ByNumber, Passing, PassingAny, Through, Silent, LaidOut}
+use Rattle.stretches.specs.Helpers.Codewords.{badAt, timesOf, plusOf, lowOf, stopsOf, few, many, OpenBy, ByNumber, Passing, PassingAny, Through, Silent, LaidOut}
 use Rattle.stretches.specs.Laws.Symbol.{bad-not, heard-after, told-after, bad-here, past-here}
 
 -- ---- a table filled entry after entry
@@ -50,11 +50,11 @@ filled-all f n l z h = tab-ext f n l (z .0) (λ i p. z .1 i (omega arith))
 
 -- ---- symbols laid out, byte after byte
 
--- place i of those of the bytes from byte `first` on
+-- symbol i of the bytes from byte `first` on
 abbrev pub laidAt : ℕ → List ℕ → ℕ → ℕ → ℕ
 laidAt k piece first i = getD (symbolsOf k piece) (first * per k + i) 0
 
--- symbol t of byte j of those
+-- one more laid out: symbol t of byte j of these bytes
 pub symbol-laid : {k : ℕ} → Width k → (piece : List ℕ) (first : ℕ) (row : List ℕ) (j t at v : ℕ) → Filled (laidAt k piece first) 256 row at → at ≡ j * per k + t → t < per k → at < 256
     → v ≡ cutOut k (shift k t) (getD piece (first + j) 0) → Filled (laidAt k piece first) 256 (set row at v) (at + 1)
 symbol-laid {k} w piece first row j t at v z e h l f =

@@ -16,7 +16,6 @@ use Rattle.ground.specs.Paper.Runs.{run}
 use Rattle.ground.specs.Laws.Answers.{says-as}
 use Rattle.ground.specs.Laws.Limit.{limit-fits}
 use Rattle.ground.specs.declared.answers.Done.{Done}
-use Rattle.ground.specs.declared.answers.Done.the-variants.{Yes, Refused}
 use Rattle.stopper.specs.Laws.Table.{code-width, table-code, table-few}
 use Rattle.symbols.specs.Paper.Symbols.{per, bytesFor}
 use Rattle.symbols.specs.Helpers.Widths.{Width}

@@ -1,7 +1,7 @@
 -- `stretches::codewords::pass_all` meets its contract.
 use mathlib.Core.Path.{_≡_, sym, ap, ap₂, subst, _∙_}
 use mathlib.Core.List.{List}
-use Prim.Native.Nat.{ℕ, _+_, _-_, _*_, _^_, _≤_, _<_}
+use Prim.Native.Nat.{ℕ, _+_, _-_, _*_, _≤_, _<_}
 use native.Mathlib.Nat.{mul-le-mul, le-mul-of-pos-right, sub-self}
 use native.Mathlib.Omega.{arith}
 use borrow.Author.Needs.{needs}
