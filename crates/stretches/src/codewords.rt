@@ -11,17 +11,19 @@ use stopper::reading::opening;
 use stopper::reading::read_symbol;
 use symbols::bits::byte_of;
 use symbols::bits::cut_out;
+use symbols::bits::per_byte;
 use symbols::bits::place_in_byte;
+use symbols::bits::shift_of;
 use symbols::symbol::get;
 ghost use mathlib.Core.Path.{_≡_};
-ghost use Prim.Native.Nat.{_≤_, _<_};
+ghost use Prim.Native.Nat.{_+_, _≤_, _<_};
 ghost use lib.Dec.{T};
 ghost use lib.ListN.{length};
 ghost use Rattle.stopper.specs.Paper.Table.{goodCode};
 ghost use Rattle.stopper.specs.Helpers.State.{opened};
-ghost use Rattle.symbols.specs.Paper.Symbols.{symbolsOf};
+ghost use Rattle.symbols.specs.Paper.Symbols.{per, symbolsOf};
 ghost use Rattle.symbols.specs.Helpers.Widths.{Width};
-ghost use Rattle.stretches.specs.Helpers.Codewords.{roleOf, RolesOf, LaidOut, Passes, PassedAll, PassedSome, Reads, ReadStretch};
+ghost use Rattle.stretches.specs.Helpers.Codewords.{roleOf, RolesOf, ByteLaid, LaidOut, Passes, PassedAll, PassedSome, Reads, ReadStretch};
 
 // So many symbols are passed at once, at most.
 pub const AT_ONCE: usize = 256;
@@ -109,49 +111,45 @@ fn roles_of(s: u32, c: u32) -> Roles
     }
 }
 
-// The symbols of the bytes from byte `first` on, one a place, as many as the row takes; so many are laid out.
-fn lay_twos(piece: &[u8], first: usize, row: &mut [u8]) -> usize
-    requires { ⌜ (first ≤ length (now piece)) × (length (now row) ≡ 256) ⌝ }
-    ensures { λ r. ⌜ LaidOut 2 (now (piece .entry)) first r (now (row .exit)) ⌝ }
+// The symbols of a byte, one a place from place `at` on.
+fn lay_byte(k: u8, b: u8, row: &mut [u8], at: usize)
+    requires { ⌜ (Width k) × (at + per k ≤ length (now row)) ⌝ }
+    ensures { λ _. ⌜ ByteLaid k b at (now (row .entry)) (now (row .exit)) ⌝ }
 {
-    let left = piece.len() - first;
-    let n = if left < 64 { left } else { 64 };
-    let mut j: usize = 0;
-    while j < n {
-        let b = piece[first + j];
-        row[4 * j] = cut_out(b, 2, 6);
-        row[4 * j + 1] = cut_out(b, 2, 4);
-        row[4 * j + 2] = cut_out(b, 2, 2);
-        row[4 * j + 3] = cut_out(b, 2, 0);
-        j += 1;
+    let per = per_byte(k);
+    let mut t: usize = 0;
+    while t < per {
+        row[at + t] = cut_out(b, k, shift_of(k, t));
+        t += 1;
     }
-    4 * n
 }
 
-fn lay_fours(piece: &[u8], first: usize, row: &mut [u8]) -> usize
-    requires { ⌜ (first ≤ length (now piece)) × (length (now row) ≡ 256) ⌝ }
-    ensures { λ r. ⌜ LaidOut 4 (now (piece .entry)) first r (now (row .exit)) ⌝ }
+// The symbols of the bytes from byte `first` on, as many as the row takes; so many are laid out.
+fn lay_bytes(k: u8, piece: &[u8], first: usize, row: &mut [u8]) -> usize
+    requires { ⌜ (Width k) × (first ≤ length (now piece)) × (length (now row) ≡ 256) ⌝ }
+    ensures { λ r. ⌜ LaidOut k (now (piece .entry)) first r (now (row .exit)) ⌝ }
 {
+    let per = per_byte(k);
     let left = piece.len() - first;
-    let n = if left < 128 { left } else { 128 };
+    let most = AT_ONCE / per;
+    let n = if left < most { left } else { most };
     let mut j: usize = 0;
     while j < n {
-        let b = piece[first + j];
-        row[2 * j] = cut_out(b, 4, 4);
-        row[2 * j + 1] = cut_out(b, 4, 0);
+        lay_byte(k, piece[first + j], row, j * per);
         j += 1;
     }
-    2 * n
+    n * per
 }
 
+// A call for each width: the compiler then knows it before the loop.
 fn lay_out(k: u8, piece: &[u8], first: usize, row: &mut [u8]) -> usize
     requires { ⌜ (Width k) × (first ≤ length (now piece)) × (length (now row) ≡ 256) ⌝ }
     ensures { λ r. ⌜ LaidOut k (now (piece .entry)) first r (now (row .exit)) ⌝ }
 {
     if k == 2 {
-        return lay_twos(piece, first, row);
+        return lay_bytes(2, piece, first, row);
     }
-    lay_fours(piece, first, row)
+    lay_bytes(4, piece, first, row)
 }
 
 // The last place of a row up to `to` where a stopper lies just before, or `from`.

@@ -12,7 +12,8 @@ use Rattle.stopper.specs.Paper.Table.{base, stoppers, goodCode}
 use Rattle.stopper.specs.Helpers.State.{Small, opened}
 use Rattle.stopper.specs.declared.code.Code.{Code}
 use Rattle.stopper.specs.declared.reading.Reader.{Reader}
-use Rattle.symbols.specs.Paper.Symbols.{per, symbolsOf}
+use Rattle.symbols.specs.Paper.Symbols.{per, shift, symbolsOf}
+use Rattle.symbols.specs.Helpers.Bits.{cutOut}
 use Rattle.judge.specs.Paper.Judge.{flag, progress, hearsAll, ranksHeard}
 use Rattle.judge.specs.declared.records.Progress.{Progress}
 use Rattle.stretches.specs.declared.codewords.Role.{Role}
@@ -101,6 +102,12 @@ abbrev pub Silent : Code → ℕ → Reader → List ℕ → Type 0
 Silent c σ r w = (h read count first stained : ℕ) → read < h → ranksHeard c σ h (progress read count first r 0 stained) w ≡ []
 
 -- ---- what the functions ask and answer
+
+-- the symbols of byte b stand in a row from place `at` on; those before it stay
+pub record ByteLaid (k b at : ℕ) (row after : List ℕ) : Type 0 where
+  pub same : length after ≡ length row
+  pub before : (i : ℕ) → i < at → getD after i 0 ≡ getD row i 0
+  pub symbols : (t : ℕ) → t < per k → getD after (at + t) 0 ≡ cutOut k (shift k t) b
 
 -- the first n places of a row hold the symbols of the bytes from byte `first` on
 pub record LaidOut (k : ℕ) (piece : List ℕ) (first n : ℕ) (row : List ℕ) : Type 0 where

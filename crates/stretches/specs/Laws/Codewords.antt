@@ -5,7 +5,7 @@ use mathlib.Core.Bool.{Bool, true, false, and-true, and-false}
 use mathlib.Core.List.{List, [], _∷_, _++_, append-nil}
 use Prim.Native.Nat.{ℕ, suc, _+_, _-_, _*_, _^_, _≤_, _<_}
 use native.Mathlib.Nat.{le-refl, sub-self, add-zero, add-mul, mul-right-comm, le-mul-of-pos-right}
-use native.Mathlib.Decide.{ℕ-discrete}
+use native.Mathlib.Decide.{ℕ-discrete, decLt}
 use native.Mathlib.Omega.{arith}
 use borrow.Author.Tests.{lt-ltb, le-ltb}
 use lib.Dec.{T, ltb, leb, ltb→lt, nltb→le, leb→le, nleb→lt}
@@ -23,14 +23,13 @@ use Rattle.stopper.specs.Laws.Table.{one-place, code-good}
 use Rattle.stopper.specs.declared.code.Code.{Code}
 use Rattle.stopper.specs.declared.reading.Reader.{Reader}
 use Rattle.stopper.specs.declared.reading.Step.the-variants.{Rank, Bad, Open}
-use Rattle.symbols.specs.Paper.Symbols.{per, shift, symbolsOf}
+use Rattle.symbols.specs.Paper.Symbols.{per, symbolsOf}
 use Rattle.symbols.specs.Helpers.Widths.{Width}
-use Rattle.symbols.specs.Helpers.Bits.{cutOut}
 use Rattle.symbols.specs.Laws.Rows.{symbols-in, symbols-below}
 use Rattle.judge.specs.Paper.Judge.{progress, heardAs, endedAs, hearsAll, ranksHeard}
 use Rattle.judge.specs.Laws.Small.{open-small}
 use Rattle.judge.specs.declared.records.Progress.{Progress}
-use Rattle.stretches.specs.Helpers.Codewords.{badAt, timesOf, plusOf, lowOf, stopsOf, few, many, OpenBy, ByNumber, Passing, PassingAny, Through, Silent, LaidOut}
+use Rattle.stretches.specs.Helpers.Codewords.{badAt, timesOf, plusOf, lowOf, stopsOf, few, many, OpenBy, ByNumber, Passing, PassingAny, Through, Silent, ByteLaid, LaidOut}
 use Rattle.stretches.specs.Laws.Symbol.{bad-not, heard-after, told-after, bad-here, past-here}
 
 -- ---- a table filled entry after entry
@@ -54,49 +53,19 @@ filled-all f n l z h = tab-ext f n l (z .0) (λ i p. z .1 i (omega arith))
 abbrev pub laidAt : ℕ → List ℕ → ℕ → ℕ → ℕ
 laidAt k piece first i = getD (symbolsOf k piece) (first * per k + i) 0
 
--- one more laid out: symbol t of byte j of these bytes
-pub symbol-laid : {k : ℕ} → Width k → (piece : List ℕ) (first : ℕ) (row : List ℕ) (j t at v : ℕ) → Filled (laidAt k piece first) 256 row at → at ≡ j * per k + t → t < per k → at < 256
-    → v ≡ cutOut k (shift k t) (getD piece (first + j) 0) → Filled (laidAt k piece first) 256 (set row at v) (at + 1)
-symbol-laid {k} w piece first row j t at v z e h l f =
-    let n : first * per k + at ≡ (first + j) * per k + t = omega (arith, e, add-mul first j (per k)) in
-    filled-more (laidAt k piece first) 256 row at v z l (f ∙ sym (ap (λ (i : ℕ). getD (symbolsOf k piece) i 0) n ∙ symbols-in w piece (first + j) t h))
-
--- all symbols of byte j
-module _ (piece : List ℕ) (first : ℕ) (row : List ℕ) (j : ℕ) where
-  abbrev byte : ℕ
-  byte = getD piece (first + j) 0
-
-  pub fours-laid : (a b : ℕ) → Filled (laidAt 4 piece first) 256 row (2 * j) → j < 128 → a ≡ cutOut 4 4 byte → b ≡ cutOut 4 0 byte
-      → Filled (laidAt 4 piece first) 256 (set (set row (2 * j) a) (2 * j + 1) b) (2 * (j + 1))
-  unfolding per shift
-  fours-laid a b z h e f =
-      let one : List ℕ = set row (2 * j) a in
-      let n : 2 * j + 1 + 1 ≡ 2 * (j + 1) = omega arith in
-      subst (Filled (laidAt 4 piece first) 256 (set one (2 * j + 1) b)) n
-      (symbol-laid (inr refl) piece first one j 1 (2 * j + 1) b
-      (symbol-laid (inr refl) piece first row j 0 (2 * j) a z (omega arith) (omega arith) (omega arith) e)
-      (omega arith) (omega arith) (omega arith) f)
-
-  pub twos-laid : (a b c d : ℕ) → Filled (laidAt 2 piece first) 256 row (4 * j) → j < 64 → a ≡ cutOut 2 6 byte → b ≡ cutOut 2 4 byte → c ≡ cutOut 2 2 byte → d ≡ cutOut 2 0 byte
-      → Filled (laidAt 2 piece first) 256 (set (set (set (set row (4 * j) a) (4 * j + 1) b) (4 * j + 2) c) (4 * j + 3) d) (4 * (j + 1))
-  unfolding per shift
-  twos-laid a b c d z h e f g i =
-      let one : List ℕ = set row (4 * j) a in
-      let two : List ℕ = set one (4 * j + 1) b in
-      let three : List ℕ = set two (4 * j + 2) c in
-      let n : 4 * j + 3 + 1 ≡ 4 * (j + 1) = omega arith in
-      let third : 4 * j + 2 + 1 ≡ 4 * j + 3 = omega arith in
-      let second : 4 * j + 1 + 1 ≡ 4 * j + 2 = omega arith in
-      subst (Filled (laidAt 2 piece first) 256 (set three (4 * j + 3) d)) n
-      (symbol-laid (inl refl) piece first three j 3 (4 * j + 3) d
-      (subst (Filled (laidAt 2 piece first) 256 three) third
-      (symbol-laid (inl refl) piece first two j 2 (4 * j + 2) c
-      (subst (Filled (laidAt 2 piece first) 256 two) second
-      (symbol-laid (inl refl) piece first one j 1 (4 * j + 1) b
-      (symbol-laid (inl refl) piece first row j 0 (4 * j) a z (omega arith) (omega arith) (omega arith) e)
-      (omega arith) (omega arith) (omega arith) f))
-      (omega arith) (omega arith) (omega arith) g))
-      (omega arith) (omega arith) (omega arith) i)
+-- byte j of these bytes behind those before it
+pub bytes-more : {k : ℕ} → Width k → (piece : List ℕ) (first j p : ℕ) → p ≡ per k → (row after : List ℕ) → Filled (laidAt k piece first) 256 row (j * p)
+    → ByteLaid k (getD piece (first + j) 0) (j * p) row after → Filled (laidAt k piece first) 256 after ((j + 1) * p)
+bytes-more {k} w piece first j p q row after = rw q (λ z o. (o .same ∙ z .0, λ i h. entry z o i h (decLt i (j * per k))))
+  where
+    entry : Filled (laidAt k piece first) 256 row (j * per k) → ByteLaid k (getD piece (first + j) 0) (j * per k) row after → (i : ℕ) → i < (j + 1) * per k → Dec (i < j * per k) → getD after i 0 ≡ laidAt k piece first i
+    entry z o i h (yes l) = o .before i l ∙ z .1 i l
+    entry z o i h (no l) =
+        let t : ℕ = i - j * per k in
+        let e : j * per k + t ≡ i = omega arith in
+        let few : t < per k = omega (arith, add-mul j 1 (per k)) in
+        let n : first * per k + i ≡ (first + j) * per k + t = omega (arith, e, add-mul first j (per k)) in
+        ap (λ (m : ℕ). getD after m 0) (sym e) ∙ o .symbols t few ∙ sym (ap (λ (m : ℕ). getD (symbolsOf k piece) m 0) n ∙ symbols-in w piece (first + j) t few)
 
 -- a run of what is laid out is one of the piece's symbols
 module _ {k : ℕ} {piece : List ℕ} {first n : ℕ} {row : List ℕ} (z : LaidOut k piece first n row) where
