@@ -1,7 +1,8 @@
 // A code: base symbols of k bits, those below s stoppers. The place of the stopper in a codeword, and its length.
 ghost use mathlib.Core.Path.{_≡_};
-ghost use Prim.Native.Nat.{_<_};
+ghost use Prim.Native.Nat.{_+_, _≤_, _<_};
 ghost use lib.Dec.{T};
+ghost use Rattle.stopper.specs.Paper.Code.{Within, shorter};
 ghost use Rattle.stopper.specs.Paper.Table.{evenCode, base, stoppers, goodWidth, goodCode, lengthOf};
 ghost use Rattle.stopper.specs.Helpers.Answers.{placeOf};
 
@@ -63,25 +64,100 @@ pub fn stoppers_at(code: Code, place: u32) -> u32
     code.s as u32
 }
 
-// The stopper's place in the codeword of a rank, and q.
+// Where the codewords of a length begin: the place of their stopper, and how many codewords are shorter.
+struct Border {
+    at: u32,
+    shorter: u32,
+}
+
+// Where all places are alike: `one` codewords have one symbol, `two` have two, each length c times as many as the one before; `to_two` have at most two.
+// Six borders are asked. Past them either all lengths have as many, c being 1, or at most one more border is below 256.
+fn border_of(one: u32, c: u32, rank: u32) -> Border
+    requires { ⌜ (0 < one) × (one ≤ 4096) × (0 < c) × (c < 16) × (4 ≤ one + c) × (rank < 256) ⌝ }
+    ensures { λ r. ⌜ Within (one + c) (λ _. one) rank (r .at) × (r .shorter ≡ shorter (one + c) (λ _. one) (r .at)) ⌝ }
+{
+    if rank < one {
+        return Border { at: 0, shorter: 0 };
+    }
+    let two = one * c;
+    let to_two = one + two;
+    if rank < to_two {
+        return Border {
+            at: 1,
+            shorter: one,
+        };
+    }
+    let three = two * c;
+    let to_three = to_two + three;
+    if rank < to_three {
+        return Border {
+            at: 2,
+            shorter: to_two,
+        };
+    }
+    let four = three * c;
+    let to_four = to_three + four;
+    if rank < to_four {
+        return Border {
+            at: 3,
+            shorter: to_three,
+        };
+    }
+    let five = four * c;
+    let to_five = to_four + five;
+    if rank < to_five {
+        return Border {
+            at: 4,
+            shorter: to_four,
+        };
+    }
+    let six = five * c;
+    let to_six = to_five + six;
+    if rank < to_six {
+        return Border {
+            at: 5,
+            shorter: to_five,
+        };
+    }
+    let seven = six * c;
+    let more = (rank - to_six) / seven;
+    Border {
+        at: 6 + more,
+        shorter: to_six + more * seven,
+    }
+}
+
+// The stopper's place in the codeword of a rank, and q. From the third place on all are alike. Where the first or the second is not, which stoppers_at
+// does not have yet, these two are asked for themselves.
 pub fn place_of(code: Code, rank: u32) -> Place
     requires { ⌜ T (goodCode code) × (rank < 256) ⌝ }
     ensures { λ r. ⌜ r ≡ placeOf code rank ⌝ }
 {
     let m = base_of(code);
-    let mut s = stoppers_at(code, 0);
-    let mut at: u32 = 0;
-    let mut shorter: u32 = 0;
-    let mut rows: u32 = 1;
-    while shorter + rows * s <= rank {
-        shorter += rows * s;
-        rows *= m - s;
-        at += 1;
-        s = stoppers_at(code, at);
+    let first = stoppers_at(code, 0);
+    let second = stoppers_at(code, 1);
+    let later = stoppers_at(code, 2);
+    if first == later {
+        if second == later {
+            let b = border_of(later, m - later, rank);
+            return Place {
+                at: b.at,
+                q: rank - b.shorter,
+            };
+        }
     }
+    if rank < first {
+        return Place { at: 0, q: rank };
+    }
+    let rest = rank - first;
+    let two = (m - first) * second;
+    if rest < two {
+        return Place { at: 1, q: rest };
+    }
+    let b = border_of((m - first) * (m - second) * later, m - later, rest - two);
     Place {
-        at,
-        q: rank - shorter,
+        at: 2 + b.at,
+        q: rest - two - b.shorter,
     }
 }
 

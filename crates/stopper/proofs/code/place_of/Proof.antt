@@ -1,84 +1,207 @@
--- `stopper::code::place_of` meets its contract: `Powers`, at the code's stopper counts.
-use mathlib.Core.Path.{_≡_, ap, ap₂, _∙_}
-use Prim.Native.Nat.{ℕ, _+_, _-_, _*_, _<_}
-use native.Mathlib.Nat.{mul-pos}
+-- `stopper::code::place_of` meets its contract: the place with the property (`Within`) is the only one.
+use mathlib.Core.Path.{_≡_, sym, ap, ap₂, _∙_}
+use Prim.Native.Nat.{ℕ, zero, suc, _+_, _-_, _*_, _≤_, _<_}
+use native.Mathlib.Nat.{zero-add, one-mul, mul-pos, mul-le-mul, le-refl}
 use native.Mathlib.Omega.{arith}
 use borrow.Author.Needs.{needs}
 use lib.Dec.{T}
-use Rattle.stopper.specs.Paper.Code.{place, shorter}
+use Rattle.stopper.specs.Paper.Code.{Good, Within, opens, shorter, place}
 use Rattle.stopper.specs.Paper.Table.{base, stoppers, goodCode}
 use Rattle.stopper.specs.Helpers.Answers.{placeOf}
+use Rattle.stopper.specs.Laws.Code.{place-is}
 use Rattle.stopper.specs.Laws.Table.{code-base, code-good}
+use Rattle.stopper.specs.Laws.State.{stoppers-near}
 use Rattle.stopper.specs.declared.code.Code.{Code}
 use Rattle.stopper.specs.declared.code.Place.{Place}
-use Rattle.stopper.proofs.Powers.{At, big, start, again, found}
+use Rattle.stopper.proofs.Borders.{place-le, shorter-later, within-later}
 use Rattle.stopper.proofs.code.place_of.Statement.{statement}
 use Rattle.stopper.proofs.code.place_of.Tie as tie
 
-abbrev Inv-loop : tie.InvT-loop
-Inv-loop code rank m s₀ at₀ shorter₀ rows₀ s at shorter rows = T (goodCode code) × (m ≡ base code) × At (base code) (stoppers code) rank s at shorter rows
+-- what was asked of the code: the number of base symbols, and the stoppers of the first place, the second and all later ones
+record Asked (code : Code) (m a b u : ℕ) : Type 0 where
+  good : T (goodCode code)
+  symbols : m ≡ base code
+  first : a ≡ stoppers code 0
+  second : b ≡ stoppers code 1
+  later : u ≡ stoppers code 2
 
-abbrev μ-loop : tie.MeasureT-loop
-μ-loop code rank m s₀ at₀ shorter₀ rows₀ s at shorter rows = rank - shorter
+module _ {code : Code} {m a b u : ℕ} (k : Asked code m a b u) where
+  -- each place has a stopper and a continuer, of 4 to 16 symbols
+  sizes : (0 < a) × (a < m) × (0 < b) × (b < m) × (0 < u) × (u < m) × (4 ≤ m) × (m ≤ 16)
+  sizes =
+      let g : Good (base code) (stoppers code) = code-good code (k .good) in
+      rw (k .symbols, k .first, k .second, k .later) (g .low 0, g .high 0, g .low 1, g .high 1, g .low 2, g .high 2, code-base code (k .good) .0, code-base code (k .good) .1)
 
--- where the loop ends is the place, and what is left of the rank is q
-ended : (c : Code) (rank s i short rows : ℕ) → T (goodCode c) → At (base c) (stoppers c) rank s i short rows → rank < short + rows * s
-    → _≡_ {A = Place} (record { at = i; q = rank - short }) (placeOf c rank)
-unfolding placeOf
-ended c rank s i short rows g a h =
-    let p : i ≡ place (base c) (stoppers c) rank = found (code-good c g) a h in
-    let q : rank - short ≡ rank - shorter (base c) (stoppers c) (place (base c) (stoppers c) rank)
-    = ap (λ (n : ℕ). rank - n) (a .count ∙ ap (shorter (base c) (stoppers c)) p) in
-    ap₂ {C = Place} (λ (x y : ℕ). record { at = x; q = y }) p q
+  later-alike : (j : ℕ) → stoppers code (2 + j) ≡ u
+  later-alike j =
+      let e : 2 + j ≡ suc (suc j) = omega arith in
+      rw e (sym (stoppers-near code (suc (suc j))) ∙ sym (k .later))
 
-loop-holds : tie.Need-loop-holds Inv-loop μ-loop
-loop-holds c =
-    let a = c .before .before in
-    (a .pre .0, c .before .base-of .ensures, start (code-good (a .args .code) (a .pre .0)) (a .args .rank) _ (code-base (a .args .code) (a .pre .0) .1) (a .pre .1) (c .stoppers-at .ensures))
+  all-alike : a ≡ u → b ≡ u → (j : ℕ) → stoppers code (0 + j) ≡ u
+  all-alike e f zero = sym (k .first) ∙ e
+  all-alike e f (suc zero) = sym (k .second) ∙ f
+  all-alike e f (suc (suc j)) = rw zero-add (sym (stoppers-near code (suc (suc j))) ∙ sym (k .later))
 
-mul-loop : tie.Need-mul-loop Inv-loop μ-loop
-mul-loop c = omega (arith, big {b = c .loop .s} (c .loop .inv .2 .small) (omega arith))
+  -- the place with the property is the only one
+  placed : {r i q : ℕ} → Within (base code) (stoppers code) r i → q ≡ r - shorter (base code) (stoppers code) i
+      → _≡_ {A = Place} (record { at = i; q = q }) (placeOf code r)
+  unfolding placeOf
+  placed {r} {i} {q} w e =
+      let p : i ≡ place (base code) (stoppers code) r = sym (place-is (base code) (stoppers code) (code-good code (k .good)) w) in
+      ap₂ {C = Place} (λ (x y : ℕ). record { at = x; q = y }) p (e ∙ ap (λ (n : ℕ). r - shorter (base code) (stoppers code) n) p)
 
-add-loop : tie.Need-add-loop Inv-loop μ-loop
-add-loop c = omega (arith, c .loop .inv .2 .low, big {b = c .loop .s} (c .loop .inv .2 .small) (omega arith))
+  one-short : shorter (base code) (stoppers code) 1 ≡ a
+  unfolding opens shorter
+  one-short = rw (k .first) (omega arith)
 
-mul-rows : tie.Need-mul-rows Inv-loop μ-loop
-mul-rows c = omega (arith, big {b = c .before .before .before .base-of .result - c .before .loop .s} (c .before .loop .inv .2 .small) (omega arith))
+  two-short : shorter (base code) (stoppers code) 2 ≡ a + (m - a) * b
+  unfolding opens shorter
+  two-short = rw (k .symbols, k .first, k .second) (omega arith)
 
-loop-less : tie.Need-loop-less Inv-loop μ-loop
-loop-less c =
-    let l = c .before .before in
-    omega (arith, mul-pos (l .loop .inv .2 .some) (l .loop .inv .2 .one))
+  two-open : opens (base code) (stoppers code) 2 ≡ (m - a) * (m - b)
+  unfolding opens
+  two-open = rw (k .symbols, k .first, k .second) (omega arith)
 
-loop-again : tie.Need-loop-again Inv-loop μ-loop
-loop-again c =
-    let l = c .before .before in
-    let i = l .loop .inv in
-    (i .0, i .1, rw (i .1) (again (code-good _ (i .0)) (i .2) (c .before .loop-test .taken) (c .stoppers-at2 .ensures)))
+  -- the products are small, and none is 0
+  rows-pos : 0 < (m - a) * (m - b)
+  rows-pos = let s = sizes in mul-pos (omega arith) (omega arith)
 
-returns : tie.Need-returns Inv-loop μ-loop
+  rows-few : (m - a) * (m - b) ≤ 256
+  rows-few = let s = sizes in mul-le-mul {n₁ = m - a} {m₁ = m - b} {n₂ = 16} {m₂ = 16} (omega arith) (omega arith)
+
+  two-few : (m - a) * b ≤ 256
+  two-few = let s = sizes in mul-le-mul {n₁ = m - a} {m₁ = b} {n₂ = 16} {m₂ = 16} (omega arith) (omega arith)
+
+  three-few : (m - a) * (m - b) * u ≤ 4096
+  three-few = let s = sizes in mul-le-mul {n₁ = (m - a) * (m - b)} {m₁ = u} {n₂ = 256} {m₂ = 16} rows-few (omega arith)
+
+  three-some : u ≤ (m - a) * (m - b) * u
+  three-some = omega (arith, mul-le-mul {n₁ = 1} {m₁ = u} {n₂ = (m - a) * (m - b)} {m₂ = u} rows-pos (le-refl u))
+
+  -- ---- the four answers
+
+  module _ {r : ℕ} where
+    in-first : r < a → _≡_ {A = Place} (record { at = 0; q = r }) (placeOf code r)
+    unfolding shorter
+    in-first h = placed (record { above = omega arith; below = rw one-short h }) (omega arith)
+
+    in-second : a ≤ r → r - a < (m - a) * b → _≡_ {A = Place} (record { at = 1; q = r - a }) (placeOf code r)
+    in-second l h = placed (record { above = rw one-short l; below = rw two-short (omega arith) }) (rw one-short)
+
+    -- n places are passed, and from there on all are alike
+    from : (n one : ℕ) → ((j : ℕ) → stoppers code (n + j) ≡ u) → one ≡ opens (base code) (stoppers code) n * u → {q j s : ℕ} → r ≡ shorter (base code) (stoppers code) n + q
+        → Within (one + (m - u)) (λ _. one) q j × (s ≡ shorter (one + (m - u)) (λ _. one) j) → _≡_ {A = Place} (record { at = n + j; q = q - s }) (placeOf code r)
+    from n one alike o {q} {j} {s} e (w, p) =
+        let c : m - u ≡ base code - u = ap (λ (x : ℕ). x - u) (k .symbols) in
+        placed (within-later (base code) (stoppers code) n u one (m - u) alike o c e w)
+        (rw (p, e, shorter-later (base code) (stoppers code) n u one (m - u) alike o c j) (less (shorter (base code) (stoppers code) n) q _))
+      where
+        less : (x y z : ℕ) → y - z ≡ x + y - (x + z)
+        less x y z = omega arith
+
+    from-first : a ≡ u → b ≡ u → {j s : ℕ} → Within (u + (m - u)) (λ _. u) r j × (s ≡ shorter (u + (m - u)) (λ _. u) j)
+        → _≡_ {A = Place} (record { at = j; q = r - s }) (placeOf code r)
+    unfolding opens shorter
+    from-first e f {j} h = rw zero-add at (from 0 u (all-alike e f) (sym (one-mul u)) (sym (zero-add r)) h)
+
+    from-third : {j s : ℕ} → a ≤ r → (m - a) * b ≤ r - a → let one = (m - a) * (m - b) * u in
+        Within (one + (m - u)) (λ _. one) (r - a - (m - a) * b) j × (s ≡ shorter (one + (m - u)) (λ _. one) j)
+        → _≡_ {A = Place} (record { at = 2 + j; q = r - a - (m - a) * b - s }) (placeOf code r)
+    from-third l h = from 2 ((m - a) * (m - b) * u) later-alike (ap (λ (n : ℕ). n * u) (sym two-open)) (rest ((m - a) * b) h ∙ ap (λ (n : ℕ). n + (r - a - (m - a) * b)) (sym two-short))
+      where
+        rest : (x : ℕ) → x ≤ r - a → r ≡ a + x + (r - a - x)
+        rest x h = omega arith
+
+asked : (x : tie.After-stoppers-at3) → Asked (x .before .before .before .before .args .code) (x .before .before .before .base-of .result) (x .before .before .stoppers-at .result)
+    (x .before .stoppers-at2 .result) (x .stoppers-at3 .result)
+asked x = record {
+  good = x .before .before .before .before .pre .0;
+  symbols = x .before .before .before .base-of .ensures;
+  first = x .before .before .stoppers-at .ensures;
+  second = x .before .stoppers-at2 .ensures;
+  later = x .stoppers-at3 .ensures;
+}
+
+sub-border-of : tie.Need-sub-border-of
+sub-border-of c = let s = sizes (asked (c .before .before)) in omega arith
+
+border-of-requires : tie.Need-border-of-requires
+border-of-requires c κs =
+    let s = sizes (asked (c .before .before)) in
+    (omega arith, omega arith, omega arith, omega arith, omega arith, c .before .before .before .before .before .before .pre .1)
+
+returns : tie.Need-returns
 returns c =
-    let l = c .before in
-    ended _ _ _ _ _ _ (l .loop .inv .0) (l .loop .inv .2) (c .loop-test .left)
+    let x = c .before .before .before .before in
+    let b = c .before .border-of in
+    from-first (asked x) (c .before .before .before .if1 .taken) (c .before .before .if2 .taken) (b .ensures)
+
+returns-2 : tie.Need-returns-2
+returns-2 c = in-first (asked (c .before .before)) (c .if3 .taken)
+
+sub-two : tie.Need-sub-two
+sub-two c = let s = sizes (asked (c .before .before)) in omega arith
+
+mul-two : tie.Need-mul-two
+mul-two c = omega (arith, two-few (asked (c .before .before)))
+
+returns-3 : tie.Need-returns-3
+returns-3 c = in-second (asked (c .before .before .before)) (c .before .if3 .left) (c .if4 .taken)
+
+sub-border-of-2 : tie.Need-sub-border-of-2
+sub-border-of-2 c = let s = sizes (asked (c .before .before .before)) in omega arith
+
+sub-border-of-3 : tie.Need-sub-border-of-3
+sub-border-of-3 c = let s = sizes (asked (c .before .before .before)) in omega arith
+
+mul-border-of : tie.Need-mul-border-of
+mul-border-of c = omega (arith, rows-few (asked (c .before .before .before)))
+
+mul-border-of-2 : tie.Need-mul-border-of-2
+mul-border-of-2 c = omega (arith, three-few (asked (c .before .before .before)))
+
+sub-border-of-4 : tie.Need-sub-border-of-4
+sub-border-of-4 c = let s = sizes (asked (c .before .before .before)) in omega arith
+
+border-of-requires-2 : tie.Need-border-of-requires-2
+border-of-requires-2 c κs =
+    let k = asked (c .before .before .before) in
+    let s = sizes k in
+    (mul-pos (rows-pos k) (omega arith), three-few k, omega arith, omega arith, omega (arith, three-some k), omega arith)
+
+add-t14 : tie.Need-add-t14
+add-t14 c =
+    let k = asked (c .before .before .before .before .before) in
+    let s = sizes k in
+    omega (arith, place-le (mul-pos (rows-pos k) (omega arith)) (omega arith) (c .before .border-of2 .ensures .0))
+
+returns-4 : tie.Need-returns-4
+returns-4 c =
+    let x = c .before .before .before .before .before .before in
+    from-third (asked x) (c .before .before .before .before .if3 .left) (c .before .before .before .if4 .left) (c .before .before .border-of2 .ensures)
 
 pub place-of-spec : {M : Type 1} → statement M
 place-of-spec =
     tie.close
     (tie.spec
-    Inv-loop
-    μ-loop
-    (λ c κs. c .pre .0)
     (λ c κs. search needs)
-    loop-holds
-    mul-loop
-    add-loop
-    (λ c. omega arith)
-    (λ c. omega arith)
-    (λ c. omega arith)
-    mul-rows
-    (λ c. omega arith)
     (λ c κs. search needs)
-    loop-less
-    loop-again
-    (λ c. c .before .loop .inv .2 .low)
-    returns)
+    (λ c κs. search needs)
+    (λ c κs. search needs)
+    sub-border-of
+    border-of-requires
+    (λ c. search needs)
+    returns
+    returns-2
+    sub-two
+    mul-two
+    returns-3
+    sub-border-of-2
+    sub-border-of-3
+    mul-border-of
+    mul-border-of-2
+    sub-border-of-4
+    border-of-requires-2
+    add-t14
+    (λ c. search needs)
+    returns-4)
