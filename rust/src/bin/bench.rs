@@ -1,11 +1,13 @@
 //! Times the archive's operations against plain Rust on full rolls, in turn and on the same buffers.
 //!
-//! `bench [SVG]` prints tables in Markdown and, with a file name, draws the ratios into it.
+//! `bench [SVG]` prints tables in Markdown and, with a file name, draws the ratios into it. `bench texts FOLDER` writes the
+//! texts of the rolls with k = 2 there, and measures nothing.
 
 #![forbid(unsafe_code)]
 
 use std::fmt::Write;
 use std::fs;
+use std::path::Path;
 use std::process::exit;
 use std::time::Instant;
 
@@ -708,10 +710,25 @@ fn drawing(cases: &[Case], rows: &[Vec<Row>]) -> String {
     svg
 }
 
+fn written(path: &Path, content: impl AsRef<[u8]>) {
+    if let Err(error) = fs::write(path, content) {
+        eprintln!("bench: {}: {}", path.display(), error);
+        exit(2);
+    }
+}
+
 fn main() {
-    let (members, english) = (member_roll(), english_like());
+    let texts = [("member roll", member_roll()), ("English-like text", english_like())];
+    let words: Vec<String> = std::env::args().skip(1).collect();
+    if let [word, folder] = &words[..] {
+        assert_eq!(word, "texts");
+        for (name, text) in &texts {
+            written(&Path::new(folder).join(name), Case::new(name, 2, text).text);
+        }
+        return;
+    }
     let mut cases = Vec::new();
-    for (name, text) in [("member roll", &members), ("English-like text", &english)] {
+    for (name, text) in &texts {
         for k in [2, 4] {
             cases.push(Case::new(name, k, text));
         }
@@ -732,10 +749,7 @@ fn main() {
         println!("{}", table_in_pieces(&measure_in_pieces(case)));
         rows.push(measured);
     }
-    if let Some(path) = std::env::args().nth(1) {
-        if let Err(error) = fs::write(&path, drawing(&cases, &rows)) {
-            eprintln!("bench: {}: {}", path, error);
-            exit(2);
-        }
+    if let [picture] = &words[..] {
+        written(Path::new(picture), drawing(&cases, &rows));
     }
 }
