@@ -3,7 +3,8 @@
  *   rust/run turns EARLIER.a
  *
  * renames the earlier archive's functions from monterculo_ to earlier_, and runs this on the bench's texts. Nanoseconds of
- * a call: medians of ROUNDS rounds of CALLS calls each, after a round that is not measured. Both must answer the same.
+ * a call: medians of ROUNDS rounds of CALLS calls each, after a round that is not measured. No call may be refused, and
+ * both must answer alike as far as is looked: s and the total, a codeword's length and first symbol, h and the first byte.
  * Codewords are asked of the table's characters in turn; a table is chosen for all of a text, and its beginning packed. */
 #define _POSIX_C_SOURCE 199309L
 #include <stdio.h>
@@ -13,7 +14,7 @@
 
 #include "monterculo.h"
 
-enum { ROUNDS = 201, CALLS = 100, SHORT = 32, MOST = 65536 };
+enum { ROUNDS = 201, CALLS = 256, SHORT = 32, MOST = 65536 };
 
 struct archive {
     struct monterculo_chosen (*choose)(uint8_t k, const uint32_t *counts, size_t counts_len);
@@ -37,17 +38,27 @@ static size_t length;
 static uint32_t counts[256];
 static struct monterculo_table table;
 
+static void accepted(struct monterculo_answer answer)
+{
+    if (answer.number != 0) {
+        fprintf(stderr, "turns: a call was refused %u\n", (unsigned)answer.number);
+        exit(1);
+    }
+}
+
 /* Each answers a number made of what the call answered. */
 static uint64_t choose(const struct archive *a, size_t i)
 {
     (void)i;
     struct monterculo_chosen chosen = a->choose(k, counts, 256);
+    accepted(chosen.answer);
     return chosen.answer.value * 16 + chosen.table.s;
 }
 
 static uint64_t codeword_of(const struct archive *a, size_t i)
 {
     struct monterculo_coded coded = a->codeword_of(table, table.places[i % table.sigma]);
+    accepted(coded.answer);
     return coded.word.length * 16 + coded.word.symbols[0];
 }
 
@@ -55,6 +66,7 @@ static uint64_t pack(const struct archive *a, size_t i)
 {
     (void)i;
     struct monterculo_rolled rolled = a->pack(table, text, SHORT, buf, sizeof buf);
+    accepted(rolled.answer);
     return rolled.roll.h * 256 + buf[0];
 }
 
@@ -86,7 +98,7 @@ static void by_turns(const char *name, uint64_t (*call)(const struct archive *, 
                 times[which][round - 1] = (now() - start) / CALLS;
         }
         if (answers[0] != answers[1]) {
-            printf("%s: the answers differ\n", name);
+            fprintf(stderr, "turns: %s: the answers differ\n", name);
             exit(1);
         }
     }

@@ -1,4 +1,4 @@
--- The borders of the lengths, for any stopper counts by place: behind a place from which on all are alike, and where all are alike.
+-- The borders of the lengths: where all places are alike, and behind a place from which on they are.
 use mathlib.Core.Path.{_≡_, refl, sym, ap, ap₂, _∙_}
 use mathlib.Core.Logic.{_⊎_, inl, inr}
 use Prim.Native.Nat.{ℕ, zero, suc, _+_, _-_, _*_, _/_, _≤_, _<_}
@@ -7,7 +7,7 @@ use native.Mathlib.Omega.{arith}
 use Rattle.stopper.specs.Paper.Code.{Within, opens, shorter}
 use Rattle.stopper.specs.Laws.Code.{shorter-ge}
 
--- where one place has `one` stoppers and c continuers: `low` codewords have at most i symbols, and `many` have one more
+-- where each place has `one` stoppers and c continuers: `low` codewords have at most i symbols, and `many` have one more
 pub record At (one c i low many : ℕ) : Type 0 where
   pub shorter-is : low ≡ shorter (one + c) (λ _. one) i
   pub many-is : many ≡ opens (one + c) (λ _. one) i * one
@@ -66,7 +66,7 @@ module _ {one c : ℕ} where
           (within b (omega arith) (omega (arith, mul-le-mul-left many k)), b .shorter-is)
       go (suc (suc x)) t u v = absurd (omega arith)
 
--- if c is not 1, eight codewords or more have three symbols
+-- of four base symbols or more, if c is not 1, eight codewords or more have three symbols
 eight : (one c : ℕ) → 0 < one → 2 ≤ c → 4 ≤ one + c → 8 ≤ one * c * c
 eight zero c p h k = absurd (omega arith)
 eight (suc zero) c p h k = le-trans (omega arith) (mul-le-mul {n₁ = 3} {m₁ = 3} {n₂ = 1 * c} {m₂ = c} (omega arith) (omega arith))

@@ -1,4 +1,4 @@
--- What the promises forbid, each on a named input.
+-- What the promises forbid, on a named input or on all.
 use mathlib.Core.Path.{_≡_}
 use mathlib.Core.List.{[], _∷_, _++_}
 use Prim.Native.Nat.{ℕ, suc, _<_}

@@ -70,8 +70,8 @@ struct Border {
     shorter: u32,
 }
 
-// Where all places are alike: `one` codewords have one symbol, `two` have two, each length c times as many as the one before; `to_two` have at most two.
-// Six borders are asked. Past them either all lengths have as many, c being 1, or at most one more border is below 256.
+// Where the codewords of a rank's length begin, if all places are alike: `one` codewords have one symbol, `two` have two, each length c times as many as the
+// one before; `to_two` have at most two. Past six borders either all lengths have as many, c being 1, or at most one more border is below 256.
 fn border_of(one: u32, c: u32, rank: u32) -> Border
     requires { ⌜ (0 < one) × (one ≤ 4096) × (0 < c) × (c < 16) × (4 ≤ one + c) × (rank < 256) ⌝ }
     ensures { λ r. ⌜ Within (one + c) (λ _. one) rank (r .at) × (r .shorter ≡ shorter (one + c) (λ _. one) (r .at)) ⌝ }
@@ -128,7 +128,7 @@ fn border_of(one: u32, c: u32, rank: u32) -> Border
 }
 
 // The stopper's place in the codeword of a rank, and q. From the third place on all are alike. Where the first or the second is not, which stoppers_at
-// does not have yet, these two are asked for themselves.
+// does not have yet, these two are asked for themselves; behind them the lengths grow as those of a code of its own.
 pub fn place_of(code: Code, rank: u32) -> Place
     requires { ⌜ T (goodCode code) × (rank < 256) ⌝ }
     ensures { λ r. ⌜ r ≡ placeOf code rank ⌝ }

@@ -720,13 +720,20 @@ fn written(path: &Path, content: impl AsRef<[u8]>) {
 fn main() {
     let texts = [("member roll", member_roll()), ("English-like text", english_like())];
     let words: Vec<String> = std::env::args().skip(1).collect();
-    if let [word, folder] = &words[..] {
-        assert_eq!(word, "texts");
-        for (name, text) in &texts {
-            written(&Path::new(folder).join(name), Case::new(name, 2, text).text);
+    let picture = match &words[..] {
+        [] => None,
+        [word, folder] if word == "texts" => {
+            for (name, text) in &texts {
+                written(&Path::new(folder).join(name), Case::new(name, 2, text).text);
+            }
+            return;
         }
-        return;
-    }
+        [picture] if picture != "texts" => Some(Path::new(picture)),
+        _ => {
+            eprintln!("usage: bench [SVG] | bench texts FOLDER");
+            exit(2);
+        }
+    };
     let mut cases = Vec::new();
     for (name, text) in &texts {
         for k in [2, 4] {
@@ -749,7 +756,7 @@ fn main() {
         println!("{}", table_in_pieces(&measure_in_pieces(case)));
         rows.push(measured);
     }
-    if let [picture] = &words[..] {
-        written(Path::new(picture), drawing(&cases, &rows));
+    if let Some(picture) = picture {
+        written(picture, drawing(&cases, &rows));
     }
 }

@@ -59,13 +59,13 @@ seventh x =
 abbrev to-six : tie.Else6 → ℕ
 to-six x = let a = x .before .before .before .before .before .before .args in a .one + a .one * a .c + a .one * a .c * a .c + a .one * a .c * a .c * a .c + a .one * a .c * a .c * a .c * a .c + a .one * a .c * a .c * a .c * a .c * a .c
 
--- they end below the rank
+-- the last border passed is at most the rank
 below : (x : tie.Else6) → let r = x .before .before .before .before .before .before .args .rank in ((r - to-six x) / seven x ≤ r) × (to-six x + (r - to-six x) / seven x * seven x ≤ r)
 below x =
     let r = x .before .before .before .before .before .before .args .rank in
     (omega (arith, div-le-self (r - to-six x) (seven x)), omega (arith, div-mul-le-self (r - to-six x) (seven x)))
 
--- all have as many, or at most one more is passed
+-- all have as many, or at most one is passed
 rest : (x : tie.Else6) → let a = x .before .before .before .before .before .before .args in (a .c ≡ 1) ⊎ (a .rank < to-six x + (seven x + seven x))
 rest x =
     let s = x .before .before .before .before .before .before in

@@ -32,15 +32,17 @@ module _ {code : Code} {m a b u : ℕ} (k : Asked code m a b u) where
       let g : Good (base code) (stoppers code) = code-good code (k .good) in
       rw (k .symbols, k .first, k .second, k .later) (g .low 0, g .high 0, g .low 1, g .high 1, g .low 2, g .high 2, code-base code (k .good) .0, code-base code (k .good) .1)
 
+  -- from the third place on all are alike
+  alike : (j : ℕ) → stoppers code (suc (suc j)) ≡ u
+  alike j = sym (stoppers-near code (suc (suc j))) ∙ sym (k .later)
+
   later-alike : (j : ℕ) → stoppers code (2 + j) ≡ u
-  later-alike j =
-      let e : 2 + j ≡ suc (suc j) = omega arith in
-      rw e (sym (stoppers-near code (suc (suc j))) ∙ sym (k .later))
+  later-alike j = let e : 2 + j ≡ suc (suc j) = omega arith in rw e (alike j)
 
   all-alike : a ≡ u → b ≡ u → (j : ℕ) → stoppers code (0 + j) ≡ u
   all-alike e f zero = sym (k .first) ∙ e
   all-alike e f (suc zero) = sym (k .second) ∙ f
-  all-alike e f (suc (suc j)) = rw zero-add (sym (stoppers-near code (suc (suc j))) ∙ sym (k .later))
+  all-alike e f (suc (suc j)) = rw zero-add (alike j)
 
   -- the place with the property is the only one
   placed : {r i q : ℕ} → Within (base code) (stoppers code) r i → q ≡ r - shorter (base code) (stoppers code) i
@@ -91,10 +93,10 @@ module _ {code : Code} {m a b u : ℕ} (k : Asked code m a b u) where
     -- n places are passed, and from there on all are alike
     from : (n one : ℕ) → ((j : ℕ) → stoppers code (n + j) ≡ u) → one ≡ opens (base code) (stoppers code) n * u → {q j s : ℕ} → r ≡ shorter (base code) (stoppers code) n + q
         → Within (one + (m - u)) (λ _. one) q j × (s ≡ shorter (one + (m - u)) (λ _. one) j) → _≡_ {A = Place} (record { at = n + j; q = q - s }) (placeOf code r)
-    from n one alike o {q} {j} {s} e (w, p) =
+    from n one same o {q} {j} {s} e (w, p) =
         let c : m - u ≡ base code - u = ap (λ (x : ℕ). x - u) (k .symbols) in
-        placed (within-later (base code) (stoppers code) n u one (m - u) alike o c e w)
-        (rw (p, e, shorter-later (base code) (stoppers code) n u one (m - u) alike o c j) (less (shorter (base code) (stoppers code) n) q _))
+        placed (within-later (base code) (stoppers code) n u one (m - u) same o c e w)
+        (rw (p, e, shorter-later (base code) (stoppers code) n u one (m - u) same o c j) (less (shorter (base code) (stoppers code) n) q _))
       where
         less : (x y z : ℕ) → y - z ≡ x + y - (x + z)
         less x y z = omega arith
