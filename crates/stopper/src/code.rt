@@ -128,7 +128,7 @@ fn border_of(one: u32, c: u32, rank: u32) -> Border
 }
 
 // The stopper's place in the codeword of a rank, and q. From the third place on all are alike. Where the first or the second is not, which stoppers_at
-// does not have yet, these two are asked for themselves; behind them the lengths grow as those of a code of its own.
+// does not have yet, these two are asked for themselves; behind them the lengths grow as in a code of their own.
 pub fn place_of(code: Code, rank: u32) -> Place
     requires { ⌜ T (goodCode code) × (rank < 256) ⌝ }
     ensures { λ r. ⌜ r ≡ placeOf code rank ⌝ }

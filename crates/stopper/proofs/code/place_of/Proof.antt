@@ -124,9 +124,6 @@ asked x = record {
   later = x .stoppers-at3 .ensures;
 }
 
-sub-border-of : tie.Need-sub-border-of
-sub-border-of c = let s = sizes (asked (c .before .before)) in omega arith
-
 border-of-requires : tie.Need-border-of-requires
 border-of-requires c κs =
     let s = sizes (asked (c .before .before)) in
@@ -141,29 +138,8 @@ returns c =
 returns-2 : tie.Need-returns-2
 returns-2 c = in-first (asked (c .before .before)) (c .if3 .taken)
 
-sub-two : tie.Need-sub-two
-sub-two c = let s = sizes (asked (c .before .before)) in omega arith
-
-mul-two : tie.Need-mul-two
-mul-two c = omega (arith, two-few (asked (c .before .before)))
-
 returns-3 : tie.Need-returns-3
 returns-3 c = in-second (asked (c .before .before .before)) (c .before .if3 .left) (c .if4 .taken)
-
-sub-border-of-2 : tie.Need-sub-border-of-2
-sub-border-of-2 c = let s = sizes (asked (c .before .before .before)) in omega arith
-
-sub-border-of-3 : tie.Need-sub-border-of-3
-sub-border-of-3 c = let s = sizes (asked (c .before .before .before)) in omega arith
-
-mul-border-of : tie.Need-mul-border-of
-mul-border-of c = omega (arith, rows-few (asked (c .before .before .before)))
-
-mul-border-of-2 : tie.Need-mul-border-of-2
-mul-border-of-2 c = omega (arith, three-few (asked (c .before .before .before)))
-
-sub-border-of-4 : tie.Need-sub-border-of-4
-sub-border-of-4 c = let s = sizes (asked (c .before .before .before)) in omega arith
 
 border-of-requires-2 : tie.Need-border-of-requires-2
 border-of-requires-2 c κs =
@@ -190,19 +166,19 @@ place-of-spec =
     (λ c κs. search needs)
     (λ c κs. search needs)
     (λ c κs. search needs)
-    sub-border-of
+    (λ c. let s = sizes (asked (c .before .before)) in omega arith)
     border-of-requires
     (λ c. search needs)
     returns
     returns-2
-    sub-two
-    mul-two
+    (λ c. let s = sizes (asked (c .before .before)) in omega arith)
+    (λ c. omega (arith, two-few (asked (c .before .before))))
     returns-3
-    sub-border-of-2
-    sub-border-of-3
-    mul-border-of
-    mul-border-of-2
-    sub-border-of-4
+    (λ c. let s = sizes (asked (c .before .before .before)) in omega arith)
+    (λ c. let s = sizes (asked (c .before .before .before)) in omega arith)
+    (λ c. omega (arith, rows-few (asked (c .before .before .before))))
+    (λ c. omega (arith, three-few (asked (c .before .before .before))))
+    (λ c. let s = sizes (asked (c .before .before .before)) in omega arith)
     border-of-requires-2
     add-t14
     (λ c. search needs)
