@@ -10,7 +10,7 @@
 
 #define ROOM(array) (sizeof(array) / sizeof((array)[0]))
 
-/* Pan number, name and telephone number, a line for each member. All ten digits stand here, so all are in the table. */
+/* Pan number, name and telephone number, a line for each member. Digits, + and byte 10 are in any chosen table. */
 static const uint8_t members[] = "pan 7 Oda 5550143\n"
                                  "pan 12 Jory 5550128\n"
                                  "pan 112 Maren 5550167\n"
@@ -19,12 +19,12 @@ static const uint8_t members[] = "pan 7 Oda 5550143\n"
 static const uint8_t each[] = "pan ";
 /* With the word before it and the blank behind it, pan 12 is not found in pan 112 or in a pan 120. */
 static const uint8_t pan[] = "pan 12 ";
-static const uint8_t foreign[] = "+445550186";
-static const uint8_t corrected[] = "0445550186";
+static const uint8_t foreign[] = "+44-5550186";
+static const uint8_t corrected[] = "+445550186";
 
 /* What the office sends by radio: first the record, and then the packed bytes, so many at a time. Here each border
  * between two pieces cuts a codeword. */
-enum { WIDTH = 2, PIECE = 12 };
+enum { WIDTH = 2, PIECE = 13 };
 static uint8_t sent[128];
 
 /* The box: the record of the roll, its symbols and its directory, with room for longer numbers. */
@@ -136,12 +136,13 @@ int main(void)
 
     expect(0, monterculo_count(members, sizeof members - 1, counts, ROOM(counts)), "count");
     chosen = monterculo_choose(WIDTH, counts, ROOM(counts));
-    total = expect(0, chosen.answer, "choose");
-    printf("the table: %d stoppers, %d characters; the text takes %" PRIu64 " symbols\n", chosen.table.s,
-           chosen.table.sigma, total);
+    expect(0, chosen.answer, "choose");
     rolled = monterculo_pack(chosen.table, members, sizeof members - 1, sent, sizeof sent);
     expect(0, rolled.answer, "pack");
     roll = rolled.roll;
+    /* The total that choosing answers is more: no + stands in the text, and it has a codeword all the same. */
+    printf("the table: %d stoppers, %d characters; the text takes %" PRIu32 " symbols\n", roll.table.s,
+           roll.table.sigma, roll.h);
     receive();
     expect(0, monterculo_make_directory(roll, buf, sizeof buf, dir, ROOM(dir)), "make a directory");
     print_roll();

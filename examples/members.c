@@ -44,8 +44,8 @@ static int refused(const char *what, struct monterculo_answer answer)
     return told(what, monterculo_text(answer.number));
 }
 
-/* Characters that a correction may bring, whether the text has them today or not. */
-static const uint8_t to_come[] = "0123456789+-";
+/* Characters that a correction may bring, whether the text has them today or not. Digits and + any chosen table has. */
+static const uint8_t to_come[] = "-";
 
 /* Makes the roll of a text. If that is refused, the roll that was there is still there. */
 static int make(const uint8_t *text, size_t length)

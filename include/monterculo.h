@@ -22,18 +22,18 @@
  * - A buffer of exactly MONTERCULO_BYTES(h, k) leaves no room: an edit that takes more symbols than what it replaces is
  *   refused 4 then, but for the unused symbols of the last byte. Lend what the longest text to come needs, and so for
  *   the directory.
- * - Only characters in the table can be put in by an edit. Before choosing, count once more those that may come, such as
- *   all ten digits.
+ * - Only characters in the table can be put in by an edit. The ten digits, + and byte 10 are in every chosen table.
+ *   Before choosing, count once more others that may come, such as all letters.
  * - check finds what breaks the form, and not what changes the text. Of all single-bit faults of a made roll of member
- *   lines 46 % passed it with k = 2, and 78 % with k = 4, each with another text. An old record beside a newer buffer
+ *   lines 47 % passed it with k = 2, and 79 % with k = 4, each with another text. An old record beside a newer buffer
  *   may pass as well, as where an edit put characters behind the last and the old symbols filled whole bytes. Keep a
  *   checksum of your own, and save record, buffer and directory together.
  * - The answered searcher is the one to go on with: keep it in place of the one that was handed in. A hit that feed names
  *   is one of the text read so far; whether the roll is sound is known once monterculo_finish accepts, and not before.
  * - The stack, in bytes and with the arguments: edit 29,000, pack 27,000, unpack 12,900, search 11,700, feed 5,700,
- *   make_directory 5,600, check 5,300, codeword_of 3,900, start, choose, read_one and character_of 1,400, finish 1,100,
- *   count 100. No call takes memory from elsewhere. These figures and those of the faults were measured on the archive by
- *   tools/measure.c.
+ *   make_directory 5,600, check 5,300, codeword_of 3,900, choose 2,300, start, read_one and character_of 1,400, finish
+ *   1,100, count 100. No call takes memory from elsewhere. These figures and those of the faults were measured on the
+ *   archive by tools/measure.c.
  *
  * Sizes to lend.
  *   counts                256 entries of 32 bits
@@ -52,10 +52,11 @@
 extern "C" {
 #endif
 
-/* Of this header: the first number changes where a struct or a function does, the second where one is added. */
+/* Of this header: the first number changes where the form of a struct or a function does, the second where one is added
+ * or answers otherwise. */
 #define MONTERCULO_VERSION_MAJOR 1
-#define MONTERCULO_VERSION_MINOR 1
-#define MONTERCULO_VERSION "1.1"
+#define MONTERCULO_VERSION_MINOR 2
+#define MONTERCULO_VERSION "1.2"
 
 #define MONTERCULO_PLACES 256
 #define MONTERCULO_CODEWORD 86
@@ -206,10 +207,12 @@ struct monterculo_fed {
 struct monterculo_answer monterculo_count(const uint8_t *text, size_t text_len, uint32_t *counts, size_t counts_len);
 
 /* Chooses the table of width k with the fewest symbols for these counts; its places past sigma are 0. Any counts may
- * come.
+ * come. The ten digits, + and byte 10 count as at least 1 here, so that the table always has them; the lent counts stay
+ * as they are.
  * Refused: 1 (0; the width only), 2 (counts_len); the table is then k, s 0, sigma 0, all places 0.
  * Value: the total of symbols; a buffer of MONTERCULO_BYTES(total, k) bytes has room for the counted text, if the total
- * is not over 65,536. */
+ * is not over 65,536. It may have more than needed: the total is the symbols of the text and a codeword of each of the
+ * twelve that the text does not hold. So a text may be packed though its total is somewhat over 65,536. */
 struct monterculo_chosen monterculo_choose(uint8_t k, const uint32_t *counts, size_t counts_len);
 
 /* The codeword of a character.

@@ -2,28 +2,29 @@
  *
  *   gcc -I include -o sizes tools/sizes.c target/staticlib/libmonterculo.a && python3 tools/members.py 1000 | ./sizes
  *
- * Each roll takes as many whole lines as fit into 65,536 symbols under the table chosen for just these. A file is what
- * examples/members.c saves: 24 bytes, the characters of the table, the packed bytes and the directory. */
+ * Each roll takes whole lines until one more does not fit into 65,536 symbols under the table chosen for just these.
+ * The symbols are those of packing: the total that choosing answers may be more. A file is what examples/members.c
+ * saves: 24 bytes, the characters of the table, the packed bytes and the directory. */
 #include <stdio.h>
 
 #include "monterculo.h"
 
 enum { LINES = 1 << 16 };
 
-static uint8_t text[1 << 22];
+static uint8_t text[1 << 22], buf[MONTERCULO_BYTES(MONTERCULO_SYMBOLS, 4)];
 static size_t ends[LINES + 1];
 
-/* The table chosen for a part of the text; number 4 also if its total exceeds what a roll holds. */
-static struct monterculo_chosen choose(uint8_t k, size_t start, size_t end)
+/* The roll of a part of the text, under the table chosen for it; number 4 if the part does not fit into one. */
+static struct monterculo_rolled pack(uint8_t k, size_t start, size_t end)
 {
     uint32_t counts[256];
-    struct monterculo_chosen chosen = {0};
-    chosen.answer = monterculo_count(text + start, end - start, counts, 256);
-    if (chosen.answer.number == 0)
-        chosen = monterculo_choose(k, counts, 256);
-    if (chosen.answer.number == 0 && chosen.answer.value > MONTERCULO_SYMBOLS)
-        chosen.answer.number = MONTERCULO_NO_ROOM;
-    return chosen;
+    struct monterculo_chosen chosen;
+    struct monterculo_rolled rolled = {0};
+    rolled.answer = monterculo_count(text + start, end - start, counts, 256);
+    if (rolled.answer.number != 0)
+        return rolled;
+    chosen = monterculo_choose(k, counts, 256);
+    return monterculo_pack(chosen.table, text + start, end - start, buf, MONTERCULO_BYTES(MONTERCULO_SYMBOLS, k));
 }
 
 int main(void)
@@ -40,10 +41,10 @@ int main(void)
         size_t from = 0, first = 0, rolls = 0, symbols = 0, bytes = 0, entries = 0, file = 0;
         while (from < lines) {
             size_t fits = from, over = lines + 1;
-            struct monterculo_chosen chosen;
+            struct monterculo_roll roll;
             while (over - fits > 1) {
                 size_t middle = fits + (over - fits) / 2;
-                if (choose((uint8_t)k, ends[from], ends[middle]).answer.number == 0)
+                if (pack((uint8_t)k, ends[from], ends[middle]).answer.number == 0)
                     fits = middle;
                 else
                     over = middle;
@@ -52,13 +53,13 @@ int main(void)
                 printf("k %d: line %zu does not fit into a roll\n", k, from + 1);
                 return 1;
             }
-            chosen = choose((uint8_t)k, ends[from], ends[fits]);
-            symbols += chosen.answer.value;
-            bytes += MONTERCULO_BYTES(chosen.answer.value, k);
-            entries += MONTERCULO_ENTRIES(ends[fits] - ends[from]);
-            file += 24 + chosen.table.sigma;
+            roll = pack((uint8_t)k, ends[from], ends[fits]).roll;
+            symbols += roll.h;
+            bytes += MONTERCULO_BYTES(roll.h, k);
+            entries += MONTERCULO_ENTRIES(roll.n);
+            file += 24 + roll.table.sigma;
             printf("k %d: roll %zu has %zu lines; %d characters in the table, %d stoppers\n", k, ++rolls, fits - from,
-                   chosen.table.sigma, chosen.table.s);
+                   roll.table.sigma, roll.table.s);
             if (from == 0)
                 first = fits;
             from = fits;

@@ -122,6 +122,15 @@ static void case_of(const char *title)
     }
 }
 
+/* An archive of before landing 11, which raises nothing, answers alike for counts that need no raising. */
+static void raise_the_twelve(void)
+{
+    const char *c;
+    for (c = "\n+0123456789"; *c != 0; c++)
+        if (counts[(uint8_t)*c] == 0)
+            counts[(uint8_t)*c] = 1;
+}
+
 int main(int argc, char **argv)
 {
     int i;
@@ -134,6 +143,7 @@ int main(int argc, char **argv)
         }
         fclose(file);
         monterculo_count(text, length, counts, 256);
+        raise_the_twelve();
         case_of(strrchr(argv[i], '/') ? strrchr(argv[i], '/') + 1 : argv[i]);
     }
     for (i = 0; i < 256; i++) {

@@ -211,13 +211,17 @@ def counts_of(text):
     return [list(text).count(b) for b in range(256)]
 
 
-def choose(k, counts):
-    """The refusal or None, the total, the table: s with the fewest symbols, of equals the smallest; ranks by greater count, of equal
-    counts the smaller byte."""
+TWELVE = b"\n+0123456789"
+
+
+def choose(k, counts, twelve=TWELVE):
+    """The refusal or None, the total, the table: each of the twelve counts as at least 1; s with the fewest symbols, of equals the smallest;
+    ranks by greater count, of equal counts the smaller byte."""
     if k not in (2, 4):
         return (1, 0), 0, (k, 0, 0, [0] * 256)
     if len(counts) != 256:
         return (2, len(counts)), 0, (k, 0, 0, [0] * 256)
+    counts = [max(1, n) if b in twelve else n for b, n in enumerate(counts)]
     ranked = sorted((b for b in range(256) if counts[b]), key=lambda b: (-counts[b], b))
     totals = [(sum(counts[b] * len(w) for b, w in zip(ranked, codewords(k, s))), s) for s in range(1, 2 ** k)]
     total, s = min(totals)
@@ -956,6 +960,9 @@ count_case("abracadabra", TEXT, [9] * 256, None)
 count_case("every byte value", ALL + ALL[128:], ZEROS, None)
 count_case("65,536 of one", [255] * 65536, ZEROS, None)
 count_case("4, one more", [255] * 65537, [9] * 256, (4, 65536))
+count_case("the twelve", list(TWELVE), [9] * 256, None)
+for b in TWELVE:
+    count_case(f"{b} alone of the twelve", [b], [9] * 256, None)
 count_case("2, no counts", TEXT, [], (2, 0))
 count_case("2, 255 counts", TEXT, [9] * 255, (2, 255))
 count_case("2, 257 counts", TEXT, [9] * 257, (2, 257))
@@ -978,8 +985,42 @@ for k in (2, 4):
         choose_case(w + f"mixed {j}", k, [(i * i * (j + 7) + i * j) % (13 + 31 * j) if i % (j + 2) == 0 else 0 for i in range(256)], None)
 for k in (0, 1, 3, 5, 8, 255):
     choose_case(f"1, width {k}, before 2", k, [1] * 3, (1, 0))
-assert choose(2, counts_of(TEXT))[1] == 13 and choose(2, counts_of(TEXT))[2][:3] == ABRA[:3]
-assert choose(4, counts_of(b"banana"))[2][1] == 3
+# P1 and P5 by the counts as they are, and what choosing gives
+assert choose(2, counts_of(TEXT), b"")[1:] == (13, ABRA) and choose(4, counts_of(b"banana"), b"")[1:] == (6, table(4, 3, b"anb"))
+assert choose(2, counts_of(TEXT))[1:] == (53, table(2, 2, b"abr\n+0123456789cd"))
+assert choose(4, counts_of(b"banana"))[1:] == (18, table(4, 15, b"an\n+0123456789b"))
+assert choose(2, ZEROS)[1:] == (28, table(2, 2, TWELVE)) and choose(4, ZEROS)[1:] == (12, table(4, 12, TWELVE))
+
+# the twelve: none left out, no other raised, and none that is counted
+for k in (2, 4):
+    w = f"width {k}: "
+    choose_case(w + "every byte value but the twelve", k, [0 if b in TWELVE else 3 for b in ALL], None)
+    choose_case(w + "the twelve alone, once", k, counts_of(TWELVE), None)
+    choose_case(w + "the twelve alone, twice", k, counts_of(TWELVE * 2), None)
+    choose_case(w + "the bytes beside the twelve, once", k, counts_of(b"\x09\x0b*,/:"), None)
+    choose_case(w + "every byte value once but the twelve", k, [0 if b in TWELVE else 1 for b in ALL], None)
+    choose_case(w + "the greatest count, and the twelve", k, [2 ** 32 - 1 if b == 57 else 0 for b in ALL], None)
+    for b in TWELVE:
+        choose_case(w + f"{b} alone of the twelve not counted", k, [2 * (x in TWELVE and x != b) for x in ALL], None)
+        choose_case(w + f"{b} alone of the twelve counted", k, [2 * (x == b) for x in ALL], None)
+
+# a member's number goes into a roll that held none of its characters: no edit by the twelve is refused 3 under a chosen table
+for k in (2, 4):
+    w = f"width {k}: "
+    t = choose(k, counts_of(TEXT))[2]
+    _, n, h, buf = pack(t, TEXT, [0] * 40)
+    right = make_directory(t, n, h, buf, [0] * 2)[1]
+    pack_case(w + "a text, its table chosen", t, TEXT, [0xFF] * 12, None)
+    pack_case(w + "the twelve under it", t, list(TWELVE), [0xFF] * 16, None)
+    pack_case(w + "3, a letter that was not counted", t, list(b"+47e"), [0xFF] * 12, (3, 3))
+    edit_case(w + "a number in place of cad", t, n, h, buf, right, 4, 7, b"+4799\n", None)
+    for b in TWELVE:
+        edit_case(w + f"{b} before all", t, n, h, buf, right, 0, 0, [b], None)
+    edit_case(w + "3, a letter behind a number", t, n, h, buf, right, 11, 11, b"+47e", (3, 3))
+    t = choose(k, ZEROS)[2]
+    pack_case(w + "the empty text, its table chosen", t, [], [0xFF] * 2, None)
+    edit_case(w + "a number into an empty roll", t, 0, 0, [0xFF] * 24, [9], 0, 0, b"+4712345678\n", None)
+edit_case("3, a number in P2", ABRA, 11, 13, BYTES + [9], [0, 9], 4, 7, b"+47", (3, 0))
 
 # the codeword of a character, and the character of a codeword
 for k, s in ((2, 1), (2, 2), (2, 3), (4, 1), (4, 3), (4, 14), (4, 15)):
@@ -1007,16 +1048,16 @@ for k, s in ((2, 1), (2, 2), (2, 3), (4, 1), (4, 3), (4, 14), (4, 15)):
     character_case(w + "1 before 6", (3, s, 3, few[3]), 0, [0] * 86, (1, 0))
 
 # the program's report
-EXAMPLE = b"best 3 symbols 13\n18c34600\n0\n7\nhits 2\n"
+EXAMPLE = b"best 2 symbols 19\n182a4ac180\n0\n7\nhits 2\n"
 report_case("the paper's example", b"abra\nabracadabra", EXAMPLE)
 report_case("an empty input", b"", b"refused 11 0\n")
-report_case("no byte 10: the text is empty", b"abc", b"best 1 symbols 0\nhits 0\n")
+report_case("no byte 10: the text is empty", b"abc", b"best 2 symbols 0\nhits 0\n")
 report_case("a byte 10 alone", b"\n", b"refused 11 0\n")
 report_case("an empty pattern before a text", b"\nabc", b"refused 11 0\n")
-report_case("an empty text", b"abc\n", b"best 1 symbols 0\nhits 0\n")
+report_case("an empty text", b"abc\n", b"best 2 symbols 0\nhits 0\n")
 report_case("further bytes 10 are the text's", b"b\nab\nab\n")
 report_case("a pattern of 64", b"a" * 64 + b"\n" + b"a" * 70)
-report_case("a pattern of 64 and no byte 10", b"a" * 64, b"best 1 symbols 0\nhits 0\n")
+report_case("a pattern of 64 and no byte 10", b"a" * 64, b"best 2 symbols 0\nhits 0\n")
 report_case("a pattern of 65", b"a" * 65 + b"\n" + b"a" * 70, b"refused 11 0\n")
 report_case("a pattern of 65 and no byte 10", b"a" * 65, b"refused 11 0\n")
 report_case("a pattern that is not in the text", b"cab\nabracadabra")

@@ -16,6 +16,8 @@ pub const STRIDE: usize = 32;
 pub const PATTERN: usize = 64;
 /// Bytes of the program's buffer, and of its longest text.
 pub const PROGRAM: usize = 16_384;
+/// Characters that count as at least 1 in choosing: those of telephone numbers, and the end of a line.
+pub const ALWAYS: [u8; 12] = *b"0123456789+\n";
 
 #[derive(Clone, Debug, PartialEq, Eq)]
 pub struct Table {
@@ -153,24 +155,44 @@ pub fn count(text: &[u8], counts: &mut [u32]) -> Answer<()> {
     Ok(())
 }
 
-/// The total of symbols; beside a refusal stands k with s 0, σ 0 and all places 0.
+/// The total of symbols of the raised counts; beside a refusal stands k with s 0, σ 0 and all places 0.
 pub fn choose(k: u8, counts: &[u32]) -> (Answer<u64>, Table) {
-    let mut table = Table { k, s: 0, sigma: 0, places: [0; 256] };
+    let table = Table { k, s: 0, sigma: 0, places: [0; 256] };
     if !good_width(k) {
         return (refuse(1, 0), table);
     }
     if counts.len() != 256 {
         return (refuse(2, counts.len()), table);
     }
-    let mut ranked: Vec<u8> = (0..=255).filter(|&byte| counts[usize::from(byte)] > 0).collect();
-    ranked.sort_by_key(|&byte| (u32::MAX - counts[usize::from(byte)], byte));
+    let (fewest, table) = best(k, &raised(counts));
+    (Ok(fewest), table)
+}
+
+/// The counts that are ranked; those lent stay as they are.
+fn raised(counts: &[u32]) -> Vec<u32> {
+    let mut raised = counts.to_vec();
+    for byte in ALWAYS {
+        raised[usize::from(byte)] = raised[usize::from(byte)].max(1);
+    }
+    raised
+}
+
+/// The fewest symbols and their table, of 256 counts as they are and a good k.
+pub fn best(k: u8, counts: &[u32]) -> (u64, Table) {
+    let ranked = ranked(counts);
     let totals: Vec<(u64, u8)> = (1..=(1u8 << k) - 1).map(|s| (total(k, s, counts, &ranked), s)).collect();
     // The least pair is the fewest symbols and, of equals, the smallest s.
     let (fewest, s) = *totals.iter().min().expect("there is an s of 1");
-    table.s = s;
-    table.sigma = ranked.len() as u16;
-    table.places[..ranked.len()].copy_from_slice(&ranked);
-    (Ok(fewest), table)
+    let mut places = [0; 256];
+    places[..ranked.len()].copy_from_slice(&ranked);
+    (fewest, Table { k, s, sigma: ranked.len() as u16, places })
+}
+
+/// The greater count first, of equal counts the smaller byte.
+fn ranked(counts: &[u32]) -> Vec<u8> {
+    let mut ranked: Vec<u8> = (0..=255).filter(|&byte| counts[usize::from(byte)] > 0).collect();
+    ranked.sort_by_key(|&byte| (u32::MAX - counts[usize::from(byte)], byte));
+    ranked
 }
 
 /// Symbols that these counts take with s stoppers.
@@ -867,6 +889,18 @@ mod tests {
         Table { k, s, sigma, places }
     }
 
+    /// A table of these characters, in rank order.
+    fn given(k: u8, s: u8, characters: &[u8]) -> Table {
+        let mut places = [0; 256];
+        places[..characters.len()].copy_from_slice(characters);
+        Table { k, s, sigma: characters.len() as u16, places }
+    }
+
+    /// The table of P1, which choosing gave before the twelve counted as at least 1.
+    fn of_word() -> Table {
+        given(2, 3, b"abrcd")
+    }
+
     /// Packed behind guard bytes' worth of 0xAA, to see what stays.
     fn rolled(table: &Table, text: &[u8], bytes: usize) -> (Roll, Vec<u8>) {
         let mut buf = vec![0xAA; bytes];
@@ -914,19 +948,26 @@ mod tests {
 
     #[test]
     fn p1() {
-        let (fewest, table) = chosen(2, WORD);
-        assert_eq!((fewest, table.s, table.sigma), (13, 3, 5));
-        assert_eq!(characters(&table), b"abrcd");
-        assert_eq!(table.places[5..], [0; 251]);
-        let mut counts = [0; 256];
+        // Of the counts as they are.
+        let mut counts = [7; 256];
         count(WORD, &mut counts).unwrap();
+        assert_eq!(ranked(&counts), b"abrcd");
         let totals: Vec<u64> = (1..=3).map(|s| total(2, s, &counts, b"abrcd")).collect();
         assert_eq!(totals, [18, 15, 13]);
+        assert_eq!(best(2, &counts), (13, of_word()));
+
+        // Raised, they are 5, 2, 2 and fourteen times 1. Codewords of one symbol, two and so on there are:
+        // with s 1: 1, 3, 9, 27; the total is 5 + (2 + 2 + 1) · 2 + 9 · 3 + 4 · 4 = 58;
+        // with s 2: 2, 4, 8, 16; it is 5 + 2 + (2 + 1 + 1 + 1) · 2 + 8 · 3 + 3 · 4 = 53;
+        // with s 3: 3 of each length; it is 5 + 2 + 2 + 3 · (2 + 3 + 4 + 5) + 2 · 6 = 63.
+        assert_eq!(chosen(2, WORD), (53, given(2, 2, b"abr\n+0123456789cd")));
+        let totals: Vec<u64> = (1..=3).map(|s| total(2, s, &raised(&counts), b"abr\n+0123456789cd")).collect();
+        assert_eq!(totals, [58, 53, 63]);
     }
 
     #[test]
     fn p2() {
-        let (roll, buf) = rolled(&chosen(2, WORD).1, WORD, 6);
+        let (roll, buf) = rolled(&of_word(), WORD, 6);
         assert_eq!((roll.n, roll.h), (11, 13));
         assert_eq!(symbols_of(2, &buf, 13), [0, 1, 2, 0, 3, 0, 0, 3, 1, 0, 1, 2, 0]);
         assert_eq!(buf, [0x18, 0xC3, 0x46, 0x00, 0xAA, 0xAA]);
@@ -940,7 +981,7 @@ mod tests {
 
     #[test]
     fn p3() {
-        let (roll, buf) = rolled(&chosen(2, WORD).1, WORD, 4);
+        let (roll, buf) = rolled(&of_word(), WORD, 4);
         assert_eq!(found(&roll, &buf, b"b"), [1, 8]);
         let (answer, b) = codeword_of(&roll.table, b'b');
         assert!(answer.is_ok());
@@ -949,7 +990,7 @@ mod tests {
 
     #[test]
     fn p4() {
-        let (roll, buf) = rolled(&chosen(2, WORD).1, WORD, 4);
+        let (roll, buf) = rolled(&of_word(), WORD, 4);
         assert_eq!(found(&roll, &buf, b"a"), [0, 3, 5, 7, 10]);
         let mut hits = [7; 2];
         assert_eq!(search(&roll, &buf, b"a", &mut hits), Ok(5));
@@ -959,11 +1000,15 @@ mod tests {
 
     #[test]
     fn p5() {
-        let (_, table) = chosen(4, b"banana");
-        assert_eq!(table.s, 3);
-        let (roll, buf) = rolled(&table, b"banana", 3);
+        let (roll, buf) = rolled(&given(4, 3, b"anb"), b"banana", 3);
         assert_eq!(symbols_of(4, &buf, 6), [2, 0, 1, 0, 1, 0]);
         assert_eq!(buf, [0x20, 0x10, 0x10]);
+        assert_eq!(found(&roll, &buf, b"ana"), [1, 3]);
+        // Chosen, 15 characters take a symbol each with s 15 and no smaller s: 3 + 2 + 13. The last of them is b.
+        let (fewest, table) = chosen(4, b"banana");
+        assert_eq!((fewest, &table), (18, &given(4, 15, b"an\n+0123456789b")));
+        let (roll, buf) = rolled(&table, b"banana", 3);
+        assert_eq!((roll.h, &buf[..]), (6, &[0xE0, 0x10, 0x10][..]));
         assert_eq!(found(&roll, &buf, b"ana"), [1, 3]);
     }
 
@@ -1003,7 +1048,7 @@ mod tests {
 
     #[test]
     fn p10() {
-        let (roll, mut buf) = rolled(&chosen(2, WORD).1, WORD, 5);
+        let (roll, mut buf) = rolled(&of_word(), WORD, 5);
         let mut directory = vec![0, 77];
         let (answer, after) = edit(&roll, &mut buf, &mut directory, 4, 5, b"dd");
         assert!(answer.is_ok());
@@ -1015,7 +1060,7 @@ mod tests {
 
     #[test]
     fn p11() {
-        let (roll, mut buf) = rolled(&chosen(2, WORD).1, WORD, 5);
+        let (roll, mut buf) = rolled(&of_word(), WORD, 5);
         let mut directory = vec![0];
         let (answer, after) = edit(&roll, &mut buf, &mut directory, 4, 7, b"");
         assert!(answer.is_ok());
@@ -1025,9 +1070,11 @@ mod tests {
 
     #[test]
     fn p12() {
-        for k in [2, 4] {
+        // Twelve of 1. With k 2 and s 2 two of them take one symbol, four two and six three: 2 + 8 + 18; with s 1 it is
+        // 1 + 6 + 24, and with s 3 it is 3 + 6 + 9 + 12. With k 4 s 12 is the smallest under which each takes one.
+        for (k, s, symbols) in [(2, 2, 28), (4, 12, 12)] {
             let (fewest, table) = chosen(k, b"");
-            assert_eq!((fewest, &table), (0, &Table { k, s: 1, sigma: 0, places: [0; 256] }));
+            assert_eq!((fewest, &table), (symbols, &given(k, s, b"\n+0123456789")));
             let (roll, buf) = rolled(&table, b"", 2);
             assert_eq!((roll.n, roll.h), (0, 0));
             assert_eq!(buf, [0xAA, 0xAA]);
@@ -1080,7 +1127,7 @@ mod tests {
 
     #[test]
     fn p16() {
-        let (roll, buf) = rolled(&chosen(2, b"abc").1, b"abc", 1);
+        let (roll, buf) = rolled(&given(2, 3, b"abc"), b"abc", 1);
         assert_eq!(unpack(&roll, &buf, 3, 3, &mut []), Ok(()));
         assert_eq!(refused(unpack(&roll, &buf, 4, 4, &mut [])), (10, 0));
         let mut buf = buf;
@@ -1090,8 +1137,9 @@ mod tests {
 
     #[test]
     fn the_program() {
-        assert_eq!(report(b"abra\nabracadabra"), b"best 3 symbols 13\n18c34600\n0\n7\nhits 2\n");
-        assert_eq!(report(b"abc"), b"best 1 symbols 0\nhits 0\n");
+        // Under P1's chosen table: a 0, b 1, r 2 0, c 2 2 2 1, d 2 2 3 0. The total of 53 is not what the text takes.
+        assert_eq!(report(b"abra\nabracadabra"), b"best 2 symbols 19\n182a4ac180\n0\n7\nhits 2\n");
+        assert_eq!(report(b"abc"), b"best 2 symbols 0\nhits 0\n");
         assert_eq!(report(b""), b"refused 11 0\n");
         assert_eq!(report(b"\nabc"), b"refused 11 0\n");
         let over = [b"a\n".to_vec(), vec![b'a'; 16_385]].concat();
@@ -1131,7 +1179,7 @@ mod tests {
 
     #[test]
     fn refusals_in_order() {
-        let table = chosen(2, WORD).1;
+        let table = of_word();
         let (good, buf) = rolled(&table, WORD, 4);
         let roll = |n, h| Roll { table: table.clone(), n, h };
         assert_eq!(refused(check(&roll(11, 17), &buf)), (5, 17));
@@ -1168,7 +1216,7 @@ mod tests {
 
     #[test]
     fn read_one_follows_what_the_entry_says() {
-        let (roll, buf) = rolled(&chosen(2, WORD).1, WORD, 4);
+        let (roll, buf) = rolled(&of_word(), WORD, 4);
         assert_eq!(refused(read_one(&roll, &buf, &[0], 11)), (10, 0));
         assert_eq!(refused(read_one(&roll, &buf, &[], 0)), (9, 0));
         assert_eq!(refused(read_one(&roll, &buf, &[13], 0)), (9, 0));
@@ -1182,7 +1230,7 @@ mod tests {
 
     #[test]
     fn edit_refuses_in_order_and_clears() {
-        let (roll, buf) = rolled(&chosen(2, WORD).1, WORD, 4);
+        let (roll, buf) = rolled(&of_word(), WORD, 4);
         let try_edit = |directory: &[u32], start, end, text: &[u8]| {
             let (mut after, mut entries) = (buf.clone(), directory.to_vec());
             let (answer, record) = edit(&roll, &mut after, &mut entries, start, end, text);
@@ -1226,6 +1274,91 @@ mod tests {
 
         fn text(&mut self, longest: usize, alphabet: usize) -> Vec<u8> {
             (0..self.below(longest + 1)).map(|_| self.below(alphabet) as u8).collect()
+        }
+    }
+
+    /// Of each width what is chosen for these counts, which is what these others would be without the rule.
+    fn chosen_as(counts: &[u32; 256], others: &[u32; 256]) -> [Table; 2] {
+        [2, 4].map(|k| {
+            let (answer, table) = choose(k, counts);
+            assert_eq!((answer.unwrap(), table.clone()), best(k, others));
+            table
+        })
+    }
+
+    #[test]
+    fn each_of_the_twelve_missing_in_turn() {
+        // From '0' 2 to the line's end 13, and a letter 1.
+        let mut all = [0; 256];
+        for (times, byte) in (2..).zip(ALWAYS) {
+            all[usize::from(byte)] = times;
+        }
+        all[usize::from(b'a')] = 1;
+        for missing in ALWAYS {
+            let (mut counts, mut raised) = (all, all);
+            counts[usize::from(missing)] = 0;
+            raised[usize::from(missing)] = 1;
+            // It stands behind the other eleven, and before the letter as the smaller byte.
+            let mut order: Vec<u8> = ALWAYS.iter().copied().rev().filter(|&byte| byte != missing).collect();
+            order.extend([missing, b'a']);
+            for table in chosen_as(&counts, &raised) {
+                assert_eq!(characters(&table), order);
+            }
+        }
+    }
+
+    #[test]
+    fn what_is_not_0_is_not_raised() {
+        for times in [1, 2, 65_536, u32::MAX] {
+            let mut counts = [0; 256];
+            for byte in ALWAYS {
+                counts[usize::from(byte)] = times;
+            }
+            chosen_as(&counts, &counts);
+            // Nor a count of any other, be it 0.
+            counts[usize::from(b'/')] = 1;
+            for table in chosen_as(&counts, &counts) {
+                assert_eq!((table.sigma, rank_of(&table, b'/').is_some()), (13, true));
+            }
+        }
+        // Between bytes of equal counts the smaller comes first, whether it was raised or counted.
+        let (mut counts, mut raised) = ([0; 256], [0; 256]);
+        for byte in [b'\t', b'*', b'5', b':', b'z'] {
+            (counts[usize::from(byte)], raised[usize::from(byte)]) = (1, 1);
+        }
+        for byte in ALWAYS {
+            raised[usize::from(byte)] = 1;
+        }
+        for table in chosen_as(&counts, &raised) {
+            assert_eq!(characters(&table), b"\t\n*+0123456789:z");
+        }
+    }
+
+    /// The total is over the text's symbols by a codeword of each of the twelve that it does not hold; so a buffer for
+    /// it is enough. Telephone numbers can always come.
+    #[test]
+    fn the_total_and_the_symbols() {
+        let mut dice = Dice(3);
+        for round in 0..400 {
+            let k = 2 + 2 * (round % 2) as u8;
+            let alphabet = 1 + dice.below(if round % 4 < 2 { 5 } else { 120 });
+            let text = dice.text(150, alphabet);
+            let mut counts = [7; 256];
+            count(&text, &mut counts).unwrap();
+            assert_eq!(counts.iter().sum::<u32>() as usize, text.len());
+            let (fewest, table) = chosen(k, &text);
+            let (roll, buf) = rolled(&table, &text, bytes_for(k, fewest as usize));
+            let not_held = ALWAYS.iter().filter(|byte| !text.contains(byte));
+            let more: usize = not_held.map(|&byte| codeword_of(&table, byte).1.length).sum();
+            assert_eq!(fewest, u64::from(roll.h) + more as u64);
+
+            let number: Vec<u8> = (0..dice.below(20)).map(|_| ALWAYS[dice.below(12)]).collect();
+            let (start, mut directory) = (dice.below(text.len() + 1), directory_of(&roll, &buf));
+            let (mut buf, old) = (buf, directory.len());
+            buf.resize(8_000, 0);
+            directory.resize(old + 1, 0);
+            let (answer, after) = edit(&roll, &mut buf, &mut directory, start, text.len(), &number);
+            assert_eq!((answer, after.n as usize), (Ok(()), start + number.len()));
         }
     }
 
@@ -1319,7 +1452,7 @@ mod tests {
 
     #[test]
     fn the_word_in_pieces() {
-        let (roll, buf) = rolled(&chosen(2, WORD).1, WORD, 4);
+        let (roll, buf) = rolled(&of_word(), WORD, 4);
         let mut both = Both::start(&roll, b"abra");
         assert_eq!((both.searcher.progress, both.searcher.ends), (FRESH, 0));
         assert_eq!(refused(both.finish()), (6, 0));
@@ -1354,7 +1487,7 @@ mod tests {
 
     #[test]
     fn banana_in_pieces() {
-        let (roll, buf) = rolled(&chosen(4, b"banana").1, b"banana", 3);
+        let (roll, buf) = rolled(&given(4, 3, b"anb"), b"banana", 3);
         let mut both = Both::start(&roll, b"ana");
         assert_eq!([both.feed(&buf[..1]), both.feed(&buf[1..2]), both.feed(&buf[2..])], [(0, 0), (0, 1), (0, 1)]);
         assert_eq!((both.hits, both.searcher.ends), (vec![1, 3], 1));
@@ -1401,7 +1534,7 @@ mod tests {
 
     #[test]
     fn refusals_of_pieces_in_order() {
-        let (roll, buf) = rolled(&chosen(2, WORD).1, WORD, 5);
+        let (roll, buf) = rolled(&of_word(), WORD, 5);
         let mut bad = roll.clone();
         bad.table.places[1] = b'a';
         bad.h = 65_537;
@@ -1441,7 +1574,7 @@ mod tests {
 
     #[test]
     fn any_numbers_may_stand_in_a_searcher() {
-        let (roll, buf) = rolled(&chosen(2, WORD).1, WORD, 4);
+        let (roll, buf) = rolled(&of_word(), WORD, 4);
         let mut both = Both::start(&roll, b"abra");
         assert_eq!(both.feed(&buf[..2]).0, 0);
         let good = both.searcher;

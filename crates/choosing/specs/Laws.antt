@@ -2,5 +2,6 @@
 pub mod Ranking
 pub mod Choosing
 pub mod Counting
+pub mod Raised
 pub mod Accepting
 pub mod Operations

@@ -1,4 +1,5 @@
 // Choosing a table for counts.
+use crate::raising::raised_of;
 use crate::ranking::best_of;
 use crate::ranking::ranking_of;
 use ground::answers::Done;
@@ -9,7 +10,7 @@ ghost use mathlib.Core.Path.{_≡_};
 ghost use Rattle.choosing.specs.Paper.Operations.{Choosing};
 ghost use Rattle.choosing.specs.Helpers.Answers.{refusedChoice};
 
-// The table, and the symbols that the counted characters take under it.
+// The table, and the symbols that its characters take under it, each as often as it counts.
 pub struct Choice {
     pub answer: Done,
     pub table: Table,
@@ -39,8 +40,9 @@ pub fn choose(k: u8, counts: &[u32]) -> Choice
     if counts.len() != 256 {
         return refused(k, 2, counts.len() as u64);
     }
-    let ranking = ranking_of(counts);
-    let best = best_of(k, counts, ranking);
+    let raised = raised_of(counts);
+    let ranking = ranking_of(&raised);
+    let best = best_of(k, &raised, ranking);
     let code = best.code;
     let places = ranking.places;
     Choice {

@@ -5,7 +5,7 @@
 -- `TextIs r buf text`: unpacking the whole roll is accepted and gives that text. `DirectoryIs r buf dir`: making the directory again is accepted and changes
 -- nothing in it. Lists of numbers stand for slices: that a table has 256 places and that bytes are below 256 is asked where it matters, and holds of every call.
 use mathlib.Core.Path.{_≡_, refl, sym, ap, subst, _∙_}
-use mathlib.Core.Logic.{_↔_}
+use mathlib.Core.Logic.{_⊎_, _↔_}
 use mathlib.Core.List.{List, _++_}
 use Prim.Native.Nat.{ℕ, _+_, _-_, _/_, _≤_, _<_}
 use native.Mathlib.Omega.{arith}
@@ -30,10 +30,11 @@ use Rattle.stopper.specs.declared.table.Table.{Table}
 use Rattle.stopper.specs.declared.codeword_of.Codeword.{Codeword}
 use Rattle.stopper.specs.declared.codeword_of.Coded.{Coded}
 use Rattle.choosing.specs.Paper.Ranking.{ranked}
-use Rattle.choosing.specs.Paper.Choosing.{occurs, countsOf, counted, total, chosen, chosenTable}
+use Rattle.choosing.specs.Paper.Choosing.{occurs, countsOf, twelve, counted, total, chosen, chosenTable}
 use Rattle.choosing.specs.Paper.Operations.{countRows, countSays, Counting, chooseRows, chooseSays, Choosing}
 use Rattle.choosing.specs.Laws.Ranking.{ranking}
 use Rattle.choosing.specs.Laws.Choosing.{Fewest, chosen-least}
+use Rattle.choosing.specs.Laws.Raised.{unheld, counted-lent, counted-raised}
 use Rattle.choosing.specs.Laws.Accepting.{chooses-is}
 use Rattle.choosing.specs.declared.choose.Choice.{Choice}
 use Rattle.symbols.specs.Paper.Symbols.{per, bytesFor, room, symbolsOf}
@@ -53,7 +54,7 @@ use Rattle.roll.specs.Paper.Operations.{packRows, packSays, Packing, fitRows, C
 use Rattle.roll.specs.Laws.Accepting.{sound-accepted, accepted-sound, accepted-packs, unpacks-is, makes-is, searches-is}
 use Rattle.roll.specs.declared.pack.Packed.{Packed}
 use Rattle.roll.specs.declared.edit.Edited.{Edited}
-use Rattle.demands.specs.Counted.{counted-total, counted-packs}
+use Rattle.demands.specs.Counted.{counted-total, counted-packs, chosen-mem, AlwaysFits, always-known, always-4, never-3}
 use Rattle.demands.specs.Meaning.{packed-holds, pack-unpack, packing-sound, packing-unpacking}
 use Rattle.demands.specs.Made.{made-sound, made-right, reads-right}
 use Rattle.demands.specs.Edits.{edits-yes, editing-yes, edit-as-packed}
@@ -220,8 +221,9 @@ packed-codewords {t} {text} {buf} p y =
     let packs = accepted-packs t text buf e in
     rw (p .roll ∙ accepted-leaves e _ _, p .leaves ∙ accepted-leaves e _ _, holds-row (packed-holds t text buf packs)) (text-codewords (packs .good) (packs .known))
 
--- ---- with our ranking rule: count tells how often each byte occurs; of two characters the one counted more often has the smaller rank, of equal counts the smaller
--- byte (`InOrder`); and s is the one with the fewest symbols, of equals the smallest (`Fewest`)
+-- ---- with our ranking rule: count tells how often each byte occurs; in choosing a count is as it is lent, but each of the ten digits, `+` and byte 10 counts
+-- as at least 1 (`counted`); of two characters the one that counts more has the smaller rank, of equal counts the smaller byte (`InOrder`); and s is the one with the
+-- fewest symbols, of equals the smallest (`Fewest`)
 
 pub count-tells : {text counts after : List ℕ} {b : ℕ} → Counting text counts Yes after → b < 256 → getD after b 0 ≡ occurs text b
 unfolding countsOf
@@ -237,20 +239,71 @@ chosen-ranked {k} {counts} p y =
       chosen-least k (counted counts) (chooses-is k counts .1 e .0),
     )
 
--- a text that was counted and chosen for packs wherever the total has room, and takes the total
+-- what choosing answers
+chosen-table : {k : ℕ} {counts : List ℕ} {c : Choice} → Choosing k counts c → c .answer ≡ Yes → c .table ≡ chosenTable k (counted counts)
+chosen-table p y = p .table ∙ accepted-leaves (says-as (p .says) y) _ _
+
+pub count-as-lent : (counts : List ℕ) (b : ℕ) → (0 < getD counts b 0) ⊎ (b ∈ twelve → ⊥) → counted counts b ≡ getD counts b 0
+count-as-lent = counted-lent
+
+pub count-raised : (counts : List ℕ) (b : ℕ) → b ∈ twelve → getD counts b 0 ≡ 0 → counted counts b ≡ 1
+count-raised = counted-raised
+
+-- a character is in the chosen table exactly if it was counted or is one of the twelve
+pub chosen-characters : {k : ℕ} {counts : List ℕ} {c : Choice} {b : ℕ} → Choosing k counts c → c .answer ≡ Yes → b < 256
+    → b ∈ characters (c .table) ↔ ((0 < getD counts b 0) ⊎ (b ∈ twelve))
+chosen-characters {k} {counts} {c} {b} p y h = rw (chosen-table p y) (chosen-mem k counts b h)
+
+-- a text that was counted and chosen for packs wherever the total has room, and takes the total less the symbols of those of the
+-- twelve that it does not hold
 pub chosen-packs : {k : ℕ} {text counts counts2 : List ℕ} {c : Choice} → Below 256 text → Counting text counts Yes counts2 → Choosing k counts2 c → c .answer ≡ Yes
-    → {buf after : List ℕ} {a : Packed} → c .total ≤ room k (length buf) → Packing (c .table) text buf a after → (a .answer ≡ Yes) × (a .roll .h ≡ c .total)
+    → {buf after : List ℕ} {a : Packed} → c .total ≤ room k (length buf) → Packing (c .table) text buf a after
+    → (a .answer ≡ Yes) × (a .roll .h ≤ c .total) × (a .roll .h + length (symbolsFor (c .table) (unheld text)) ≡ c .total)
 chosen-packs {k} {text} {counts} {counts2} {c} small n p y {buf} {after} {a} fits w =
     let e = says-as (p .says) y in
     let is : counts2 ≡ countsOf text = n .leaves ∙ accepted-leaves (sym (n .says)) _ _ in
-    let table : c .table ≡ chosenTable k (counted (countsOf text)) = p .table ∙ accepted-leaves e _ _ ∙ ap (λ (x : List ℕ). chosenTable k (counted x)) is in
+    let table : c .table ≡ chosenTable k (counted (countsOf text)) = chosen-table p y ∙ ap (λ (x : List ℕ). chosenTable k (counted x)) is in
     let all : c .total ≡ total (chosen k (counted (countsOf text))) (counted (countsOf text))
     = p .total ∙ accepted-leaves e _ _ ∙ ap (λ (x : List ℕ). total (chosen k (counted x)) (counted x)) is in
     let g = chooses-is k counts2 .1 e .0 in
+    let parts : length (symbolsFor (c .table) text) + length (symbolsFor (c .table) (unheld text)) ≡ c .total
+    = rw table (sym (counted-total k g text small)) ∙ sym all in
     let yes : a .answer ≡ Yes
-    = done-one (a .answer) Yes (w .says ∙ ap (λ (t : Table). packSays t text buf) table ∙ counted-packs k g text small buf .1 (rw all at fits)) in
+    = done-one (a .answer) Yes
+    (w .says ∙ ap (λ (t : Table). packSays t text buf) table ∙ counted-packs k g text small buf .1 (rw (← table) (omega (arith, parts, fits)))) in
     let is-h : a .roll .h ≡ length (symbolsFor (c .table) text) = ap (λ (x : Roll). x .h) (w .roll ∙ accepted-leaves (says-as (w .says) yes) _ _) in
-    (yes, is-h ∙ ap (λ (t : Table). length (symbolsFor t text)) table ∙ sym (counted-total k g text small) ∙ sym all)
+    (yes, omega (arith, is-h, parts), omega (arith, is-h, parts))
+
+-- digits always fit: whatever the counts, a text of the twelve and of characters that were counted (`AlwaysFits`) is packed under the chosen table, or there is no
+-- room for it, which is 4; it is refused neither 1 nor 3
+pub digits-pack : {k : ℕ} {counts text buf after : List ℕ} {c : Choice} {a : Packed} {n v : ℕ} → Choosing k counts c → c .answer ≡ Yes → AlwaysFits counts text
+    → Packing (c .table) text buf a after → a .answer ≡ Refused n v → n ≡ 4
+digits-pack {k} {counts} {text} {buf} {after} {c} {a} {n} {v} p y fits w e =
+    always-4 k counts (chooses-is k counts .1 (says-as (p .says) y) .0) fits buf
+    (subst (λ (t : Table). Refuses (packRows t text buf) n v) (chosen-table p y) (order-pack w e))
+
+-- and an edit by such a text is never refused 3, in any roll of a chosen table
+pub digits-edit : {k : ℕ} {counts buf dir new after dirAfter : List ℕ} {r : Roll} {c : Choice} {e : Edited} {start end v : ℕ} → Choosing k counts c → c .answer ≡ Yes
+    → AlwaysFits counts new → r .table ≡ c .table → Editing r buf dir start end new e after dirAfter → e .answer ≡ Refused 3 v → ⊥
+digits-edit {k} {counts} {buf} {dir} {new} {after} {dirAfter} {r} {c} {e} {start} {end} {v} p y fits same w z =
+    never-3 r buf dir start end new (rw (same ∙ chosen-table p y) (always-known k counts fits)) (order-edit w z)
+
+-- it is accepted wherever its place is right and the edited text has room
+pub digits-edited : {k : ℕ} {counts buf dir text new after dirAfter : List ℕ} {r : Roll} {c : Choice} {e : Edited} {start end : ℕ} → Choosing k counts c → c .answer ≡ Yes
+    → AlwaysFits counts new → r .table ≡ c .table → TextIs r buf text → DirectoryIs r buf dir → start ≤ end → end ≤ r .n
+    → length (symbolsFor (r .table) (edited text start end new)) ≤ room (r .table .code .k) (length buf) → entries (length (edited text start end new)) ≤ length dir
+    → Editing r buf dir start end new e after dirAfter → e .answer ≡ Yes
+digits-edited {k} {counts} p y fits same t d a b room-there many w =
+    edits-yes w
+    (record {
+      sound = text-sound t;
+      right = directory-right d;
+      ordered = a;
+      inside = b;
+      known = rw (same ∙ chosen-table p y) (always-known k counts fits);
+      fits = rw (← text-is t) room-there;
+      listed = rw (← text-is t) many;
+    })
 
 -- ---- Unpacking a packed text gives that text
 

@@ -1,10 +1,15 @@
 -- Which row refused: lists of rows, asked one after the other.
-use mathlib.Core.Path.{_≡_}
-use mathlib.Core.Logic.{_⊎_, inl, inr, ⊎-elim}
-use mathlib.Core.List.{List, [], _∷_, _++_}
+use mathlib.Core.Path.{_≡_, sym, subst, _∙_}
+use mathlib.Core.Logic.{inl, inr, ⊎-elim}
+use mathlib.Core.Bool.{false}
+use mathlib.Core.List.{List, [], _∷_, _++_, map}
 use Prim.Native.Nat.{ℕ}
+use borrow.Author.Tests.{eq-eqb}
+use lib.Dec.{T, eqb}
 use Rattle.ground.specs.Paper.Refusals.{Row, Outcome, refused, judged, _then_}
 use Rattle.ground.specs.Laws.Refusals.{Accepted, NoneApplies, accepted-none, accepted-parts, Refuses, refused-row, refused-parts}
+use Rattle.ground.specs.Laws.Tests.{neither}
+use Rattle.stopper.specs.Paper.Table.{has}
 use Rattle.sound.specs.declared.records.Roll.{Roll}
 use Rattle.roll.specs.Paper.Operations.{fitRows, fitSays, checkRows, checkSays, directoryRows, directorySays}
 
@@ -17,6 +22,21 @@ module _ (n v : ℕ) where
   refuses-right : (a b : List Row) → NoneApplies a → Refuses b n v → Refuses (a ++ b) n v
   refuses-right [] b t p = p
   refuses-right (r ∷ a) b t p = inr (t .0, refuses-right a b (t .1) p)
+
+  -- not by a row that does not apply, nor by rows of other numbers
+  pub refuses-next : (r : Row) (rows : List Row) → r .applies ≡ false → Refuses (r ∷ rows) n v → Refuses rows n v
+  refuses-next r rows e (inl p) = absurd (subst T (sym (p .0) ∙ e) tt)
+  refuses-next r rows e (inr p) = p .1
+
+  pub refuses-last : (r : Row) → Refuses (r ∷ []) n v → n ≡ r .number
+  refuses-last r (inl p) = sym (p .1)
+  refuses-last r (inr p) = absurd (p .1)
+
+  pub refuses-past : (a b : List Row) → has n (map (λ (r : Row). r .number) a) ≡ false → Refuses (a ++ b) n v → Refuses b n v
+  unfolding has
+  refuses-past [] b e p = p
+  refuses-past (r ∷ a) b e (inl p) = absurd (subst T (sym (eq-eqb (r .number) n (p .1)) ∙ neither (eqb (r .number) n) _ e .0) tt)
+  refuses-past (r ∷ a) b e (inr p) = refuses-past a b (neither (eqb (r .number) n) _ e .1) (p .1)
 
 none-both : (a b : List Row) → NoneApplies a → NoneApplies b → NoneApplies (a ++ b)
 none-both [] b t u = u

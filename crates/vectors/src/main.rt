@@ -23,7 +23,7 @@ use stopper::codeword_of::Codeword;
 use stopper::table::Table;
 
 fn main() {
-    let mut input = [0u8; 458752];
+    let mut input = [0u8; 524288];
     let n = io::read_full(0, &mut input);
     cases(&input[..n]);
 }

@@ -14,7 +14,7 @@ use Rattle.stopper.specs.Paper.Reading.{readFrom, ahead, write}
 use Rattle.stopper.specs.Paper.Operations.{codewordSays, characterSays}
 use Rattle.stopper.specs.declared.table.Table.{Table}
 use Rattle.choosing.specs.Paper.Ranking.{key, insert, rankedFrom, ranked}
-use Rattle.choosing.specs.Paper.Choosing.{occurs, countsOf, counted, totalFrom, total, least, chosen, chosenTable}
+use Rattle.choosing.specs.Paper.Choosing.{occurs, countsOf, twelve, atLeast, counted, totalFrom, total, least, chosen, chosenTable}
 use Rattle.choosing.specs.Paper.Operations.{countSays, countLeaves, chooseSays, chooseTable, chooseTotal}
 use Rattle.symbols.specs.Paper.Symbols.{per, bytesFor, room, shift, symbolAt, symbolsOf, number, byteAt, bytesOf}
 use Rattle.texts.specs.Paper.Characters.{firstForeign}
@@ -58,9 +58,11 @@ sameTotal (refused n v) (refused n′ v′) = eqb n n′ && eqb v v′
 data Case : Type 0 where
   -- width, s, rank: its codeword
   word : ℕ → ℕ → ℕ → List ℕ → Case
-  -- width, text, s: the total for the text's counts
+  -- text: its characters in rank order, by its counts as they are
+  ranks : List ℕ → List ℕ → Case
+  -- width, text, s: the total for the text's counts as they are
   totals : ℕ → List ℕ → ℕ → ℕ → Case
-  -- width, text: choosing gives this table and total
+  -- width, text: for its counts choosing gives this table and total
   choice : ℕ → List ℕ → Table → ℕ → Case
   -- table, text, buffer: the outcome, the record, the symbols, the buffer afterwards
   packs : Table → List ℕ → List ℕ → Outcome (Unit {0}) → Roll → List ℕ → List ℕ → Case
@@ -77,7 +79,8 @@ data Case : Type 0 where
 
 right : Case → Bool
 right (word k s r w) = same (wordOf (record { k = k; s = s }) r) w && eqb (rankOf (2 ^ k) (stoppers (record { k = k; s = s })) w) r
-right (totals k text s n) = eqb (total (record { k = k; s = s }) (counted (countsOf text))) n
+right (ranks text l) = same (ranked (occurs text)) l
+right (totals k text s n) = eqb (total (record { k = k; s = s }) (occurs text)) n
 right (choice k text t n) =
     let counts = countLeaves text (zeros 256) in
     eqb (chooseTotal k counts) n && sameTable (chooseTable k counts) t
@@ -112,6 +115,13 @@ abra = tableOf (record { k = 2; s = 3 }) (97 ∷ 98 ∷ 114 ∷ 99 ∷ 100 ∷ [
 unfoldable pub packedAbra : List ℕ
 packedAbra = 24 ∷ 195 ∷ 70 ∷ 0 ∷ []
 
+-- a b r, byte 10, +, the digits, c d: what choosing gives for it
+unfoldable pub abraChosen : Table
+abraChosen = tableOf (record { k = 2; s = 2 }) (97 ∷ 98 ∷ 114 ∷ 10 ∷ 43 ∷ 48 ∷ 49 ∷ 50 ∷ 51 ∷ 52 ∷ 53 ∷ 54 ∷ 55 ∷ 56 ∷ 57 ∷ 99 ∷ 100 ∷ [])
+
+unfoldable pub packedChosen : List ℕ
+packedChosen = 24 ∷ 42 ∷ 74 ∷ 193 ∷ 128 ∷ []
+
 -- a record of so many characters and symbols
 abbrev pub rolled : Table → ℕ → ℕ → Roll
 rolled t n h = record { table = t; n = n; h = h }
@@ -123,27 +133,46 @@ banana = 98 ∷ 97 ∷ 110 ∷ 97 ∷ 110 ∷ 97 ∷ []
 unfoldable pub bananas : Table
 bananas = tableOf (record { k = 4; s = 3 }) (97 ∷ 110 ∷ 98 ∷ [])
 
+-- a n, byte 10, +, the digits, b: what choosing gives for it
+bananasChosen : Table
+bananasChosen = tableOf (record { k = 4; s = 15 }) (97 ∷ 110 ∷ 10 ∷ 43 ∷ 48 ∷ 49 ∷ 50 ∷ 51 ∷ 52 ∷ 53 ∷ 54 ∷ 55 ∷ 56 ∷ 57 ∷ 98 ∷ [])
+
+-- byte 10, +, the digits
+dialled : List ℕ
+dialled = 10 ∷ 43 ∷ 48 ∷ 49 ∷ 50 ∷ 51 ∷ 52 ∷ 53 ∷ 54 ∷ 55 ∷ 56 ∷ 57 ∷ []
+
+-- P1 by the counts as they are; P2 to P5, P10 and P11 with their tables given directly; behind each, what the table gives that choosing answers
 cases : List Case
 cases =
     -- P1
     totals 2 abracadabra 1 18
     ∷ totals 2 abracadabra 2 15
     ∷ totals 2 abracadabra 3 13
-    ∷ choice 2 abracadabra abra 13
+    ∷ ranks abracadabra (97 ∷ 98 ∷ 114 ∷ 99 ∷ 100 ∷ [])
+    ∷ choice 2 abracadabra abraChosen 53
     -- P2: symbols and bytes; a byte behind them stays
     ∷ packs abra abracadabra (9 ∷ 9 ∷ 9 ∷ 9 ∷ 9 ∷ []) yes (rolled abra 11 13)
     (0 ∷ 1 ∷ 2 ∷ 0 ∷ 3 ∷ 0 ∷ 0 ∷ 3 ∷ 1 ∷ 0 ∷ 1 ∷ 2 ∷ 0 ∷ []) (packedAbra ++ 9 ∷ [])
     ∷ checks (rolled abra 11 13) packedAbra yes
     ∷ unpacks (rolled abra 11 13) packedAbra 0 11 (replicate 12 9) yes (abracadabra ++ 9 ∷ [])
+    ∷ packs abraChosen abracadabra (9 ∷ 9 ∷ 9 ∷ 9 ∷ 9 ∷ 9 ∷ []) yes (rolled abraChosen 11 19)
+    (0 ∷ 1 ∷ 2 ∷ 0 ∷ 0 ∷ 2 ∷ 2 ∷ 2 ∷ 1 ∷ 0 ∷ 2 ∷ 2 ∷ 3 ∷ 0 ∷ 0 ∷ 1 ∷ 2 ∷ 0 ∷ 0 ∷ []) (packedChosen ++ 9 ∷ [])
     -- P3: b, and the symbol that equals its codeword and is no hit
     ∷ finds (rolled abra 11 13) packedAbra (98 ∷ []) (9 ∷ 9 ∷ 9 ∷ []) (accepted 2) (1 ∷ 8 ∷ 9 ∷ [])
     ∷ inside (rolled abra 11 13) packedAbra (98 ∷ []) 8
+    ∷ finds (rolled abraChosen 11 19) packedChosen (98 ∷ []) (9 ∷ 9 ∷ 9 ∷ []) (accepted 2) (1 ∷ 8 ∷ 9 ∷ [])
+    ∷ inside (rolled abraChosen 11 19) packedChosen (98 ∷ []) 8
     -- P4: a
     ∷ finds (rolled abra 11 13) packedAbra (97 ∷ []) (replicate 6 9) (accepted 5) (0 ∷ 3 ∷ 5 ∷ 7 ∷ 10 ∷ 9 ∷ [])
+    ∷ finds (rolled abraChosen 11 19) packedChosen (97 ∷ []) (replicate 6 9) (accepted 5) (0 ∷ 3 ∷ 5 ∷ 7 ∷ 10 ∷ 9 ∷ [])
     -- P5: symbols and bytes; ana, overlapping
-    ∷ choice 4 banana bananas 6
+    ∷ ranks banana (97 ∷ 110 ∷ 98 ∷ [])
+    ∷ totals 4 banana 3 6
     ∷ packs bananas banana (9 ∷ 9 ∷ 9 ∷ []) yes (rolled bananas 6 6) (2 ∷ 0 ∷ 1 ∷ 0 ∷ 1 ∷ 0 ∷ []) (32 ∷ 16 ∷ 16 ∷ [])
     ∷ finds (rolled bananas 6 6) (32 ∷ 16 ∷ 16 ∷ []) (97 ∷ 110 ∷ 97 ∷ []) (9 ∷ 9 ∷ 9 ∷ []) (accepted 2) (1 ∷ 3 ∷ 9 ∷ [])
+    ∷ choice 4 banana bananasChosen 18
+    ∷ packs bananasChosen banana (9 ∷ 9 ∷ 9 ∷ []) yes (rolled bananasChosen 6 6) (14 ∷ 0 ∷ 1 ∷ 0 ∷ 1 ∷ 0 ∷ []) (224 ∷ 16 ∷ 16 ∷ [])
+    ∷ finds (rolled bananasChosen 6 6) (224 ∷ 16 ∷ 16 ∷ []) (97 ∷ 110 ∷ 97 ∷ []) (9 ∷ 9 ∷ 9 ∷ []) (accepted 2) (1 ∷ 3 ∷ 9 ∷ [])
     -- P6
     ∷ word 4 14 13 (13 ∷ [])
     ∷ word 4 14 14 (14 ∷ 0 ∷ [])
@@ -161,19 +190,28 @@ cases =
     -- P10: dd in place of c; a byte and an entry behind stay
     ∷ edits (rolled abra 11 13) (packedAbra ++ 9 ∷ []) (0 ∷ 9 ∷ []) 4 5 (100 ∷ 100 ∷ []) yes
     (rolled abra 12 15) (24 ∷ 221 ∷ 52 ∷ 96 ∷ 9 ∷ []) (0 ∷ 9 ∷ [])
+    ∷ edits (rolled abraChosen 11 19) (packedChosen ++ 9 ∷ 9 ∷ []) (0 ∷ 9 ∷ []) 4 5 (100 ∷ 100 ∷ []) yes
+    (rolled abraChosen 12 23) (24 ∷ 43 ∷ 43 ∷ 10 ∷ 193 ∷ 128 ∷ 9 ∷ []) (0 ∷ 9 ∷ [])
     -- P11: cad dropped; the bytes used no longer are 0
     ∷ edits (rolled abra 11 13) (packedAbra ++ 9 ∷ []) (0 ∷ 9 ∷ []) 4 7 [] yes
     (rolled abra 8 8) (24 ∷ 24 ∷ 0 ∷ 0 ∷ 9 ∷ []) (0 ∷ 9 ∷ [])
-    -- all counts 0
-    ∷ choice 2 [] (tableOf (record { k = 2; s = 1 }) []) 0
-    ∷ choice 4 [] (tableOf (record { k = 4; s = 1 }) []) 0
+    ∷ edits (rolled abraChosen 11 19) (packedChosen ++ 9 ∷ []) (0 ∷ 9 ∷ []) 4 7 [] yes
+    (rolled abraChosen 8 10) (24 ∷ 6 ∷ 0 ∷ 0 ∷ 0 ∷ 9 ∷ []) (0 ∷ 9 ∷ [])
+    -- +47 in place of cad: no such characters in P1's table, all of them in a chosen one
+    ∷ edits (rolled abra 11 13) (packedAbra ++ 9 ∷ []) (0 ∷ 9 ∷ []) 4 7 (43 ∷ 52 ∷ 55 ∷ []) (refused 3 0)
+    (rolled abra 11 13) (packedAbra ++ 9 ∷ []) (0 ∷ 9 ∷ [])
+    ∷ edits (rolled abraChosen 11 19) (packedChosen ++ 9 ∷ []) (0 ∷ 9 ∷ []) 4 7 (43 ∷ 52 ∷ 55 ∷ []) yes
+    (rolled abraChosen 11 18) (24 ∷ 50 ∷ 223 ∷ 6 ∷ 0 ∷ 9 ∷ []) (0 ∷ 9 ∷ [])
+    -- all counts 0: the twelve alone
+    ∷ choice 2 [] (tableOf (record { k = 2; s = 2 }) dialled) 28
+    ∷ choice 4 [] (tableOf (record { k = 4; s = 12 }) dialled) 12
     ∷ []
 
 -- all that the cases compute with, named once
 unfoldable pub computed : Unit {0}
-unfolding limit tab zeros padded firstWhere codeword place first shorter opens spell rankOf rankFrom rankAt stoppers goodWidth goodCode goodCharacters goodTable has repeats rankIn lengthOf readFrom ahead write key insert rankedFrom ranked occurs countsOf counted totalFrom total least chosen chosenTable per bytesFor room shift symbolAt symbolsOf number byteAt bytesOf firstForeign firstOver textRow readingFrom isBad ranksRead firstBad textOf allZero entries sum startAt directoryOf lengthsOf lengthsFor firstWrong stands hitsFrom hits goodPattern countSays chooseSays codewordSays characterSays packSays fitSays checkSays unpackSays makeSays readSays searchSays directorySays editSays
+unfolding limit tab zeros padded firstWhere codeword place first shorter opens spell rankOf rankFrom rankAt stoppers goodWidth goodCode goodCharacters goodTable has repeats rankIn lengthOf readFrom ahead write key insert rankedFrom ranked occurs countsOf twelve atLeast counted totalFrom total least chosen chosenTable per bytesFor room shift symbolAt symbolsOf number byteAt bytesOf firstForeign firstOver textRow readingFrom isBad ranksRead firstBad textOf allZero entries sum startAt directoryOf lengthsOf lengthsFor firstWrong stands hitsFrom hits goodPattern countSays chooseSays codewordSays characterSays packSays fitSays checkSays unpackSays makeSays readSays searchSays directorySays editSays
 computed = tt
 
 worked : T (every cases)
-unfolding every cases right same sameTable sameRoll sameOutcome sameTotal yes abracadabra abra packedAbra banana bananas computed
+unfolding every cases right same sameTable sameRoll sameOutcome sameTotal yes abracadabra abra packedAbra abraChosen packedChosen banana bananas bananasChosen dialled computed
 worked = tt

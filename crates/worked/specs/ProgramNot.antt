@@ -20,28 +20,33 @@ example-answer = refl
 at : {out : List ℕ} (i : ℕ) → reportOf example ≡ out → getD out i 0 ≡ getD exampleLines i 0
 at i e = ap (λ (l : List ℕ). getD l i 0) (sym e ∙ example-answer)
 
--- choosing with k = 4: s would be 5
-pub report-not-wide : {out : List ℕ} → reportOf example ≡ out → getD out 5 0 ≡ 53 → ⊥
+-- choosing with k = 4: s would be 15
+pub report-not-wide : {out : List ℕ} → reportOf example ≡ out → getD out 5 0 ≡ 49 → ⊥
 unfolding exampleLines
 report-not-wide e w = let a = at 5 e in omega arith
 
--- upper-case hexadecimal: 18C3
-pub report-not-upper : {out : List ℕ} → reportOf example ≡ out → getD out 20 0 ≡ 67 → ⊥
+-- choosing's total in the place of h: 53, which counts the twelve that the text does not hold
+pub report-not-total : {out : List ℕ} → reportOf example ≡ out → getD out 15 0 ≡ 53 → ⊥
 unfolding exampleLines
-report-not-upper e w = let a = at 20 e in omega arith
+report-not-total e w = let a = at 15 e in omega arith
+
+-- upper-case hexadecimal: 182A
+pub report-not-upper : {out : List ℕ} → reportOf example ≡ out → getD out 21 0 ≡ 65 → ⊥
+unfolding exampleLines
+report-not-upper e w = let a = at 21 e in omega arith
 
 -- hits from 1: the first would be 1
-pub report-not-from-1 : {out : List ℕ} → reportOf example ≡ out → getD out 27 0 ≡ 49 → ⊥
+pub report-not-from-1 : {out : List ℕ} → reportOf example ≡ out → getD out 29 0 ≡ 49 → ⊥
 unfolding exampleLines
-report-not-from-1 e w = let a = at 27 e in omega arith
+report-not-from-1 e w = let a = at 29 e in omega arith
 
 -- a leading zero: 07
-pub report-not-leading : {out : List ℕ} → reportOf example ≡ out → getD out 29 0 ≡ 48 → ⊥
+pub report-not-leading : {out : List ℕ} → reportOf example ≡ out → getD out 31 0 ≡ 48 → ⊥
 unfolding exampleLines
-report-not-leading e w = let a = at 29 e in omega arith
+report-not-leading e w = let a = at 31 e in omega arith
 
 -- a last line that is not ended
-pub report-not-unended : {out : List ℕ} → reportOf example ≡ out → length out ≡ 37 → ⊥
+pub report-not-unended : {out : List ℕ} → reportOf example ≡ out → length out ≡ 39 → ⊥
 unfolding exampleLines
 report-not-unended e w = let a = ap length (sym e ∙ example-answer) in omega arith
 
@@ -95,7 +100,7 @@ pub report-not-skipping : {out : List ℕ} → reportOf (97 ∷ 97 ∷ 10 ∷ 97
 unfolding computed
 report-not-skipping e w = let a = ap (λ (l : List ℕ). getD l 22 0) e in omega arith
 
--- a match of symbols inside a codeword: b in abracadabra hits 1 and 8, and not 6
-pub report-not-inside : {out : List ℕ} → reportOf (98 ∷ 10 ∷ drop 5 example) ≡ out → getD out 29 0 ≡ 54 → ⊥
+-- a match of symbols inside a codeword: b in abracadabra hits 1 and 8, and not 4
+pub report-not-inside : {out : List ℕ} → reportOf (98 ∷ 10 ∷ drop 5 example) ≡ out → getD out 31 0 ≡ 52 → ⊥
 unfolding example computed
-report-not-inside e w = let a = ap (λ (l : List ℕ). getD l 29 0) e in omega arith
+report-not-inside e w = let a = ap (λ (l : List ℕ). getD l 31 0) e in omega arith

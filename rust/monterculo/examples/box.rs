@@ -7,7 +7,7 @@ use std::io::{self, Cursor, Read, Write};
 
 use monterculo::{OwnedRoll, Refusal, Roll, Searcher, Table, Width};
 
-/// Pan number, name and telephone number, a line for each member. All ten digits stand here, so all are in the table.
+/// Pan number, name and telephone number, a line for each member. Digits, + and byte 10 are in any chosen table.
 const MEMBERS: &[u8] = b"pan 7 Oda 5550143\n\
                          pan 12 Jory 5550128\n\
                          pan 112 Maren 5550167\n\
@@ -17,9 +17,9 @@ const PAN: &str = "pan 12 ";
 /// Each line begins so.
 const EACH: &str = "pan ";
 /// So many packed bytes come at a time. Here each border between two pieces cuts a codeword.
-const PIECE: usize = 12;
-const FOREIGN: &str = "+445550186";
-const CORRECTED: &str = "0445550186";
+const PIECE: usize = 13;
+const FOREIGN: &str = "+44-5550186";
+const CORRECTED: &str = "+445550186";
 
 fn print_roll(roll: &OwnedRoll, out: &mut impl Write) -> io::Result<()> {
     let (record, buf, directory) = roll.as_parts();

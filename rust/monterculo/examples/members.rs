@@ -10,8 +10,8 @@ use std::{env, process};
 
 use monterculo::{bytes_for, entries_for, OwnedRoll, Refusal, Roll, Table, Width};
 
-/// Characters that may come by a correction, whether the text has them today or not.
-const TO_COME: &[u8] = b"0123456789+-";
+/// Characters that may come by a correction, whether the text has them today or not. Digits and + any chosen table has.
+const TO_COME: &[u8] = b"-";
 
 fn make(text: &[u8]) -> Result<OwnedRoll, Refusal> {
     OwnedRoll::with_spare(Width::Four, text, TO_COME, 0)

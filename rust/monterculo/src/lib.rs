@@ -28,8 +28,8 @@
 //!
 //! fn main() -> Result<(), Refusal> {
 //!     let members = b"pan 7 Oda 5550143\npan 12 Jory 5550128\npan 112 Maren 5550167\n";
-//!     // Every digit may come by a correction, and there is room for 64 symbols more.
-//!     let mut roll = OwnedRoll::with_spare(Width::Two, members, b"0123456789", 64)?;
+//!     // Any digit may come by a correction, and there is room for 64 symbols more.
+//!     let mut roll = OwnedRoll::with_spare(Width::Two, members, b"", 64)?;
 //!
 //!     // With the word before it and the blank behind it, pan 12 is not found in pan 112.
 //!     let hits = roll.find(b"pan 12 ")?;
@@ -57,19 +57,18 @@
 //! # In lent memory
 //!
 //! ```
-//! use monterculo::{count, entries_for, Roll, Table};
+//! use monterculo::{bytes_for, count, entries_for, Roll, Table};
 //!
 //! # fn main() -> Result<(), monterculo::Refusal> {
 //! let text = b"Agnes, pan 4, tel 555-0143; Bruno, pan 7, tel 555-0170";
 //! let mut counts = [0; 256];
 //! count(text, &mut counts)?;
-//! // Counted once more, every digit has a codeword, and may come by an edit.
-//! for digit in b'0'..=b'9' {
-//!     counts[usize::from(digit)] += 1;
-//! }
+//! // The digits, + and byte 10 are in any chosen table, and may come by an edit; so may a letter that is counted.
+//! counts[usize::from(b'z')] += 1;
 //! let (table, total) = Table::choose(4, &counts)?;
-//! // Room to spare, as the edited text may take more symbols than the total.
+//! // Bytes for the total are enough for the text. Room to spare, as the edited text may take more symbols.
 //! let mut buf = [0; 128];
+//! assert!(bytes_for(4, total) < buf.len());
 //! let mut roll = Roll::pack(&table, text, &mut buf)?;
 //! let mut directory = vec![0; entries_for(roll.n())];
 //! roll.make_directory(&buf, &mut directory)?;
@@ -136,8 +135,9 @@ pub const fn entries_for(n: u32) -> usize {
 
 /// The bytes of a buffer for h symbols of k bits: h·k/8, rounded up.
 ///
-/// The total of [`Table::choose`] may be taken as it is. No roll has more than [`SYMBOLS`] symbols, so more than
-/// 16,384 bytes with k = 2, or 32,768 with k = 4, are of no use to one.
+/// The total of [`Table::choose`] may be taken as it is; it is enough for the counted text, and may be more than that
+/// needs. No roll has more than [`SYMBOLS`] symbols, so more than 16,384 bytes with k = 2, or 32,768 with k = 4, are of
+/// no use to one.
 ///
 /// ```
 /// assert_eq!([0, 1, 4, 5, 13].map(|h| monterculo::bytes_for(2, h)), [0, 1, 1, 2, 4]);

@@ -15,7 +15,7 @@ use crate::{bytes_for, count, entries_for, Refusal, Roll, Table, Width, PLACES, 
 ///
 /// let members = b"pan 7 Oda 5550143\npan 12 Jory 5550128\n";
 /// // Any digit may come by a correction, and 40 symbols more than now before the room must grow.
-/// let mut roll = OwnedRoll::with_spare(Width::Two, members, b"0123456789", 40)?;
+/// let mut roll = OwnedRoll::with_spare(Width::Two, members, b"", 40)?;
 /// assert_eq!(roll.find(b"pan 12 ")?, [18]);
 /// let line = roll.line_of(18)?;
 /// assert_eq!((line.range, &line.text[..]), (18..37, &b"pan 12 Jory 5550128"[..]));
@@ -53,7 +53,8 @@ impl Eq for OwnedRoll {}
 impl OwnedRoll {
     /// Packs a text under the best table for it, with no room to spare.
     ///
-    /// Only the text's own characters can come by [`OwnedRoll::replace`]; [`OwnedRoll::with_spare`] takes further ones.
+    /// Only the text's own characters, the ten digits, + and byte 10 can come by [`OwnedRoll::replace`];
+    /// [`OwnedRoll::with_spare`] takes further ones.
     ///
     /// Refusals, in their order: 4 (65,536; the text is longer), 4 (number of the first character behind the 65,536
     /// symbols of a roll).
@@ -62,25 +63,26 @@ impl OwnedRoll {
     /// use monterculo::{OwnedRoll, Width};
     ///
     /// let roll = OwnedRoll::new(Width::Two, b"abracadabra")?;
-    /// assert_eq!(roll.as_parts().1, [0x18, 0xc3, 0x46, 0x00]);
+    /// assert_eq!(roll.as_parts().1, [0x18, 0x2a, 0x4a, 0xc1, 0x80]);
     /// # Ok::<(), monterculo::Refusal>(())
     /// ```
     pub fn new(width: Width, text: &[u8]) -> Result<OwnedRoll, Refusal> {
         OwnedRoll::with_spare(width, text, b"", 0)
     }
 
-    /// Packs a text under the best table for it, in which these `characters` have a place too, such as all ten digits;
-    /// with room for so many `symbols` more than the text takes. A character takes 1 to 86 of them.
+    /// Packs a text under the best table for it, in which these `characters` have a place too, such as all letters; the
+    /// ten digits, + and byte 10 always have one. There is room for so many `symbols` more than the text takes. A
+    /// character takes 1 to 86 of them.
     ///
     /// Refusals: those of [`OwnedRoll::new`].
     ///
     /// ```
     /// use monterculo::{OwnedRoll, Refusal, Width};
     ///
-    /// let mut roll = OwnedRoll::with_spare(Width::Four, b"tel 5550143", b"0123456789", 16)?;
-    /// roll.replace(4.., b"5550289")?;
-    /// assert_eq!(roll.text(), b"tel 5550289");
-    /// assert_eq!(roll.replace(4..4, b"+"), Err(Refusal::NotInTable { place: 0, character: b'+' }));
+    /// let mut roll = OwnedRoll::with_spare(Width::Four, b"tel 5550143", b"fax", 16)?;
+    /// roll.replace(.., b"fax +445550289")?;
+    /// assert_eq!(roll.text(), b"fax +445550289");
+    /// assert_eq!(roll.replace(7..7, b"-"), Err(Refusal::NotInTable { place: 0, character: b'-' }));
     /// # Ok::<(), monterculo::Refusal>(())
     /// ```
     pub fn with_spare(width: Width, text: &[u8], characters: &[u8], symbols: usize) -> Result<OwnedRoll, Refusal> {
@@ -96,6 +98,7 @@ impl OwnedRoll {
             }
         }
         let (table, total) = Table::choose(k, &counts)?;
+        // Enough, and more where the text holds not all that the table has.
         let mut buf = vec![0; bytes_for(k, total.min(SYMBOLS as u64))];
         let roll = Roll::pack(&table, text, &mut buf)?;
         let mut owned = OwnedRoll { roll, buf, directory: Vec::new() };
@@ -139,7 +142,7 @@ impl OwnedRoll {
     ///
     /// let roll = OwnedRoll::with_spare(Width::Four, b"banana", b"", 100)?;
     /// let (record, buf, directory) = roll.as_parts();
-    /// assert_eq!((record.n(), record.h(), buf, directory), (6, 6, &[0x20, 0x10, 0x10][..], &[0][..]));
+    /// assert_eq!((record.n(), record.h(), buf, directory), (6, 6, &[0xe0, 0x10, 0x10][..], &[0][..]));
     /// # Ok::<(), monterculo::Refusal>(())
     /// ```
     pub fn as_parts(&self) -> (&Roll, &[u8], &[u32]) {
@@ -302,8 +305,8 @@ impl OwnedRoll {
     /// use monterculo::{OwnedRoll, Width};
     ///
     /// let mut roll = OwnedRoll::new(Width::Two, b"tel 5550143")?;
-    /// roll.replace_any(4..4, b"+44")?;
-    /// assert_eq!(roll.text(), b"tel +445550143");
+    /// roll.replace_any(4..4, b"+44-")?;
+    /// assert_eq!(roll.text(), b"tel +44-5550143");
     /// # Ok::<(), monterculo::Refusal>(())
     /// ```
     pub fn replace_any(&mut self, range: impl RangeBounds<usize>, text: &[u8]) -> Result<(), Refusal> {
@@ -382,9 +385,10 @@ mod tests {
             hold(&roll, 80);
             roll.replace(1.., b"").unwrap();
             hold(&roll, 80);
-            // 79 spare symbols beside two, to the byte's end.
+            // 79 spare symbols beside those of a and b, to the byte's end. Both stand behind the twelve that every
+            // table has, and with k = 2 take three symbols each.
             roll.replace_any(1.., b"b").unwrap();
-            hold(&roll, if width == Width::Two { 84 } else { 82 });
+            hold(&roll, if width == Width::Two { 88 } else { 82 });
 
             let (record, mut buf, mut directory) = OwnedRoll::new(width, &text).unwrap().into_parts();
             buf.extend([0xff; 8]);

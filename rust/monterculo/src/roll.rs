@@ -45,7 +45,8 @@ impl Roll {
     /// Packs a text into the buffer; bytes past the packed ones are unchanged.
     ///
     /// A buffer of [`bytes_for`](crate::bytes_for)(k, total) bytes has room for a text, where the total is that of
-    /// [`Table::choose`] for the text's counts and not over 65,536.
+    /// [`Table::choose`] for the text's counts and not over 65,536. It may have more than needed, because there the ten
+    /// digits, + and byte 10 count as at least 1; so a text may be packed though its total is somewhat over 65,536.
     ///
     /// Refusals, in their order: 1 (0), 3 (place of the first), 4 (number of the first character that does not fit).
     ///

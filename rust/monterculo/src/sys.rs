@@ -68,7 +68,7 @@ pub struct Answer {
 #[repr(C)]
 #[derive(Clone, Copy, Debug, PartialEq, Eq, Hash)]
 pub struct Chosen {
-    /// Its value is the total of symbols.
+    /// Its value is the total of symbols; the ten digits, + and byte 10 count as at least 1 in it.
     pub answer: Answer,
     /// Beside a refusal: k as given, all else 0.
     pub table: Table,
@@ -191,7 +191,7 @@ pub fn count(text: &[u8], counts: &mut [u32]) -> Answer {
     unsafe { monterculo_count(text.as_ptr(), text.len(), counts.as_mut_ptr(), counts.len()) }
 }
 
-/// The table of width k with the fewest symbols for these counts. Refused: 1, 2.
+/// The table of width k with the fewest symbols for these counts, the twelve raised. Refused: 1, 2.
 #[inline]
 pub fn choose(k: u8, counts: &[u32]) -> Chosen {
     // SAFETY: as above; counts are read.

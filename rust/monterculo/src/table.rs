@@ -58,7 +58,12 @@ pub struct Table(pub(crate) sys::Table);
 
 impl Table {
     /// Chooses the table of width k with the fewest symbols for these counts, and gives the total of symbols with it.
-    /// Any counts may come; a character counted 0 has no rank.
+    /// Any counts may come. The ten digits, + and byte 10 count as at least 1, so that they are in every chosen table
+    /// and can always come by an edit. Any other character counted 0 has no rank: count those that may come once more,
+    /// such as all letters.
+    ///
+    /// The total is the symbols of the counted text and a codeword of each of those twelve that the text does not hold.
+    /// A buffer for the total is enough for the text, and may be more than needed.
     ///
     /// Refusals, in their order: 1 (0; the width only), 2 (the length of `counts`).
     ///
@@ -68,7 +73,8 @@ impl Table {
     /// let mut counts = [0; 256];
     /// count(b"banana", &mut counts)?;
     /// let (table, total) = Table::choose(4, &counts)?;
-    /// assert_eq!((table.s(), table.characters(), total), (3, &b"anb"[..], 6));
+    /// // Six characters of one symbol each, and the twelve.
+    /// assert_eq!((table.s(), table.characters(), total), (15, &b"an\n+0123456789b"[..], 18));
     /// # Ok::<(), monterculo::Refusal>(())
     /// ```
     pub fn choose(k: u8, counts: &[u32]) -> Result<(Table, u64), Refusal> {

@@ -21,7 +21,7 @@ fn hold(roll: &OwnedRoll, text: &[u8]) {
 fn made_found_replaced() {
     for width in [Width::Two, Width::Four] {
         for spare in [0, 1, 50, usize::MAX] {
-            let mut roll = OwnedRoll::with_spare(width, MEMBERS, b"+ABC", spare).unwrap();
+            let mut roll = OwnedRoll::with_spare(width, MEMBERS, b"ABC", spare).unwrap();
             hold(&roll, MEMBERS);
             assert_eq!(roll.table().k(), width.k());
             assert_eq!(roll.find(b"pan").unwrap(), [0, 18, 38, 60]);
@@ -46,7 +46,20 @@ fn further_characters() {
         let plain = OwnedRoll::new(width, b"aab").unwrap();
         assert_eq!(OwnedRoll::with_spare(width, b"aab", b"bbb", 9).unwrap(), plain);
         let more = OwnedRoll::with_spare(width, b"aab", b"zz", 0).unwrap();
-        assert_eq!(more.table().characters(), b"abz");
+        assert_eq!(more.table().characters(), b"a\n+0123456789bz");
+    }
+}
+
+/// Digits, + and byte 10 can come without being asked for.
+#[test]
+fn telephone_numbers() {
+    for width in [Width::Two, Width::Four] {
+        for text in [&b""[..], b"tel ", MEMBERS] {
+            let mut roll = OwnedRoll::new(width, text).unwrap();
+            roll.replace(text.len().., b"+445550186\n0123456789").unwrap();
+            hold(&roll, &[text, b"+445550186\n0123456789"].concat());
+            assert!(matches!(roll.replace(..0, b"-"), Err(Refusal::NotInTable { place: 0, character: b'-' })));
+        }
     }
 }
 
@@ -132,20 +145,20 @@ fn room_grows_to_the_limit() {
     for width in [Width::Two, Width::Four] {
         let mut roll = OwnedRoll::with_spare(width, b"", b"ab", 0).unwrap();
         hold(&roll, b"");
-        // Of two characters that are counted alike, the lower has rank 0, and that takes one symbol.
+        // Of characters that are counted alike the lowest has rank 0, and that takes one symbol: byte 10.
         let mut text = Vec::new();
         while text.len() < SYMBOLS {
-            let put = vec![b'a'; (text.len() + 1).min(SYMBOLS - text.len())];
+            let put = vec![b'\n'; (text.len() + 1).min(SYMBOLS - text.len())];
             roll.replace(text.len().., &put).unwrap();
             text.extend(put);
         }
         assert_eq!(roll.as_parts().0.h(), 65_536);
         let before = roll.clone();
-        assert_eq!(roll.replace(7..7, b"a"), Err(Refusal::NoRoom { character: 65_536 }));
-        assert_eq!(roll.replace_any(7..7, b"a"), Err(Refusal::NoRoom { character: 65_536 }));
+        assert_eq!(roll.replace(7..7, b"\n"), Err(Refusal::NoRoom { character: 65_536 }));
+        assert_eq!(roll.replace_any(7..7, b"\n"), Err(Refusal::NoRoom { character: 65_536 }));
         assert_eq!(roll.replace_any(7..7, b"x"), Err(Refusal::LongText { length: 65_537 }));
         assert_eq!(roll, before);
-        roll.replace(7..8, b"a").unwrap();
+        roll.replace(7..8, b"\n").unwrap();
         roll.replace(.., b"ba").unwrap();
         hold(&roll, b"ba");
     }
@@ -163,11 +176,11 @@ fn room_grows_to_the_limit() {
 fn any_character() {
     let mut roll = OwnedRoll::with_spare(Width::Two, MEMBERS, b"", 10).unwrap();
     let before = roll.clone();
-    assert_eq!(roll.replace(30..37, b"5+5"), Err(Refusal::NotInTable { place: 1, character: b'+' }));
+    assert_eq!(roll.replace(30..37, b"5-5"), Err(Refusal::NotInTable { place: 1, character: b'-' }));
     assert_eq!(roll, before);
-    roll.replace_any(30..37, b"+445550186").unwrap();
+    roll.replace_any(30..37, b"+44-5550186").unwrap();
     let mut text = MEMBERS.to_vec();
-    text.splice(30..37, b"+445550186".iter().copied());
+    text.splice(30..37, b"+44-5550186".iter().copied());
     hold(&roll, &text);
     // The old table's characters can still come, though the text has lost them.
     roll.replace(.., b"").unwrap();

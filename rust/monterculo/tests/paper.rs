@@ -5,21 +5,26 @@ use std::error::Error;
 
 use monterculo::{bytes_for, count, entries_for, Codeword, Refusal, Roll, Searcher, Table, TableFault};
 
-/// A text packed with its best table, in a buffer of just its size.
-fn packed(k: u8, text: &[u8]) -> (Roll, Vec<u8>) {
-    let mut counts = [0; 256];
-    count(text, &mut counts).unwrap();
-    let (table, total) = Table::choose(k, &counts).unwrap();
-    let mut buf = vec![0; bytes_for(k, total)];
-    let roll = Roll::pack(&table, text, &mut buf).unwrap();
-    assert_eq!(u64::from(roll.h()), total);
-    assert_eq!(roll.table(), &table);
+/// A text packed with this table, in a buffer of just its size.
+fn packed(table: &Table, text: &[u8]) -> (Roll, Vec<u8>) {
+    let symbols = text.iter().map(|&c| table.codeword_of(c).unwrap().symbols().len() as u64).sum();
+    let mut buf = vec![0; bytes_for(table.k(), symbols)];
+    let roll = Roll::pack(table, text, &mut buf).unwrap();
+    assert_eq!(u64::from(roll.h()), symbols);
+    assert_eq!(roll.table(), table);
     (roll, buf)
+}
+
+/// The table chosen for a text, and the total.
+fn chosen(k: u8, text: &[u8]) -> (Table, u64) {
+    let mut counts = [7; 256];
+    count(text, &mut counts).unwrap();
+    Table::choose(k, &counts).unwrap()
 }
 
 /// P2's roll.
 fn abracadabra() -> (Roll, Vec<u8>) {
-    packed(2, b"abracadabra")
+    packed(&Table::new(2, 3, b"abrcd"), b"abracadabra")
 }
 
 fn directory_of(roll: &Roll, buf: &[u8]) -> Vec<u32> {
@@ -103,11 +108,51 @@ fn p4_hits() {
 
 #[test]
 fn p5_overlapping_hits() {
-    let (roll, buf) = packed(4, b"banana");
-    assert_eq!(roll.table(), &Table::new(4, 3, b"anb"));
+    let (roll, buf) = packed(&Table::new(4, 3, b"anb"), b"banana");
     assert_eq!((roll.n(), roll.h()), (6, 6));
     assert_eq!(buf, [0x20, 0x10, 0x10]);
     assert_eq!(hits_of(&roll, &buf, b"ana"), [1, 3]);
+}
+
+/// The ten digits, + and byte 10 count as at least 1.
+#[test]
+fn chosen_tables_have_the_twelve() {
+    let twelve = b"\n+0123456789";
+    // Of the characters counted once the smaller byte comes first.
+    let (table, total) = chosen(2, b"abracadabra");
+    assert_eq!((&table, total), (&Table::new(2, 2, b"abr\n+0123456789cd"), 53));
+    let (roll, buf) = packed(&table, b"abracadabra");
+    assert_eq!((roll.h(), &buf[..]), (19, &[0x18, 0x2a, 0x4a, 0xc1, 0x80][..]));
+    let (table, total) = chosen(4, b"banana");
+    assert_eq!((&table, total), (&Table::new(4, 15, b"an\n+0123456789b"), 18));
+    let (roll, buf) = packed(&table, b"banana");
+    assert_eq!((roll.h(), &buf[..]), (6, &[0xe0, 0x10, 0x10][..]));
+
+    for k in [2, 4] {
+        for text in [&b""[..], b"abracadabra", b"tel 5550143", b"pan 7\npan 12\n", twelve] {
+            let (table, total) = chosen(k, text);
+            // The total is more than the symbols by a codeword of each that the text does not hold.
+            let symbols = |c: u8| table.codeword_of(c).unwrap().symbols().len() as u64;
+            let more: u64 = twelve.iter().filter(|c| !text.contains(c)).map(|&c| symbols(c)).sum();
+            let mut buf = vec![0; bytes_for(k, total) + 100];
+            let mut roll = Roll::pack(&table, text, &mut buf).unwrap();
+            assert_eq!(u64::from(roll.h()) + more, total);
+            assert_eq!(Roll::pack(&table, text, &mut buf[..bytes_for(k, total)]), Ok(roll.clone()));
+            // A text of them can come by an edit.
+            let mut directory = [0; 2];
+            roll.make_directory(&buf, &mut directory).unwrap();
+            roll.edit(&mut buf, &mut directory, .., b"+445550186\n0123456789").unwrap();
+            assert_eq!(text_of(&roll, &buf), b"+445550186\n0123456789");
+        }
+    }
+    // What is counted is not raised, and no other character is.
+    let mut counts = [0; 256];
+    for &c in twelve {
+        counts[usize::from(c)] = 3;
+    }
+    counts[usize::from(b'-')] = 2;
+    assert_eq!(Table::choose(4, &counts), Ok((Table::new(4, 13, b"\n+0123456789-"), 38)));
+    assert_eq!(counts[usize::from(b'-')], 2);
 }
 
 #[test]
@@ -136,9 +181,13 @@ fn p12_empty_text() {
     let mut counts = [7; 256];
     count(b"", &mut counts).unwrap();
     assert_eq!(counts, [0; 256]);
+    let chosen = Table::choose(4, &counts).unwrap();
+    assert_eq!(chosen, (Table::new(4, 12, b"\n+0123456789"), 12));
     let (table, total) = Table::choose(2, &counts).unwrap();
-    assert_eq!((table.s(), table.sigma(), total), (1, 0, 0));
-    assert_eq!(table.places(), &[0; 256]);
+    assert_eq!((table.s(), table.sigma(), total), (2, 12, 28));
+    assert_eq!(table.characters(), b"\n+0123456789");
+    assert_eq!(table.places()[12..], [0; 244]);
+    assert_eq!(counts, [0; 256]);
 
     let mut buf = [0xff; 3];
     let mut roll = Roll::pack(&table, b"", &mut buf).unwrap();
@@ -163,7 +212,7 @@ fn p12_empty_text() {
 
 #[test]
 fn p15_pattern_lengths() {
-    let (roll, buf) = packed(2, &[b'a'; 70]);
+    let (roll, buf) = packed(&chosen(2, &[b'a'; 70]).0, &[b'a'; 70]);
     assert_eq!(hits_of(&roll, &buf, &[b'a'; 64]), [0, 1, 2, 3, 4, 5, 6]);
     assert_eq!(refused(roll.search(&buf, &[b'a'; 65], &mut [])), (11, 0));
     assert_eq!(refused(roll.search(&buf, b"", &mut [])), (11, 0));
@@ -171,7 +220,7 @@ fn p15_pattern_lengths() {
 
 #[test]
 fn p16_empty_range_at_the_end() {
-    let (roll, buf) = packed(2, b"abc");
+    let (roll, buf) = packed(&chosen(2, b"abc").0, b"abc");
     assert_eq!(roll.unpack(&buf, 3..3, &mut []), Ok(()));
     assert_eq!(refused(roll.unpack(&buf, 4..4, &mut [])), (10, 0));
 }

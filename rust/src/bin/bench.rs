@@ -214,11 +214,16 @@ fn english_like() -> Vec<u8> {
     text.into_bytes()
 }
 
-fn chosen(k: u8, text: &[u8]) -> (u64, Table) {
+/// The table chosen for a text, and the symbols that the text takes under it; the total may be more than these.
+fn chosen(k: u8, text: &[u8]) -> (usize, Table) {
     let mut counts = [0; 256];
     reference::count(text, &mut counts).expect("a text within the limit");
     let (answer, table) = reference::choose(k, &counts);
-    (answer.expect("a good width"), table)
+    answer.expect("a good width");
+    let list = reference::listing(k, table.s);
+    let ranked = table.places.iter().zip(&list.codewords).take(usize::from(table.sigma));
+    let symbols = ranked.map(|(&byte, codeword)| counts[usize::from(byte)] as usize * codeword.len()).sum();
+    (symbols, table)
 }
 
 /// A roll with all that is measured on it.
@@ -236,7 +241,7 @@ impl Case {
         let (mut fits, mut over) = (0, long.len().min(LIMIT) + 1);
         while over - fits > 1 {
             let middle = (fits + over) / 2;
-            if chosen(k, &long[..middle]).0 < LIMIT as u64 {
+            if chosen(k, &long[..middle]).0 < LIMIT {
                 fits = middle;
             } else {
                 over = middle;
@@ -567,7 +572,7 @@ fn edits(case: &Case) -> Vec<(&'static str, usize, usize, Vec<u8>)> {
 fn table_of(case: &Case, rows: &[Row]) -> String {
     let table = &case.roll.table;
     let mut lines = format!(
-        "{}: {} characters, {} different, s {}, {} symbols\n\n",
+        "{}: {} characters, {} in the table, s {}, {} symbols\n\n",
         case.name, case.roll.n, table.sigma, table.s, case.roll.h
     );
     lines.push_str("| operation | archive µs | plain Rust µs | ratio | tuned Rust µs | ratio | unpacked text µs |\n");

@@ -1,7 +1,8 @@
 -- How often a byte stands in a text.
-use mathlib.Core.Path.{_≡_, refl, ap, _∙_}
+use mathlib.Core.Path.{_≡_, refl, sym, ap, _∙_}
+use mathlib.Core.Logic.{⊎-elim}
 use mathlib.Core.Bool.{cond}
-use mathlib.Core.List.{List, [], _∷_, _++_}
+use mathlib.Core.List.{List, [], _∷_, _++_, List·Memᴰ·cases-cons, List·Memᴰ·not-nil}
 use Prim.Native.Nat.{ℕ, suc, _+_, _≤_, _<_}
 use native.Mathlib.Decide.{ℕ-discrete}
 use native.Mathlib.Omega.{arith}
@@ -9,6 +10,7 @@ use borrow.Author.Tests.{eq-eqb, ne-eqb}
 use lib.Dec.{eqb}
 use lib.ListN.{length, getD, take}
 use lib.Seq.{take-suc}
+use Rattle.stopper.specs.Laws.Characters.{_∈_}
 use Rattle.choosing.specs.Paper.Choosing.{occurs}
 
 pub occurs-none : (b : ℕ) → occurs [] b ≡ 0
@@ -33,3 +35,12 @@ occurs-le (x ∷ s) b =
       | yes p ↦ rw (eq-eqb x b p) (omega (arith, occurs-le s b))
       | no p ↦ rw (ne-eqb x b p) (omega (arith, occurs-le s b))
     ]
+
+pub occurs-pos : (text : List ℕ) (x : ℕ) → x ∈ text → 0 < occurs text x
+unfolding occurs
+occurs-pos [] x m = absurd (List·Memᴰ·not-nil m)
+occurs-pos (y ∷ text) x m =
+    ⊎-elim
+    (λ e. rw (eq-eqb y x (sym e)) (omega arith))
+    (λ k. omega (arith, occurs-pos text x k))
+    (List·Memᴰ·cases-cons m)

@@ -1,13 +1,20 @@
 -- The promises: a law for a refused call and one for an accepted call.
-use mathlib.Core.Path.{_≡_, sym}
+use mathlib.Core.Path.{_≡_, sym, ap, ap₂, _∙_}
 use mathlib.Core.List.{List}
-use Prim.Native.Nat.{ℕ}
+use Prim.Native.Nat.{ℕ, _<_}
+use lib.Dec.{T}
+use lib.ListN.{length}
 use Rattle.ground.specs.Paper.Refusals.{refused}
+use Rattle.ground.specs.Paper.Rows.{tab, padded}
 use Rattle.ground.specs.Laws.Refusals.{Accepted}
+use Rattle.ground.specs.Laws.Rows.{tab-at}
 use Rattle.ground.specs.declared.answers.Done.the-variants.{Yes, Refused}
-use Rattle.choosing.specs.Paper.Choosing.{countsOf, counted, chosenTable}
+use Rattle.stopper.specs.Paper.Table.{goodWidth}
+use Rattle.stopper.specs.declared.code.Code.{Code}
+use Rattle.choosing.specs.Paper.Choosing.{countsOf, counted, total, chosen, chosenTable}
 use Rattle.choosing.specs.Paper.Operations.{countSays, Counting, chooseSays, Choosing}
-use Rattle.choosing.specs.Helpers.Answers.{rankingOf, bestOf, refusedChoice}
+use Rattle.choosing.specs.Helpers.Answers.{countIn, rankingOf, bestOf, refusedChoice}
+use Rattle.choosing.specs.Laws.Choosing.{ranked-ext, total-ext, chosen-ext}
 use Rattle.choosing.specs.declared.choose.Choice.{Choice}
 use Rattle.choosing.specs.declared.ranking.Ranking.{Ranking}
 use Rattle.choosing.specs.declared.ranking.Best.{Best}
@@ -22,6 +29,21 @@ module _ {text counts : List ℕ} where
   count-yes e p = record { says = sym e; leaves = rw e p }
 
 -- ---- choose
+
+-- what is ranked is what the bytes count as
+module _ (counts : List ℕ) {raised : List ℕ} (e : raised ≡ tab (counted counts) 0 256) where
+  same : (b : ℕ) → b < 256 → countIn raised b ≡ counted counts b
+  unfolding countIn
+  same b h = rw e (tab-at (counted counts) 256 b h)
+
+  pub raised-ranking : rankingOf (countIn raised) ≡ rankingOf (counted counts)
+  raised-ranking = ap {B = Ranking} (λ (l : List ℕ). record { sigma = length l; places = padded 256 l }) (ranked-ext (countIn raised) (counted counts) same)
+
+  pub raised-best : (k : ℕ) → T (goodWidth k) → bestOf k (countIn raised) ≡ bestOf k (counted counts)
+  raised-best k g =
+      let code : chosen k (countIn raised) ≡ chosen k (counted counts) = chosen-ext (countIn raised) (counted counts) same k g in
+      ap₂ {C = Best} (λ (c : Code) (n : ℕ). record { code = c; total = n }) code
+      (total-ext (countIn raised) (counted counts) same (chosen k (countIn raised)) ∙ ap (λ (c : Code). total c (counted counts)) code)
 
 module _ {k : ℕ} {counts : List ℕ} where
   pub choose-refused : {r : Choice} (n v : ℕ) → chooseSays k counts ≡ refused n v → r ≡ refusedChoice k n v → Choosing k counts r

@@ -5,7 +5,7 @@ use Prim.Native.Nat.{ℕ, zero, suc, _+_, _-_, _*_, _^_}
 use lib.Dec.{ltb, eqb}
 use lib.ListN.{getD}
 use Rattle.ground.specs.Paper.Rows.{tab}
-use Rattle.stopper.specs.Paper.Table.{evenCode, lengthOf, tableOf}
+use Rattle.stopper.specs.Paper.Table.{evenCode, lengthOf, tableOf, has}
 use Rattle.stopper.specs.declared.code.Code.{Code}
 use Rattle.stopper.specs.declared.table.Table.{Table}
 use Rattle.choosing.specs.Paper.Ranking.{ranked}
@@ -19,9 +19,17 @@ occurs (x ∷ xs) b = cond (eqb x b) 1 0 + occurs xs b
 unfoldable pub countsOf : List ℕ → List ℕ
 countsOf text = tab (occurs text) 0 256
 
--- how often byte b is counted: the counts that are ranked
+-- the ten digits, `+` and byte 10
+unfoldable pub twelve : List ℕ
+twelve = 10 ∷ 43 ∷ 48 ∷ 49 ∷ 50 ∷ 51 ∷ 52 ∷ 53 ∷ 54 ∷ 55 ∷ 56 ∷ 57 ∷ []
+
+-- the least that byte b counts as: each of the twelve as 1, any other as 0
+unfoldable pub atLeast : ℕ → ℕ
+atLeast b = cond (has b twelve) 1 0
+
+-- what byte b counts as, which is what is ranked: its count, or the least if that is more
 unfoldable pub counted : List ℕ → ℕ → ℕ
-counted counts b = getD counts b 0
+counted counts b = let n : ℕ = getD counts b 0 in cond (ltb n (atLeast b)) (atLeast b) n
 
 -- the symbols that these characters take, with ranks from r on
 unfoldable pub totalFrom : Code → (ℕ → ℕ) → ℕ → List ℕ → ℕ

@@ -1,7 +1,8 @@
 //! Code tables, good and bad ones.
 
 use monterculo::sys::Table;
-use monterculo_reference::reference::listing;
+use monterculo_reference::library::table_of;
+use monterculo_reference::reference::{self, listing, ALWAYS};
 
 use crate::rng::Rng;
 
@@ -90,6 +91,21 @@ pub fn table_to_search(rng: &mut Rng) -> Table {
         }
         _ => good_table(rng),
     }
+}
+
+/// One that was chosen for some counts, often without any of those that count as at least 1: it has them all.
+pub fn chosen_table(rng: &mut Rng) -> Table {
+    let mut counts = [0; 256];
+    for _ in 0..rng.pick(&[0, 1, 3, 10, 30, 60]) {
+        let often = rng.between(1, 2_000) as u32;
+        counts[rng.below(256)] = rng.pick(&[1, 1, 2, often]);
+    }
+    if rng.one_in(3) {
+        for byte in ALWAYS {
+            counts[usize::from(byte)] = rng.below(40) as u32;
+        }
+    }
+    table_of(&reference::choose(rng.pick(&[2, 4]), &counts).1)
 }
 
 /// Makes refusal 1 come, by one of its four causes.

@@ -1,7 +1,7 @@
 //! What texts and rolls are made of: ranks, foreign characters, codewords that are none; and what is looked for in them.
 
 use monterculo::sys::Table;
-use monterculo_reference::reference::{codeword_by_rule, listing, PATTERN};
+use monterculo_reference::reference::{codeword_by_rule, listing, ALWAYS, PATTERN};
 
 use crate::rng::Rng;
 use crate::tables::characters;
@@ -34,6 +34,19 @@ pub fn put_foreign(rng: &mut Rng, table: &Table, text: &mut Vec<u8>) {
         let place = rng.pick(&[0, text.len(), any]);
         text.insert(place, rng.pick(&absent));
     }
+}
+
+/// Digits, with a + before them or the end of a line behind them now and then.
+pub fn telephone_number(rng: &mut Rng) -> Vec<u8> {
+    let digits = rng.pick(&[1, 6, 7, 7, 10, 33]);
+    let mut number: Vec<u8> = (0..digits).map(|_| rng.pick(&ALWAYS[..10])).collect();
+    if rng.one_in(2) {
+        number.insert(0, b'+');
+    }
+    if rng.one_in(4) {
+        number.push(b'\n');
+    }
+    number
 }
 
 /// A codeword, or nearly: a run of continuers and a stopper, of a rank that may be far over σ.

@@ -2,7 +2,7 @@
 
 use monterculo::sys::{self, Answer, Roll, Rolled, Table};
 use monterculo_reference::library::rolled;
-use monterculo_reference::reference::{self, listing, LIMIT, STRIDE};
+use monterculo_reference::reference::{self, listing, ALWAYS, LIMIT, STRIDE};
 #[cfg(test)]
 use monterculo_reference::reference::{bytes_of, symbols_of};
 
@@ -13,8 +13,8 @@ use crate::operation::{Cases, Corners, Operation};
 use crate::planted::{good_if_wrapped, says};
 use crate::rng::Rng;
 use crate::rolls::{bytes_for, entries_for, packed_roll, per_byte, roll_of, room, starts};
-use crate::tables::{characters, lengths, symbols_in, table_to_search};
-use crate::texts::{put_foreign, ranks};
+use crate::tables::{characters, chosen_table, lengths, symbols_in, table_to_search};
+use crate::texts::{put_foreign, ranks, telephone_number};
 
 #[derive(Clone, Debug, PartialEq)]
 pub struct Edit {
@@ -128,6 +128,9 @@ impl Operation for Edit {
                 met.meet(takes_last, "edits that take the last entry lent");
                 met.meet(directory.len() > old_entries, "edits with entries behind the used ones");
                 met.meet(new_h == LIMIT, "edits to a roll of 65,536 symbols");
+                let of_twelve = |text: &[u8]| text.iter().all(|character| ALWAYS.contains(character));
+                met.meet(text.len() > 6 && of_twelve(text), "edits that put in a telephone number");
+                met.meet(text.len() > 6 && of_twelve(text) && end > start, "edits of a run by a telephone number");
             }
             3 => met.meet(new_h > room, "edits refused 3 with the room too small too"),
             4 => {
@@ -361,6 +364,15 @@ fn text_of_symbols(rng: &mut Rng, table: &Table, symbols: usize) -> Vec<u8> {
     text
 }
 
+/// One time in four a chosen table.
+fn table_to_edit(rng: &mut Rng) -> Table {
+    if rng.one_in(4) {
+        chosen_table(rng)
+    } else {
+        table_to_search(rng)
+    }
+}
+
 /// A range of this text and what to put in for it; the bounds are where its codewords start, and h.
 fn change(rng: &mut Rng, table: &Table, text: &[u8], bounds: &[u32], faults: &[Fault]) -> Change {
     let (k, n, h) = (table.k, text.len(), bounds[text.len()] as usize);
@@ -384,6 +396,8 @@ fn change(rng: &mut Rng, table: &Table, text: &[u8], bounds: &[u32], faults: &[F
             _ => behind + rng.between(1, 40),
         };
         text_of_symbols(rng, table, even + over)
+    } else if rng.one_in(2) && ALWAYS.iter().all(|character| characters(table).contains(character)) {
+        telephone_number(rng)
     } else if rng.one_in(200) {
         // As many symbols as there may be, or more.
         let most = LIMIT - (h - run);
@@ -462,7 +476,7 @@ fn make(rng: &mut Rng) -> Edit {
     use Fault::*;
     let faults = edit_faults(rng);
     let has = |fault| faults.contains(&fault);
-    let (table, length) = (table_to_search(rng), rng.border_length());
+    let (table, length) = (table_to_edit(rng), rng.border_length());
     let mut made = roll_of(rng, table, length, &faults);
     let (text, mut bounds) = made.cut();
     let mut directory: Vec<u32> = bounds.iter().copied().step_by(STRIDE).collect();
@@ -523,7 +537,7 @@ fn make(rng: &mut Rng) -> Edit {
 /// A sound roll with a right directory and 2 to 12 edits one after another.
 fn make_chain(rng: &mut Rng) -> Edit {
     use Fault::*;
-    let table = table_to_search(rng);
+    let table = table_to_edit(rng);
     let length = rng.border_length().min(3_000);
     let made = packed_roll(rng, table, length, false, &[]);
     let (record, table) = (made.roll(), made.table);
@@ -718,6 +732,27 @@ mod tests {
         {
             let text = case.compare(Library::WithError(error)).err().unwrap();
             assert!(text.starts_with(&format!("edit {} of 3\n", number)), "{}: {}", error, text);
+        }
+    }
+
+    #[test]
+    fn telephone_numbers_come_into_chosen_tables() {
+        let mut rng = Rng::new(3);
+        for _ in 0..400 {
+            let (table, length) = (chosen_table(&mut rng), rng.length());
+            let made = packed_roll(&mut rng, table, length, false, &[]);
+            let (_, starts) = made.cut();
+            let (record, mut buf) = (made.roll(), made.buf);
+            let mut directory: Vec<u32> = starts.into_iter().step_by(STRIDE).collect();
+            let place = rng.between(0, record.n as usize);
+            let number = telephone_number(&mut rng);
+            let edited = by_reference(record, &mut buf, &mut directory, place, place, &number);
+            // Whatever else: buffer and directory may be too short.
+            assert!(matches!(edited.answer.number, 0 | 4 | 12), "{:?}", edited);
+        }
+        let (_, reached) = compare_calls(&operations::all(), Library::Reference, 2_000, 3).unwrap();
+        for corner in ["edits that put in a telephone number", "edits of a run by a telephone number"] {
+            assert!(reached.contains_key(corner), "{}", corner);
         }
     }
 
