@@ -211,8 +211,9 @@ struct monterculo_answer monterculo_count(const uint8_t *text, size_t text_len, 
  * as they are.
  * Refused: 1 (0; the width only), 2 (counts_len); the table is then k, s 0, sigma 0, all places 0.
  * Value: the total of symbols; a buffer of MONTERCULO_BYTES(total, k) bytes has room for the counted text, if the total
- * is not over 65,536. It may have more than needed: the total is the symbols of the text and a codeword of each of the
- * twelve that the text does not hold. So a text may be packed though its total is somewhat over 65,536. */
+ * is not over 65,536. It may have more than needed: the total is the symbols of the text, and a codeword of each of the
+ * twelve that the text does not hold and of each other character counted in beside it. So a text may be packed though
+ * its total is somewhat over 65,536. */
 struct monterculo_chosen monterculo_choose(uint8_t k, const uint32_t *counts, size_t counts_len);
 
 /* The codeword of a character.

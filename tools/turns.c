@@ -122,7 +122,7 @@ static void case_of(const char *title)
     }
 }
 
-/* An archive of before landing 11, which raises nothing, answers alike for counts that need no raising. */
+/* An earlier archive that raises nothing answers alike for counts that need no raising. */
 static void raise_the_twelve(void)
 {
     const char *c;

@@ -1020,6 +1020,10 @@ for k in (2, 4):
     t = choose(k, ZEROS)[2]
     pack_case(w + "the empty text, its table chosen", t, [], [0xFF] * 2, None)
     edit_case(w + "a number into an empty roll", t, 0, 0, [0xFF] * 24, [9], 0, 0, b"+4712345678\n", None)
+    many = counts_of([97] * 65536)
+    assert choose(k, many)[1] > 65536
+    choose_case(w + "a total over the limit", k, many, None)
+    pack_case(w + "and the text fits", choose(k, many)[2], [97] * 65536, [0xFF] * (65536 * k // 8), None)
 edit_case("3, a number in P2", ABRA, 11, 13, BYTES + [9], [0, 9], 4, 7, b"+47", (3, 0))
 
 # the codeword of a character, and the character of a codeword

@@ -3,7 +3,7 @@ use mathlib.Core.Path.{_≡_, sym, ap, _∙_}
 use mathlib.Core.Logic.{inl, ⊎-elim}
 use mathlib.Core.List.{List, [], _∷_, List·Memᴰ·cases-cons, List·Memᴰ·not-nil}
 use Prim.Native.Nat.{ℕ, suc, _*_, _≤_, _<_}
-use native.Mathlib.Nat.{mul-le-mul-right, le-refl, suc-mul}
+use native.Mathlib.Nat.{mul-le-mul-right, suc-mul}
 use native.Mathlib.Omega.{arith}
 use lib.Dec.{T}
 use lib.ListN.{getD}
@@ -21,7 +21,7 @@ use Rattle.choosing.specs.Paper.Ranking.{ranked}
 use Rattle.choosing.specs.Paper.Choosing.{occurs, countsOf, twelve, counted, totalFrom, total, chosen, chosenTable}
 use Rattle.choosing.specs.Paper.Operations.{Counting, Choosing}
 use Rattle.choosing.specs.Laws.Raised.{twelve-byte, occurs-not, counted-lower, counted-lent, counted-raised}
-use Rattle.choosing.specs.Laws.Choosing.{chosen-good}
+use Rattle.choosing.specs.Laws.Choosing.{chosen-good, total-more}
 use Rattle.choosing.specs.Laws.Accepting.{chooses-is}
 use Rattle.choosing.specs.Laws.Ranking.{ranking}
 use Rattle.choosing.specs.declared.choose.Choice.{Choice}
@@ -37,17 +37,12 @@ count-not-raised {text} {counts} {after} {b} p m n h =
 -- ---- totals over other counts: nowhere less and somewhere more give a greater total
 
 module _ (c : Code) (good : T (goodCode c)) (f g : ℕ → ℕ) (more : (x : ℕ) → f x ≤ g x) where
-  total-more : (r : ℕ) (l : List ℕ) → totalFrom c f r l ≤ totalFrom c g r l
-  unfolding totalFrom
-  total-more r [] = le-refl 0
-  total-more r (x ∷ l) = omega (arith, mul-le-mul-right (lengthOf c r) (more x), total-more (suc r) l)
-
   total-above : {b : ℕ} → f b < g b → (r : ℕ) {l : List ℕ} → b ∈ l → totalFrom c f r l < totalFrom c g r l
   unfolding totalFrom
   total-above h r {l = []} m = absurd (List·Memᴰ·not-nil m)
   total-above {b} h r {l = x ∷ l} m =
       ⊎-elim
-      (λ e. omega (arith, mul-le-mul-right (lengthOf c r) h, suc-mul (f b) (lengthOf c r), length-place c good r, ap (λ (y : ℕ). f y * lengthOf c r) e, ap (λ (y : ℕ). g y * lengthOf c r) e, total-more (suc r) l))
+      (λ e. omega (arith, mul-le-mul-right (lengthOf c r) h, suc-mul (f b) (lengthOf c r), length-place c good r, ap (λ (y : ℕ). f y * lengthOf c r) e, ap (λ (y : ℕ). g y * lengthOf c r) e, total-more c f g (suc r) l (λ y m. more y)))
       (λ k. omega (arith, mul-le-mul-right (lengthOf c r) (more x), total-above h (suc r) k))
       (List·Memᴰ·cases-cons m)
 

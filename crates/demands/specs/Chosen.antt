@@ -18,7 +18,7 @@ down-at f (cons {a = a} {l = l} h d) zero (suc j) le k = h (getD l j 0) (mem-at 
 down-at f (cons {a = a} {l = l} h d) (suc i) zero le k = absurd (omega arith)
 down-at f (cons {a = a} {l = l} h d) (suc i) (suc j) le k = down-at f d i j (omega arith) (omega arith)
 
--- the character of the smaller rank is counted more often, or as often and the smaller byte
+-- the character of the smaller rank counts more, or as much and is the smaller byte
 pub record InOrder (count : ℕ → ℕ) (l : List ℕ) : Type 0 where
   pub order : (i j : ℕ) → i < j → j < length l
       → (count (getD l j 0) < count (getD l i 0)) ⊎ ((count (getD l j 0) ≡ count (getD l i 0)) × (getD l i 0 < getD l j 0))

@@ -9,6 +9,7 @@ use mathlib.Core.Logic.{_⊎_, _↔_}
 use mathlib.Core.List.{List, _++_}
 use Prim.Native.Nat.{ℕ, _+_, _-_, _/_, _≤_, _<_}
 use native.Mathlib.Omega.{arith}
+use lib.Dec.{T}
 use lib.ListN.{length, take, drop, getD, take-append-drop}
 use Rattle.ground.specs.Paper.Rows.{zeros}
 use Rattle.ground.specs.Paper.Runs.{run}
@@ -23,7 +24,7 @@ use Rattle.ground.specs.declared.answers.Answer.the-variants.{Read, Refused as 
 use Rattle.ground.specs.declared.answers.Total.{Total}
 use Rattle.ground.specs.declared.answers.Total.the-variants.{Of, Refused as total-refused}
 use Rattle.stopper.specs.Paper.Code.{IsCodeword}
-use Rattle.stopper.specs.Paper.Table.{base, stoppers, wordOf, characters}
+use Rattle.stopper.specs.Paper.Table.{base, stoppers, goodWidth, wordOf, characters}
 use Rattle.stopper.specs.Paper.Operations.{codewordRows, codewordSays, Coding, characterRows, characterAt, characterSays, Decoding, wordIn}
 use Rattle.stopper.specs.Laws.Characters.{_∈_}
 use Rattle.stopper.specs.declared.table.Table.{Table}
@@ -33,8 +34,8 @@ use Rattle.choosing.specs.Paper.Ranking.{ranked}
 use Rattle.choosing.specs.Paper.Choosing.{occurs, countsOf, twelve, counted, total, chosen, chosenTable}
 use Rattle.choosing.specs.Paper.Operations.{countRows, countSays, Counting, chooseRows, chooseSays, Choosing}
 use Rattle.choosing.specs.Laws.Ranking.{ranking}
-use Rattle.choosing.specs.Laws.Choosing.{Fewest, chosen-least}
-use Rattle.choosing.specs.Laws.Raised.{unheld, counted-lent, counted-raised}
+use Rattle.choosing.specs.Laws.Choosing.{Fewest, chosen-least, chosen-table-good}
+use Rattle.choosing.specs.Laws.Raised.{unheld, counted-lent, counted-raised, chosen-mem}
 use Rattle.choosing.specs.Laws.Accepting.{chooses-is}
 use Rattle.choosing.specs.declared.choose.Choice.{Choice}
 use Rattle.symbols.specs.Paper.Symbols.{per, bytesFor, room, symbolsOf}
@@ -51,10 +52,10 @@ use Rattle.sound.specs.declared.records.Roll.{Roll}
 use Rattle.store.specs.Paper.Stored.{packedInto}
 use Rattle.store.specs.Laws.Edited.{edit-sound, edit-text, edit-right, edit-before, edit-even, edit-cleared, edit-kept, edit-cleared-directory, edit-kept-directory}
 use Rattle.roll.specs.Paper.Operations.{packRows, packSays, Packing, fitRows, Checking, unpackRows, unpackSays, Unpacking, makeRows, makeSays, Making, readRows, oneRead, readSays, ReadingOne, searchRows, searchSays, Searching, directorySays, editRows, editSays, Editing}
-use Rattle.roll.specs.Laws.Accepting.{sound-accepted, accepted-sound, accepted-packs, unpacks-is, makes-is, searches-is}
+use Rattle.roll.specs.Laws.Accepting.{sound-accepted, accepted-sound, packs-accepted, accepted-packs, unpacks-is, makes-is, searches-is}
 use Rattle.roll.specs.declared.pack.Packed.{Packed}
 use Rattle.roll.specs.declared.edit.Edited.{Edited}
-use Rattle.demands.specs.Counted.{counted-total, counted-packs, chosen-mem, AlwaysFits, always-known, always-4, never-3}
+use Rattle.demands.specs.Counted.{AlwaysKnown, always-known, always-4, never-3, CountedIn, in-known, in-total, counts-in, counted-total}
 use Rattle.demands.specs.Meaning.{packed-holds, pack-unpack, packing-sound, packing-unpacking}
 use Rattle.demands.specs.Made.{made-sound, made-right, reads-right}
 use Rattle.demands.specs.Edits.{edits-yes, editing-yes, edit-as-packed}
@@ -229,19 +230,31 @@ pub count-tells : {text counts after : List ℕ} {b : ℕ} → Counting text cou
 unfolding countsOf
 count-tells {text} {counts} {after} {b} p h = rw (p .leaves ∙ accepted-leaves (sym (p .says)) _ _) (tab-at (occurs text) 256 b h)
 
+-- what choosing was lent, and what it answers
+module _ {k : ℕ} {counts : List ℕ} {c : Choice} (p : Choosing k counts c) (y : c .answer ≡ Yes) where
+  chosen-width : T (goodWidth k)
+  chosen-width = chooses-is k counts .1 (says-as (p .says) y) .0
+
+  lent-long : length counts ≡ 256
+  lent-long = chooses-is k counts .1 (says-as (p .says) y) .1
+
+  chosen-table : c .table ≡ chosenTable k (counted counts)
+  chosen-table = p .table ∙ accepted-leaves (says-as (p .says) y) _ _
+
+  chosen-total : c .total ≡ total (chosen k (counted counts)) (counted counts)
+  chosen-total = p .total ∙ accepted-leaves (says-as (p .says) y) _ _
+
+packed-h : {t : Table} {text buf after : List ℕ} {a : Packed} → Packing t text buf a after → a .answer ≡ Yes → a .roll .h ≡ length (symbolsFor t text)
+packed-h w z = ap (λ (x : Roll). x .h) (w .roll ∙ accepted-leaves (says-as (w .says) z) _ _)
+
 pub chosen-ranked : {k : ℕ} {counts : List ℕ} {c : Choice} → Choosing k counts c → c .answer ≡ Yes
     → InOrder (counted counts) (characters (c .table)) × Fewest k (counted counts) (c .table .code)
 unfolding chosenTable
 chosen-ranked {k} {counts} p y =
-    let e = says-as (p .says) y in
-    rw (p .table ∙ accepted-leaves e _ _) (
+    rw (chosen-table p y) (
       ranking-order (rw (take-padded 256 (ranked (counted counts))) (ranking (counted counts))),
-      chosen-least k (counted counts) (chooses-is k counts .1 e .0),
+      chosen-least k (counted counts) (chosen-width p y),
     )
-
--- what choosing answers
-chosen-table : {k : ℕ} {counts : List ℕ} {c : Choice} → Choosing k counts c → c .answer ≡ Yes → c .table ≡ chosenTable k (counted counts)
-chosen-table p y = p .table ∙ accepted-leaves (says-as (p .says) y) _ _
 
 pub count-as-lent : (counts : List ℕ) (b : ℕ) → (0 < getD counts b 0) ⊎ (b ∈ twelve → ⊥) → counted counts b ≡ getD counts b 0
 count-as-lent = counted-lent
@@ -250,60 +263,85 @@ pub count-raised : (counts : List ℕ) (b : ℕ) → b ∈ twelve → getD count
 count-raised = counted-raised
 
 -- a character is in the chosen table exactly if it was counted or is one of the twelve
-pub chosen-characters : {k : ℕ} {counts : List ℕ} {c : Choice} {b : ℕ} → Choosing k counts c → c .answer ≡ Yes → b < 256
-    → b ∈ characters (c .table) ↔ ((0 < getD counts b 0) ⊎ (b ∈ twelve))
-chosen-characters {k} {counts} {c} {b} p y h = rw (chosen-table p y) (chosen-mem k counts b h)
+pub chosen-characters : {k : ℕ} {counts : List ℕ} {c : Choice} {b : ℕ} → Choosing k counts c → c .answer ≡ Yes → b ∈ characters (c .table) ↔ ((0 < getD counts b 0) ⊎ (b ∈ twelve))
+chosen-characters {k} {counts} {c} {b} p y = rw (chosen-table p y) (chosen-mem k counts (lent-long p y) b)
 
--- a text that was counted and chosen for packs wherever the total has room, and takes the total less the symbols of those of the
--- twelve that it does not hold
-pub chosen-packs : {k : ℕ} {text counts counts2 : List ℕ} {c : Choice} → Below 256 text → Counting text counts Yes counts2 → Choosing k counts2 c → c .answer ≡ Yes
-    → {buf after : List ℕ} {a : Packed} → c .total ≤ room k (length buf) → Packing (c .table) text buf a after
-    → (a .answer ≡ Yes) × (a .roll .h ≤ c .total) × (a .roll .h + length (symbolsFor (c .table) (unheld text)) ≡ c .total)
-chosen-packs {k} {text} {counts} {counts2} {c} small n p y {buf} {after} {a} fits w =
-    let e = says-as (p .says) y in
-    let is : counts2 ≡ countsOf text = n .leaves ∙ accepted-leaves (sym (n .says)) _ _ in
-    let table : c .table ≡ chosenTable k (counted (countsOf text)) = chosen-table p y ∙ ap (λ (x : List ℕ). chosenTable k (counted x)) is in
-    let all : c .total ≡ total (chosen k (counted (countsOf text))) (counted (countsOf text))
-    = p .total ∙ accepted-leaves e _ _ ∙ ap (λ (x : List ℕ). total (chosen k (counted x)) (counted x)) is in
-    let g = chooses-is k counts2 .1 e .0 in
-    let parts : length (symbolsFor (c .table) text) + length (symbolsFor (c .table) (unheld text)) ≡ c .total
-    = rw table (sym (counted-total k g text small)) ∙ sym all in
-    let yes : a .answer ≡ Yes
-    = done-one (a .answer) Yes
-    (w .says ∙ ap (λ (t : Table). packSays t text buf) table ∙ counted-packs k g text small buf .1 (rw (← table) (omega (arith, parts, fits)))) in
-    let is-h : a .roll .h ≡ length (symbolsFor (c .table) text) = ap (λ (x : Roll). x .h) (w .roll ∙ accepted-leaves (says-as (w .says) yes) _ _) in
-    (yes, omega (arith, is-h, parts), omega (arith, is-h, parts))
+-- digits always fit: whatever the counts, a text of the twelve and of characters that were counted (`AlwaysKnown`) is refused neither 1 nor 3 under the chosen table:
+-- it is packed if its symbols have room, and else refused 4. A text that is counted in the counts is such a text
+pub digits-packed : {k : ℕ} {counts text buf after : List ℕ} {c : Choice} {a : Packed} → Choosing k counts c → c .answer ≡ Yes → AlwaysKnown counts text
+    → Packing (c .table) text buf a after → a .answer ≡ Yes ↔ length (symbolsFor (c .table) text) ≤ room k (length buf)
+unfolding chosenTable chosen
+digits-packed {k} {counts} {text} {buf} {after} {c} {a} p y known w =
+    let t = chosenTable k (counted counts) in
+    let same = chosen-table p y in
+    let q : Packing t text buf a after = subst (λ (x : Table). Packing x text buf a after) same w in (
+      λ z. rw same (accepted-packs t text buf (says-as (q .says) z) .fits),
+      λ fits.
+          done-one (a .answer) Yes
+          (q .says
+          ∙ packs-accepted t text buf (record {
+            good = chosen-table-good k (counted counts) (chosen-width p y);
+            known = always-known k counts (lent-long p y) known;
+            fits = rw same at fits;
+          })),
+    )
 
--- digits always fit: whatever the counts, a text of the twelve and of characters that were counted (`AlwaysFits`) is packed under the chosen table, or there is no
--- room for it, which is 4; it is refused neither 1 nor 3
-pub digits-pack : {k : ℕ} {counts text buf after : List ℕ} {c : Choice} {a : Packed} {n v : ℕ} → Choosing k counts c → c .answer ≡ Yes → AlwaysFits counts text
+pub digits-pack : {k : ℕ} {counts text buf after : List ℕ} {c : Choice} {a : Packed} {n v : ℕ} → Choosing k counts c → c .answer ≡ Yes → AlwaysKnown counts text
     → Packing (c .table) text buf a after → a .answer ≡ Refused n v → n ≡ 4
-digits-pack {k} {counts} {text} {buf} {after} {c} {a} {n} {v} p y fits w e =
-    always-4 k counts (chooses-is k counts .1 (says-as (p .says) y) .0) fits buf
+digits-pack {k} {counts} {text} {buf} {after} {c} {a} {n} {v} p y known w e =
+    always-4 k counts (chosen-width p y) (always-known k counts (lent-long p y) known) buf
     (subst (λ (t : Table). Refuses (packRows t text buf) n v) (chosen-table p y) (order-pack w e))
+
+pub digits-counted : (counts : List ℕ) {text : List ℕ} → Below 256 text → CountedIn counts text → AlwaysKnown counts text
+digits-counted = in-known
 
 -- and an edit by such a text is never refused 3, in any roll of a chosen table
 pub digits-edit : {k : ℕ} {counts buf dir new after dirAfter : List ℕ} {r : Roll} {c : Choice} {e : Edited} {start end v : ℕ} → Choosing k counts c → c .answer ≡ Yes
-    → AlwaysFits counts new → r .table ≡ c .table → Editing r buf dir start end new e after dirAfter → e .answer ≡ Refused 3 v → ⊥
-digits-edit {k} {counts} {buf} {dir} {new} {after} {dirAfter} {r} {c} {e} {start} {end} {v} p y fits same w z =
-    never-3 r buf dir start end new (rw (same ∙ chosen-table p y) (always-known k counts fits)) (order-edit w z)
+    → AlwaysKnown counts new → r .table ≡ c .table → Editing r buf dir start end new e after dirAfter → e .answer ≡ Refused 3 v → ⊥
+digits-edit {k} {counts} {buf} {dir} {new} {after} {dirAfter} {r} {c} {e} {start} {end} {v} p y known same w z =
+    never-3 r buf dir start end new (rw (same ∙ chosen-table p y) (always-known k counts (lent-long p y) known)) (order-edit w z)
 
 -- it is accepted wherever its place is right and the edited text has room
 pub digits-edited : {k : ℕ} {counts buf dir text new after dirAfter : List ℕ} {r : Roll} {c : Choice} {e : Edited} {start end : ℕ} → Choosing k counts c → c .answer ≡ Yes
-    → AlwaysFits counts new → r .table ≡ c .table → TextIs r buf text → DirectoryIs r buf dir → start ≤ end → end ≤ r .n
+    → AlwaysKnown counts new → r .table ≡ c .table → TextIs r buf text → DirectoryIs r buf dir → start ≤ end → end ≤ r .n
     → length (symbolsFor (r .table) (edited text start end new)) ≤ room (r .table .code .k) (length buf) → entries (length (edited text start end new)) ≤ length dir
     → Editing r buf dir start end new e after dirAfter → e .answer ≡ Yes
-digits-edited {k} {counts} p y fits same t d a b room-there many w =
+digits-edited {k} {counts} p y known same t d a b fits many w =
     edits-yes w
     (record {
       sound = text-sound t;
       right = directory-right d;
       ordered = a;
       inside = b;
-      known = rw (same ∙ chosen-table p y) (always-known k counts fits);
-      fits = rw (← text-is t) room-there;
+      known = rw (same ∙ chosen-table p y) (always-known k counts (lent-long p y) known);
+      fits = rw (← text-is t) fits;
       listed = rw (← text-is t) many;
     })
+
+-- let a text be counted in the lent counts, others that may come perhaps beside it (`CountedIn`): it packs wherever the total has room, and takes no more
+pub chosen-packs : {k : ℕ} {text counts buf after : List ℕ} {c : Choice} {a : Packed} → Below 256 text → CountedIn counts text → Choosing k counts c → c .answer ≡ Yes
+    → Packing (c .table) text buf a after → (c .total ≤ room k (length buf) → a .answer ≡ Yes) × (a .answer ≡ Yes → a .roll .h ≤ c .total)
+chosen-packs {k} {text} {counts} {buf} {after} {c} {a} small n p y w =
+    let l = lent-long p y in
+    let least : length (symbolsFor (c .table) text) ≤ c .total = rw (chosen-table p y, chosen-total p y) (in-total counts small n k l) in (
+      λ fits. digits-packed p y (in-known counts small n) w .1 (omega (arith, fits, least)),
+      λ z. omega (arith, packed-h w z, least),
+    )
+
+-- counting a text makes such counts, and by these it takes the total less the symbols of those of the twelve that it does not hold
+pub count-in : {text counts after : List ℕ} → Counting text counts Yes after → CountedIn after text
+count-in {text} n = rw (n .leaves ∙ accepted-leaves (sym (n .says)) _ _) (counts-in text)
+
+pub chosen-takes : {k : ℕ} {text counts counts2 buf after : List ℕ} {c : Choice} {a : Packed} → Below 256 text → Counting text counts Yes counts2 → Choosing k counts2 c
+    → c .answer ≡ Yes → Packing (c .table) text buf a after → a .answer ≡ Yes → a .roll .h + length (symbolsFor (c .table) (unheld text)) ≡ c .total
+chosen-takes {k} {text} {counts} {counts2} {buf} {after} {c} {a} small n p y w z =
+    let is : counts2 ≡ countsOf text = n .leaves ∙ accepted-leaves (sym (n .says)) _ _ in
+    let table : c .table ≡ chosenTable k (counted (countsOf text)) = chosen-table p y ∙ ap (λ (x : List ℕ). chosenTable k (counted x)) is in
+    let all : c .total ≡ total (chosen k (counted (countsOf text))) (counted (countsOf text))
+    = chosen-total p y ∙ ap (λ (x : List ℕ). total (chosen k (counted x)) (counted x)) is in
+    let parts : length (symbolsFor (c .table) text) + length (symbolsFor (c .table) (unheld text)) ≡ c .total
+    = rw table (sym (counted-total k (chosen-width p y) text small)) ∙ sym all in
+    omega (arith, packed-h w z, parts)
 
 -- ---- Unpacking a packed text gives that text
 

@@ -115,11 +115,15 @@ abra = tableOf (record { k = 2; s = 3 }) (97 ∷ 98 ∷ 114 ∷ 99 ∷ 100 ∷ [
 unfoldable pub packedAbra : List ℕ
 packedAbra = 24 ∷ 195 ∷ 70 ∷ 0 ∷ []
 
--- a b r, byte 10, +, the digits, c d: what choosing gives for it
-unfoldable pub abraChosen : Table
-abraChosen = tableOf (record { k = 2; s = 2 }) (97 ∷ 98 ∷ 114 ∷ 10 ∷ 43 ∷ 48 ∷ 49 ∷ 50 ∷ 51 ∷ 52 ∷ 53 ∷ 54 ∷ 55 ∷ 56 ∷ 57 ∷ 99 ∷ 100 ∷ [])
+-- byte 10, +, the digits
+theTwelve : List ℕ
+theTwelve = 10 ∷ 43 ∷ 48 ∷ 49 ∷ 50 ∷ 51 ∷ 52 ∷ 53 ∷ 54 ∷ 55 ∷ 56 ∷ 57 ∷ []
 
-unfoldable pub packedChosen : List ℕ
+-- a b r, the twelve, c d: what choosing gives for it
+abraChosen : Table
+abraChosen = tableOf (record { k = 2; s = 2 }) (97 ∷ 98 ∷ 114 ∷ theTwelve ++ 99 ∷ 100 ∷ [])
+
+packedChosen : List ℕ
 packedChosen = 24 ∷ 42 ∷ 74 ∷ 193 ∷ 128 ∷ []
 
 -- a record of so many characters and symbols
@@ -133,13 +137,9 @@ banana = 98 ∷ 97 ∷ 110 ∷ 97 ∷ 110 ∷ 97 ∷ []
 unfoldable pub bananas : Table
 bananas = tableOf (record { k = 4; s = 3 }) (97 ∷ 110 ∷ 98 ∷ [])
 
--- a n, byte 10, +, the digits, b: what choosing gives for it
+-- a n, the twelve, b: what choosing gives for it
 bananasChosen : Table
-bananasChosen = tableOf (record { k = 4; s = 15 }) (97 ∷ 110 ∷ 10 ∷ 43 ∷ 48 ∷ 49 ∷ 50 ∷ 51 ∷ 52 ∷ 53 ∷ 54 ∷ 55 ∷ 56 ∷ 57 ∷ 98 ∷ [])
-
--- byte 10, +, the digits
-dialled : List ℕ
-dialled = 10 ∷ 43 ∷ 48 ∷ 49 ∷ 50 ∷ 51 ∷ 52 ∷ 53 ∷ 54 ∷ 55 ∷ 56 ∷ 57 ∷ []
+bananasChosen = tableOf (record { k = 4; s = 15 }) (97 ∷ 110 ∷ theTwelve ++ 98 ∷ [])
 
 -- P1 by the counts as they are; P2 to P5, P10 and P11 with their tables given directly; behind each, what the table gives that choosing answers
 cases : List Case
@@ -157,6 +157,8 @@ cases =
     ∷ unpacks (rolled abra 11 13) packedAbra 0 11 (replicate 12 9) yes (abracadabra ++ 9 ∷ [])
     ∷ packs abraChosen abracadabra (9 ∷ 9 ∷ 9 ∷ 9 ∷ 9 ∷ 9 ∷ []) yes (rolled abraChosen 11 19)
     (0 ∷ 1 ∷ 2 ∷ 0 ∷ 0 ∷ 2 ∷ 2 ∷ 2 ∷ 1 ∷ 0 ∷ 2 ∷ 2 ∷ 3 ∷ 0 ∷ 0 ∷ 1 ∷ 2 ∷ 0 ∷ 0 ∷ []) (packedChosen ++ 9 ∷ [])
+    ∷ checks (rolled abraChosen 11 19) packedChosen yes
+    ∷ unpacks (rolled abraChosen 11 19) packedChosen 0 11 (replicate 12 9) yes (abracadabra ++ 9 ∷ [])
     -- P3: b, and the symbol that equals its codeword and is no hit
     ∷ finds (rolled abra 11 13) packedAbra (98 ∷ []) (9 ∷ 9 ∷ 9 ∷ []) (accepted 2) (1 ∷ 8 ∷ 9 ∷ [])
     ∷ inside (rolled abra 11 13) packedAbra (98 ∷ []) 8
@@ -203,8 +205,8 @@ cases =
     ∷ edits (rolled abraChosen 11 19) (packedChosen ++ 9 ∷ []) (0 ∷ 9 ∷ []) 4 7 (43 ∷ 52 ∷ 55 ∷ []) yes
     (rolled abraChosen 11 18) (24 ∷ 50 ∷ 223 ∷ 6 ∷ 0 ∷ 9 ∷ []) (0 ∷ 9 ∷ [])
     -- all counts 0: the twelve alone
-    ∷ choice 2 [] (tableOf (record { k = 2; s = 2 }) dialled) 28
-    ∷ choice 4 [] (tableOf (record { k = 4; s = 12 }) dialled) 12
+    ∷ choice 2 [] (tableOf (record { k = 2; s = 2 }) theTwelve) 28
+    ∷ choice 4 [] (tableOf (record { k = 4; s = 12 }) theTwelve) 12
     ∷ []
 
 -- all that the cases compute with, named once
@@ -213,5 +215,5 @@ unfolding limit tab zeros padded firstWhere codeword place first shorter opens s
 computed = tt
 
 worked : T (every cases)
-unfolding every cases right same sameTable sameRoll sameOutcome sameTotal yes abracadabra abra packedAbra abraChosen packedChosen banana bananas bananasChosen dialled computed
+unfolding every cases right same sameTable sameRoll sameOutcome sameTotal yes abracadabra abra packedAbra theTwelve abraChosen packedChosen banana bananas bananasChosen computed
 worked = tt

@@ -25,7 +25,7 @@ pub report-not-wide : {out : List ℕ} → reportOf example ≡ out → getD out
 unfolding exampleLines
 report-not-wide e w = let a = at 5 e in omega arith
 
--- choosing's total in the place of h: 53, which counts the twelve that the text does not hold
+-- choosing's total in the place of h: it is 53, so its first digit would be 5, which is byte 53
 pub report-not-total : {out : List ℕ} → reportOf example ≡ out → getD out 15 0 ≡ 53 → ⊥
 unfolding exampleLines
 report-not-total e w = let a = at 15 e in omega arith

@@ -4,7 +4,7 @@ use monterculo::{OwnedRoll, Refusal, Width};
 
 pub fn main() -> Result<(), Refusal> {
     let members = b"pan 7 Oda 5550143\npan 12 Jory 5550128\n";
-    // Any digit may come by a correction, and there is room for 64 symbols more.
+    // No further characters: digits, + and the line end are in every chosen table. Room for 64 symbols more.
     let mut roll = OwnedRoll::with_spare(Width::Four, members, b"", 64)?;
     for hit in roll.find(b"pan 12 ")? {
         let line = roll.line_of(hit)?; // pan 12 Jory 5550128

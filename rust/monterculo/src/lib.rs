@@ -28,7 +28,7 @@
 //!
 //! fn main() -> Result<(), Refusal> {
 //!     let members = b"pan 7 Oda 5550143\npan 12 Jory 5550128\npan 112 Maren 5550167\n";
-//!     // Any digit may come by a correction, and there is room for 64 symbols more.
+//!     // No further characters: digits, + and the line end are in every chosen table. Room for 64 symbols more.
 //!     let mut roll = OwnedRoll::with_spare(Width::Two, members, b"", 64)?;
 //!
 //!     // With the word before it and the blank behind it, pan 12 is not found in pan 112.

@@ -14,7 +14,7 @@ use crate::{bytes_for, count, entries_for, Refusal, Roll, Table, Width, PLACES, 
 /// use monterculo::{OwnedRoll, Width};
 ///
 /// let members = b"pan 7 Oda 5550143\npan 12 Jory 5550128\n";
-/// // Any digit may come by a correction, and 40 symbols more than now before the room must grow.
+/// // No further characters: digits, + and the line end are in every chosen table. Room for 40 symbols more.
 /// let mut roll = OwnedRoll::with_spare(Width::Two, members, b"", 40)?;
 /// assert_eq!(roll.find(b"pan 12 ")?, [18]);
 /// let line = roll.line_of(18)?;

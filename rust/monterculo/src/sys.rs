@@ -191,7 +191,8 @@ pub fn count(text: &[u8], counts: &mut [u32]) -> Answer {
     unsafe { monterculo_count(text.as_ptr(), text.len(), counts.as_mut_ptr(), counts.len()) }
 }
 
-/// The table of width k with the fewest symbols for these counts, the twelve raised. Refused: 1, 2.
+/// The table of width k with the fewest symbols for these counts, digits, + and byte 10 counted as at least 1.
+/// Refused: 1, 2.
 #[inline]
 pub fn choose(k: u8, counts: &[u32]) -> Chosen {
     // SAFETY: as above; counts are read.

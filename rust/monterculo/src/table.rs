@@ -62,8 +62,9 @@ impl Table {
     /// and can always come by an edit. Any other character counted 0 has no rank: count those that may come once more,
     /// such as all letters.
     ///
-    /// The total is the symbols of the counted text and a codeword of each of those twelve that the text does not hold.
-    /// A buffer for the total is enough for the text, and may be more than needed.
+    /// The total is the symbols of the counted text, and a codeword of each of those twelve that the text does not hold
+    /// and of each other character counted in beside it. A buffer for the total is enough for the text, and may be more
+    /// than needed.
     ///
     /// Refusals, in their order: 1 (0; the width only), 2 (the length of `counts`).
     ///

@@ -2,7 +2,7 @@
 
 use std::ops::Bound;
 
-use monterculo::{entries_for, Line, OwnedRoll, Refusal, Roll, Table, Width, SYMBOLS};
+use monterculo::{count, entries_for, Line, OwnedRoll, Refusal, Roll, Table, Width, SYMBOLS};
 
 const MEMBERS: &[u8] = b"pan 7 Oda 5550143\npan 12 Jory 5550128\npan 112 Maren 5550167\npan 21 Tavo 5550190\n";
 
@@ -170,6 +170,21 @@ fn room_grows_to_the_limit() {
     let mut roll = OwnedRoll::new(Width::Two, b"abracadabra").unwrap();
     assert_eq!(roll.replace(0..0, &[b'a'; 70_000]), Err(Refusal::NoRoom { character: 65_536 }));
     hold(&roll, b"abracadabra");
+}
+
+/// A text can fill a roll, though its total is over the limit by those of the twelve that it does not hold.
+#[test]
+fn full_with_a_total_over_the_limit() {
+    let text = [b'a'; 65_536];
+    let mut counts = [7; 256];
+    count(&text, &mut counts).unwrap();
+    for width in [Width::Two, Width::Four] {
+        let (table, total) = Table::choose(width.k(), &counts).unwrap();
+        assert!(total > 65_536);
+        let roll = OwnedRoll::new(width, &text).unwrap();
+        assert_eq!((roll.table(), roll.as_parts().0.h()), (&table, 65_536));
+        hold(&roll, &text);
+    }
 }
 
 #[test]

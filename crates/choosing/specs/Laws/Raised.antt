@@ -1,22 +1,27 @@
 -- What a character counts as: its count as lent, but each of the twelve at least 1.
-use mathlib.Core.Path.{_≡_, refl, sym, ap, _∙_}
-use mathlib.Core.Logic.{_⊎_, inl, inr}
-use mathlib.Core.Bool.{Bool, true, false, cond, _||_}
+use mathlib.Core.Path.{_≡_, refl, sym, ap, ap₂, subst, _∙_}
+use mathlib.Core.Logic.{_⊎_, inl, inr, ⊎-elim, _↔_}
+use mathlib.Core.Bool.{Bool, true, false, cond}
 use mathlib.Core.List.{List, [], _∷_, _++_}
-use Prim.Native.Nat.{ℕ, zero, suc, _+_, _≤_, _<_}
+use Prim.Native.Nat.{ℕ, _≤_, _<_}
 use native.Mathlib.Nat.{zero-add}
-use native.Mathlib.Decide.{ℕ-discrete}
+use native.Mathlib.Decide.{ℕ-discrete, decLt}
 use native.Mathlib.Omega.{arith}
 use borrow.Author.Tests.{eq-eqb, ne-eqb, lt-ltb, le-ltb}
-use lib.Dec.{ltb, eqb, ltb→lt, nltb→le}
-use lib.ListN.{getD}
+use lib.Dec.{T, ltb, eqb, ltb→lt, nltb→le}
+use lib.ListN.{length, getD, List·getD-eq-default}
 use Rattle.ground.specs.Helpers.Below.{Below, none, also}
 use Rattle.ground.specs.Laws.Tests.{cond-yes, by-test, by-value, true-yes, neither}
-use Rattle.ground.specs.Laws.Rows.{tab-at, below-mem}
-use Rattle.stopper.specs.Paper.Table.{has, repeats}
+use Rattle.ground.specs.Laws.Rows.{tab-at, below-mem, take-padded}
+use Rattle.stopper.specs.Paper.Table.{has, repeats, goodWidth, characters, tableOf}
 use Rattle.stopper.specs.Laws.Characters.{has-mem, mem-has, _∈_}
-use Rattle.choosing.specs.Paper.Choosing.{occurs, countsOf, twelve, atLeast, counted}
+use Rattle.stopper.specs.declared.code.Code.{Code}
+use Rattle.stopper.specs.declared.table.Table.{Table}
+use Rattle.choosing.specs.Paper.Ranking.{ranked}
+use Rattle.choosing.specs.Paper.Choosing.{occurs, countsOf, twelve, atLeast, counted, total, chosen, chosenTable}
 use Rattle.choosing.specs.Laws.Counting.{occurs-append, occurs-pos}
+use Rattle.choosing.specs.Laws.Ranking.{ranking}
+use Rattle.choosing.specs.Laws.Choosing.{ranked-ext, total-ext, chosen-ext}
 
 -- ---- the twelve
 
@@ -34,56 +39,39 @@ at-most : (b : ℕ) → atLeast b ≤ 1
 unfolding atLeast
 at-most b = by-value (has b twelve) (λ e. rw e (omega arith)) (λ e. rw e (omega arith))
 
-pub least-one : (b : ℕ) → b ∈ twelve → atLeast b ≡ 1
+pub twelve-least : (b : ℕ) → b ∈ twelve → atLeast b ≡ 1
 unfolding atLeast
-least-one b m = cond-yes (has b twelve) 1 0 (mem-has twelve b m)
+twelve-least b m = cond-yes (has b twelve) 1 0 (mem-has twelve b m)
 
 -- ---- the count as it is lent, or the least
 
 module _ (counts : List ℕ) (b : ℕ) where
-  pub counted-more : getD counts b 0 < atLeast b → counted counts b ≡ atLeast b
+  counted-more : getD counts b 0 < atLeast b → counted counts b ≡ atLeast b
   unfolding counted
   counted-more h = rw (lt-ltb _ _ h)
 
-  pub counted-as : atLeast b ≤ getD counts b 0 → counted counts b ≡ getD counts b 0
+  counted-as : atLeast b ≤ getD counts b 0 → counted counts b ≡ getD counts b 0
   unfolding counted
   counted-as h = rw (le-ltb _ _ h)
 
-  pub counted-lower : getD counts b 0 ≤ counted counts b
-  counted-lower =
+  either : ((getD counts b 0 < atLeast b) × (counted counts b ≡ atLeast b)) ⊎ ((atLeast b ≤ getD counts b 0) × (counted counts b ≡ getD counts b 0))
+  either =
       by-test (ltb (getD counts b 0) (atLeast b))
-      (λ t. let l = ltb→lt (getD counts b 0) (atLeast b) t in omega (arith, l, counted-more l))
-      (λ t. omega (arith, counted-as (nltb→le (getD counts b 0) (atLeast b) t)))
+      (λ t. let h = ltb→lt (getD counts b 0) (atLeast b) t in inl (h, counted-more h))
+      (λ t. let h = nltb→le (getD counts b 0) (atLeast b) t in inr (h, counted-as h))
+
+  pub counted-lower : getD counts b 0 ≤ counted counts b
+  counted-lower = ⊎-elim (λ p. omega (arith, p .0, p .1)) (λ p. omega (arith, p .1)) either
 
   pub counted-least : atLeast b ≤ counted counts b
-  counted-least =
-      by-test (ltb (getD counts b 0) (atLeast b))
-      (λ t. omega (arith, counted-more (ltb→lt (getD counts b 0) (atLeast b) t)))
-      (λ t. let l = nltb→le (getD counts b 0) (atLeast b) t in omega (arith, l, counted-as l))
+  counted-least = ⊎-elim (λ p. omega (arith, p .1)) (λ p. omega (arith, p .0, p .1)) either
 
-  -- no other number has all three
+  -- it is the least number that is at least both
   pub counted-one : (n : ℕ) → getD counts b 0 ≤ n → atLeast b ≤ n → n ≤ counted counts b → n ≡ counted counts b
-  counted-one n h k l =
-      by-test (ltb (getD counts b 0) (atLeast b))
-      (λ t. omega (arith, counted-more (ltb→lt (getD counts b 0) (atLeast b) t)))
-      (λ t. omega (arith, counted-as (nltb→le (getD counts b 0) (atLeast b) t)))
+  counted-one n h k l = ⊎-elim (λ p. omega (arith, p .1)) (λ p. omega (arith, p .1)) either
 
   pub counted-none : getD counts b 0 ≡ 0 → counted counts b ≡ atLeast b
-  counted-none e =
-      by-test (ltb (getD counts b 0) (atLeast b))
-      (λ t. counted-more (ltb→lt _ _ t))
-      (λ t. let l = nltb→le (getD counts b 0) (atLeast b) t in omega (arith, l, e, counted-as l))
-
-  -- it does not count 0 exactly if it is counted or one of the twelve
-  pub counted-pos : ltb 0 (counted counts b) ≡ (ltb 0 (getD counts b 0) || has b twelve)
-  unfolding counted atLeast
-  counted-pos = go (has b twelve) (getD counts b 0)
-    where
-      go : (t : Bool) (n : ℕ) → ltb 0 (cond (ltb n (cond t 1 0)) (cond t 1 0) n) ≡ (ltb 0 n || t)
-      go true zero = refl
-      go true (suc n) = rw (le-ltb (suc n) 1 (omega arith), lt-ltb 0 (suc n) (omega arith))
-      go false zero = refl
-      go false (suc n) = rw (le-ltb (suc n) 0 (omega arith), lt-ltb 0 (suc n) (omega arith))
+  counted-none e = ⊎-elim (λ p. p .1) (λ p. omega (arith, p .0, p .1)) either
 
 -- in plain words: as lent if it is counted or none of the twelve; else 1
 module _ (counts : List ℕ) (b : ℕ) where
@@ -93,7 +81,7 @@ module _ (counts : List ℕ) (b : ℕ) where
   counted-lent (inr n) = by-value (has b twelve) (λ e. absurd (n (has-mem twelve b (true-yes _ e)))) (λ e. counted-as counts b (rw e (omega arith)))
 
   pub counted-raised : b ∈ twelve → getD counts b 0 ≡ 0 → counted counts b ≡ 1
-  counted-raised m e = counted-none counts b e ∙ least-one b m
+  counted-raised m e = counted-none counts b e ∙ twelve-least b m
 
 -- ---- a text's counts are ranked as if those of the twelve that it does not hold stood behind it, once each
 
@@ -175,3 +163,38 @@ below-without text (also {x = x} {xs = l} a h) = go (has x text) (below-without 
 pub unheld-below : (text : List ℕ) → Below 256 (unheld text)
 unfolding unheld
 unheld-below text = below-without text twelve-below
+
+-- ---- the chosen table
+
+module _ (k : ℕ) (counts : List ℕ) where
+  pub chosen-row : characters (chosenTable k (counted counts)) ≡ ranked (counted counts)
+  unfolding chosenTable
+  chosen-row = take-padded 256 (ranked (counted counts))
+
+  -- a character is in it exactly if it was counted or is one of the twelve
+  pub chosen-mem : length counts ≡ 256 → (b : ℕ) → b ∈ characters (chosenTable k (counted counts)) ↔ ((0 < getD counts b 0) ⊎ (b ∈ twelve))
+  chosen-mem l b = (λ m. there (rw chosen-row at m), λ p. rw chosen-row (back p))
+    where
+      there : b ∈ ranked (counted counts) → (0 < getD counts b 0) ⊎ (b ∈ twelve)
+      there m =
+          by-value (has b twelve)
+          (λ e. inr (has-mem twelve b (true-yes _ e)))
+          (λ e. inl (omega (arith, ranking (counted counts) .only b m .1, counted-lent counts b (inr (λ t. subst T e (mem-has twelve b t))))))
+
+      back : (0 < getD counts b 0) ⊎ (b ∈ twelve) → b ∈ ranked (counted counts)
+      back (inl h) =
+          ranking (counted counts) .all b
+          (elim (decLt b 256) [ yes p ↦ p | no p ↦ absurd (omega (arith, List·getD-eq-default counts 0 {n = b} (omega (arith, l)))) ])
+          (omega (arith, counted-lower counts b))
+      back (inr t) = ranking (counted counts) .all b (twelve-byte b t) (omega (arith, twelve-least b t, counted-least counts b))
+
+  -- all counts 0: the table and the total are those of twelve counts of 1
+  pub all-zero : T (goodWidth k) → ((b : ℕ) → b < 256 → getD counts b 0 ≡ 0)
+      → (chosenTable k (counted counts) ≡ chosenTable k (occurs twelve)) × (total (chosen k (counted counts)) (counted counts) ≡ total (chosen k (occurs twelve)) (occurs twelve))
+  unfolding chosenTable
+  all-zero w z =
+      let same : (b : ℕ) → b < 256 → counted counts b ≡ occurs twelve b = λ b h. counted-none counts b (z b h) ∙ sym (occurs-twelve b) in
+      let code : chosen k (counted counts) ≡ chosen k (occurs twelve) = chosen-ext (counted counts) (occurs twelve) same k w in (
+        ap₂ {C = Table} tableOf code (ranked-ext (counted counts) (occurs twelve) same),
+        total-ext (counted counts) (occurs twelve) same (chosen k (counted counts)) ∙ ap (λ (c : Code). total c (occurs twelve)) code,
+      )

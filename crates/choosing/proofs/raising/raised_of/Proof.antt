@@ -13,7 +13,7 @@ use Rattle.ground.specs.Laws.Tests.{by-value, true-yes}
 use Rattle.stopper.specs.Paper.Table.{has}
 use Rattle.stopper.specs.Laws.Characters.{_∈_, has-mem, mem-at}
 use Rattle.choosing.specs.Paper.Choosing.{twelve, atLeast, counted}
-use Rattle.choosing.specs.Laws.Raised.{twelve-byte, least-one, counted-lower, counted-least, counted-one}
+use Rattle.choosing.specs.Laws.Raised.{twelve-byte, twelve-least, counted-lower, counted-least, counted-one}
 use Rattle.choosing.proofs.raising.raised_of.Statement.{statement}
 use Rattle.choosing.proofs.raising.raised_of.Tie as tie
 
@@ -71,7 +71,7 @@ module _ {counts raised : List ℕ} {i : ℕ} (u : Upto counts raised i) where
         low b (no q) = rw (getD-set-other raised x b 1 0 q) (u .low b)
 
         high : (b : ℕ) → Dec (b ≡ x) → getD (set raised x 1) b 0 ≤ counted counts b
-        high b (yes q) = rw q (omega (arith, here, least-one x x-of, counted-least counts x))
+        high b (yes q) = rw q (omega (arith, here, twelve-least x x-of, counted-least counts x))
         high b (no q) = rw (getD-set-other raised x b 1 0 q) (u .high b)
 
         by : (j : ℕ) → j < i + 1 → Dec (getD twelve j 0 ≡ x) → 0 < getD (set raised x 1) (getD twelve j 0) 0
@@ -89,7 +89,7 @@ module _ {counts raised : List ℕ} {i : ℕ} (u : Upto counts raised i) where
           by-value (has b twelve)
           (λ e.
           let m = has-mem twelve b (true-yes _ e) in
-          omega (arith, least-one b m, each (λ (y : ℕ). 0 < getD raised y 0) twelve (λ j k. u .first j (omega (arith, twelve-long))) b m))
+          omega (arith, twelve-least b m, each (λ (y : ℕ). 0 < getD raised y 0) twelve (λ j k. u .first j (omega (arith, twelve-long))) b m))
           (λ e. rw e (omega arith))
 
 abbrev Inv-loop : tie.InvT-loop

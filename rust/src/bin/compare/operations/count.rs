@@ -40,7 +40,7 @@ impl Operation for Count {
     }
 
     #[cfg(test)]
-    const ERRORS: &'static [&'static str] = &["writes though refused", "answers the length"];
+    const ERRORS: &'static [&'static str] = &["writes though refused", "answers the length", "raises the twelve"];
 
     #[cfg(test)]
     fn with_error(&mut self, error: &str) -> Answer {
@@ -48,6 +48,11 @@ impl Operation for Count {
         match (error, answer.number) {
             ("writes though refused", 4) => self.counts[255] = !self.counts[255],
             ("answers the length", 4) => return says(4, self.text.len()),
+            ("raises the twelve", 0) => {
+                for byte in reference::ALWAYS {
+                    self.counts[usize::from(byte)] = self.counts[usize::from(byte)].max(1);
+                }
+            }
             _ => {}
         }
         answer
