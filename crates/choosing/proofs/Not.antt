@@ -7,9 +7,8 @@ use native.Mathlib.Nat.{mul-le-mul-right, suc-mul}
 use native.Mathlib.Omega.{arith}
 use lib.Dec.{T}
 use lib.ListN.{getD}
-use Rattle.ground.specs.Laws.Answers.{says-as}
 use Rattle.ground.specs.Laws.Refusals.{accepted-leaves}
-use Rattle.ground.specs.Laws.Rows.{take-padded, tab-at}
+use Rattle.ground.specs.Laws.Rows.{tab-at}
 use Rattle.ground.specs.Laws.Tests.{by-value, true-yes}
 use Rattle.ground.specs.declared.answers.Done.the-variants.{Yes}
 use Rattle.stopper.specs.Paper.Table.{has, lengthOf, goodCode, characters}
@@ -20,10 +19,10 @@ use Rattle.stopper.specs.declared.table.Table.{Table}
 use Rattle.choosing.specs.Paper.Ranking.{ranked}
 use Rattle.choosing.specs.Paper.Choosing.{occurs, countsOf, twelve, counted, totalFrom, total, chosen, chosenTable}
 use Rattle.choosing.specs.Paper.Operations.{Counting, Choosing}
-use Rattle.choosing.specs.Laws.Raised.{twelve-byte, occurs-not, counted-lower, counted-lent, counted-raised}
+use Rattle.choosing.specs.Laws.Raised.{twelve-byte, occurs-not, counted-lower, counted-lent, counted-raised, chosen-row}
 use Rattle.choosing.specs.Laws.Choosing.{chosen-good, total-more}
-use Rattle.choosing.specs.Laws.Accepting.{chooses-is}
 use Rattle.choosing.specs.Laws.Ranking.{ranking}
+use Rattle.choosing.specs.Laws.Operations.{chosen-width, chosen-table, chosen-total}
 use Rattle.choosing.specs.declared.choose.Choice.{Choice}
 
 -- counting that raises: one of the twelve that the text does not hold is counted 0
@@ -54,18 +53,17 @@ module _ {k : ℕ} {counts : List ℕ} {c : Choice} (p : Choosing k counts c) (y
   code = chosen k count
 
   code-good : T (goodCode code)
-  code-good = chosen-good k count (chooses-is k counts .1 (says-as (p .says) y) .0)
+  code-good = chosen-good k count (chosen-width p y)
 
   -- the answered total, and that of its table for other counts
   total-is : c .total ≡ totalFrom code count 0 (ranked count)
   unfolding total
-  total-is = p .total ∙ accepted-leaves (says-as (p .says) y) _ _
+  total-is = chosen-total p y
 
   total-for : (f : ℕ → ℕ) → totalFrom (c .table .code) f 0 (characters (c .table)) ≡ totalFrom code f 0 (ranked count)
   unfolding chosenTable
   total-for f =
-      ap (λ (t : Table). totalFrom (t .code) f 0 (characters t)) (p .table ∙ accepted-leaves (says-as (p .says) y) _ _)
-      ∙ ap (totalFrom code f 0) (take-padded 256 (ranked count))
+      ap (λ (t : Table). totalFrom (t .code) f 0 (characters t)) (chosen-table p y) ∙ ap (totalFrom code f 0) (chosen-row k counts)
 
   -- the total over the counts as they came, where one of the twelve is counted 0: it is more
   pub choose-not-as-came : {b : ℕ} → b ∈ twelve → getD counts b 0 ≡ 0 → c .total ≡ totalFrom (c .table .code) (λ (x : ℕ). getD counts x 0) 0 (characters (c .table)) → ⊥

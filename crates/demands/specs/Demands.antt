@@ -9,14 +9,13 @@ use mathlib.Core.Logic.{_⊎_, _↔_}
 use mathlib.Core.List.{List, _++_}
 use Prim.Native.Nat.{ℕ, _+_, _-_, _/_, _≤_, _<_}
 use native.Mathlib.Omega.{arith}
-use lib.Dec.{T}
 use lib.ListN.{length, take, drop, getD, take-append-drop}
 use Rattle.ground.specs.Paper.Rows.{zeros}
 use Rattle.ground.specs.Paper.Runs.{run}
 use Rattle.ground.specs.Helpers.Below.{Below}
 use Rattle.ground.specs.Laws.Answers.{says-as, done-one, total-one}
 use Rattle.ground.specs.Laws.Refusals.{refused-keeps, accepted-leaves, Refuses, refused-row}
-use Rattle.ground.specs.Laws.Rows.{take-padded, tab-at}
+use Rattle.ground.specs.Laws.Rows.{tab-at}
 use Rattle.ground.specs.declared.answers.Done.{Done}
 use Rattle.ground.specs.declared.answers.Done.the-variants.{Yes, Refused}
 use Rattle.ground.specs.declared.answers.Answer.{Answer}
@@ -24,19 +23,18 @@ use Rattle.ground.specs.declared.answers.Answer.the-variants.{Read, Refused as 
 use Rattle.ground.specs.declared.answers.Total.{Total}
 use Rattle.ground.specs.declared.answers.Total.the-variants.{Of, Refused as total-refused}
 use Rattle.stopper.specs.Paper.Code.{IsCodeword}
-use Rattle.stopper.specs.Paper.Table.{base, stoppers, goodWidth, wordOf, characters}
+use Rattle.stopper.specs.Paper.Table.{base, stoppers, wordOf, characters}
 use Rattle.stopper.specs.Paper.Operations.{codewordRows, codewordSays, Coding, characterRows, characterAt, characterSays, Decoding, wordIn}
 use Rattle.stopper.specs.Laws.Characters.{_∈_}
 use Rattle.stopper.specs.declared.table.Table.{Table}
 use Rattle.stopper.specs.declared.codeword_of.Codeword.{Codeword}
 use Rattle.stopper.specs.declared.codeword_of.Coded.{Coded}
-use Rattle.choosing.specs.Paper.Ranking.{ranked}
 use Rattle.choosing.specs.Paper.Choosing.{occurs, countsOf, twelve, counted, total, chosen, chosenTable}
 use Rattle.choosing.specs.Paper.Operations.{countRows, countSays, Counting, chooseRows, chooseSays, Choosing}
 use Rattle.choosing.specs.Laws.Ranking.{ranking}
-use Rattle.choosing.specs.Laws.Choosing.{Fewest, chosen-least, chosen-table-good}
-use Rattle.choosing.specs.Laws.Raised.{unheld, counted-lent, counted-raised, chosen-mem}
-use Rattle.choosing.specs.Laws.Accepting.{chooses-is}
+use Rattle.choosing.specs.Laws.Choosing.{Fewest, chosen-least}
+use Rattle.choosing.specs.Laws.Raised.{unheld, counted-lent, counted-raised, chosen-row, chosen-mem}
+use Rattle.choosing.specs.Laws.Operations.{chosen-width, lent-long, chosen-table, chosen-total}
 use Rattle.choosing.specs.declared.choose.Choice.{Choice}
 use Rattle.symbols.specs.Paper.Symbols.{per, bytesFor, room, symbolsOf}
 use Rattle.texts.specs.Paper.Directory.{entries}
@@ -52,10 +50,10 @@ use Rattle.sound.specs.declared.records.Roll.{Roll}
 use Rattle.store.specs.Paper.Stored.{packedInto}
 use Rattle.store.specs.Laws.Edited.{edit-sound, edit-text, edit-right, edit-before, edit-even, edit-cleared, edit-kept, edit-cleared-directory, edit-kept-directory}
 use Rattle.roll.specs.Paper.Operations.{packRows, packSays, Packing, fitRows, Checking, unpackRows, unpackSays, Unpacking, makeRows, makeSays, Making, readRows, oneRead, readSays, ReadingOne, searchRows, searchSays, Searching, directorySays, editRows, editSays, Editing}
-use Rattle.roll.specs.Laws.Accepting.{sound-accepted, accepted-sound, packs-accepted, accepted-packs, unpacks-is, makes-is, searches-is}
+use Rattle.roll.specs.Laws.Accepting.{sound-accepted, accepted-sound, accepted-packs, unpacks-is, makes-is, searches-is}
 use Rattle.roll.specs.declared.pack.Packed.{Packed}
 use Rattle.roll.specs.declared.edit.Edited.{Edited}
-use Rattle.demands.specs.Counted.{AlwaysKnown, always-known, always-4, never-3, CountedIn, in-known, in-total, counts-in, counted-total}
+use Rattle.demands.specs.Counted.{AlwaysKnown, always-known, known-packs, known-4, never-3, CountedIn, in-known, in-total, counts-in, counted-total}
 use Rattle.demands.specs.Meaning.{packed-holds, pack-unpack, packing-sound, packing-unpacking}
 use Rattle.demands.specs.Made.{made-sound, made-right, reads-right}
 use Rattle.demands.specs.Edits.{edits-yes, editing-yes, edit-as-packed}
@@ -230,20 +228,6 @@ pub count-tells : {text counts after : List ℕ} {b : ℕ} → Counting text cou
 unfolding countsOf
 count-tells {text} {counts} {after} {b} p h = rw (p .leaves ∙ accepted-leaves (sym (p .says)) _ _) (tab-at (occurs text) 256 b h)
 
--- what choosing was lent, and what it answers
-module _ {k : ℕ} {counts : List ℕ} {c : Choice} (p : Choosing k counts c) (y : c .answer ≡ Yes) where
-  chosen-width : T (goodWidth k)
-  chosen-width = chooses-is k counts .1 (says-as (p .says) y) .0
-
-  lent-long : length counts ≡ 256
-  lent-long = chooses-is k counts .1 (says-as (p .says) y) .1
-
-  chosen-table : c .table ≡ chosenTable k (counted counts)
-  chosen-table = p .table ∙ accepted-leaves (says-as (p .says) y) _ _
-
-  chosen-total : c .total ≡ total (chosen k (counted counts)) (counted counts)
-  chosen-total = p .total ∙ accepted-leaves (says-as (p .says) y) _ _
-
 packed-h : {t : Table} {text buf after : List ℕ} {a : Packed} → Packing t text buf a after → a .answer ≡ Yes → a .roll .h ≡ length (symbolsFor t text)
 packed-h w z = ap (λ (x : Roll). x .h) (w .roll ∙ accepted-leaves (says-as (w .says) z) _ _)
 
@@ -252,7 +236,7 @@ pub chosen-ranked : {k : ℕ} {counts : List ℕ} {c : Choice} → Choosing k co
 unfolding chosenTable
 chosen-ranked {k} {counts} p y =
     rw (chosen-table p y) (
-      ranking-order (rw (take-padded 256 (ranked (counted counts))) (ranking (counted counts))),
+      ranking-order (rw (chosen-row k counts) (ranking (counted counts))),
       chosen-least k (counted counts) (chosen-width p y),
     )
 
@@ -270,27 +254,16 @@ chosen-characters {k} {counts} {c} {b} p y = rw (chosen-table p y) (chosen-mem k
 -- it is packed if its symbols have room, and else refused 4. A text that is counted in the counts is such a text
 pub digits-packed : {k : ℕ} {counts text buf after : List ℕ} {c : Choice} {a : Packed} → Choosing k counts c → c .answer ≡ Yes → AlwaysKnown counts text
     → Packing (c .table) text buf a after → a .answer ≡ Yes ↔ length (symbolsFor (c .table) text) ≤ room k (length buf)
-unfolding chosenTable chosen
 digits-packed {k} {counts} {text} {buf} {after} {c} {a} p y known w =
-    let t = chosenTable k (counted counts) in
-    let same = chosen-table p y in
-    let q : Packing t text buf a after = subst (λ (x : Table). Packing x text buf a after) same w in (
-      λ z. rw same (accepted-packs t text buf (says-as (q .says) z) .fits),
-      λ fits.
-          done-one (a .answer) Yes
-          (q .says
-          ∙ packs-accepted t text buf (record {
-            good = chosen-table-good k (counted counts) (chosen-width p y);
-            known = always-known k counts (lent-long p y) known;
-            fits = rw same at fits;
-          })),
-    )
+    let says = w .says ∙ ap (λ (t : Table). packSays t text buf) (chosen-table p y) in
+    let q = known-packs k counts (chosen-width p y) (always-known k counts (lent-long p y) known) buf in
+    rw (chosen-table p y) (λ z. q .0 (says-as says z), λ fits. done-one (a .answer) Yes (says ∙ q .1 fits))
 
 pub digits-pack : {k : ℕ} {counts text buf after : List ℕ} {c : Choice} {a : Packed} {n v : ℕ} → Choosing k counts c → c .answer ≡ Yes → AlwaysKnown counts text
     → Packing (c .table) text buf a after → a .answer ≡ Refused n v → n ≡ 4
-digits-pack {k} {counts} {text} {buf} {after} {c} {a} {n} {v} p y known w e =
-    always-4 k counts (chosen-width p y) (always-known k counts (lent-long p y) known) buf
-    (subst (λ (t : Table). Refuses (packRows t text buf) n v) (chosen-table p y) (order-pack w e))
+digits-pack {k} {counts} {text} {buf} p y known w e =
+    known-4 k counts (chosen-width p y) (always-known k counts (lent-long p y) known) buf
+    (says-as (w .says ∙ ap (λ (t : Table). packSays t text buf) (chosen-table p y)) e)
 
 pub digits-counted : (counts : List ℕ) {text : List ℕ} → Below 256 text → CountedIn counts text → AlwaysKnown counts text
 digits-counted = in-known
@@ -340,7 +313,7 @@ chosen-takes {k} {text} {counts} {counts2} {buf} {after} {c} {a} small n p y w z
     let all : c .total ≡ total (chosen k (counted (countsOf text))) (counted (countsOf text))
     = chosen-total p y ∙ ap (λ (x : List ℕ). total (chosen k (counted x)) (counted x)) is in
     let parts : length (symbolsFor (c .table) text) + length (symbolsFor (c .table) (unheld text)) ≡ c .total
-    = rw table (sym (counted-total k (chosen-width p y) text small)) ∙ sym all in
+    = rw table (sym (counted-total k text small)) ∙ sym all in
     omega (arith, packed-h w z, parts)
 
 -- ---- Unpacking a packed text gives that text

@@ -28,10 +28,6 @@ module _ (n v : ℕ) where
   refuses-next r rows e (inl p) = absurd (subst T (sym (p .0) ∙ e) tt)
   refuses-next r rows e (inr p) = p .1
 
-  pub refuses-last : (r : Row) → Refuses (r ∷ []) n v → n ≡ r .number
-  refuses-last r (inl p) = sym (p .1)
-  refuses-last r (inr p) = absurd (p .1)
-
   pub refuses-past : (a b : List Row) → has n (map (λ (r : Row). r .number) a) ≡ false → Refuses (a ++ b) n v → Refuses b n v
   unfolding has
   refuses-past [] b e p = p

@@ -6,7 +6,8 @@ use lib.Dec.{T}
 use lib.ListN.{length}
 use Rattle.ground.specs.Paper.Refusals.{refused}
 use Rattle.ground.specs.Paper.Rows.{tab, padded}
-use Rattle.ground.specs.Laws.Refusals.{Accepted}
+use Rattle.ground.specs.Laws.Answers.{says-as}
+use Rattle.ground.specs.Laws.Refusals.{Accepted, accepted-leaves}
 use Rattle.ground.specs.Laws.Rows.{tab-at}
 use Rattle.ground.specs.declared.answers.Done.the-variants.{Yes, Refused}
 use Rattle.stopper.specs.Paper.Table.{goodWidth}
@@ -14,7 +15,8 @@ use Rattle.stopper.specs.declared.code.Code.{Code}
 use Rattle.choosing.specs.Paper.Choosing.{countsOf, counted, total, chosen, chosenTable}
 use Rattle.choosing.specs.Paper.Operations.{countSays, Counting, chooseSays, Choosing}
 use Rattle.choosing.specs.Helpers.Answers.{countIn, rankingOf, bestOf, refusedChoice}
-use Rattle.choosing.specs.Laws.Choosing.{ranked-ext, total-ext, chosen-ext}
+use Rattle.choosing.specs.Laws.Choosing.{ranked-ext, chosen-ext, fewest-ext}
+use Rattle.choosing.specs.Laws.Accepting.{chooses-is}
 use Rattle.choosing.specs.declared.choose.Choice.{Choice}
 use Rattle.choosing.specs.declared.ranking.Ranking.{Ranking}
 use Rattle.choosing.specs.declared.ranking.Best.{Best}
@@ -41,9 +43,9 @@ module _ (counts : List ℕ) {raised : List ℕ} (e : raised ≡ tab (counted co
 
   pub raised-best : (k : ℕ) → T (goodWidth k) → bestOf k (countIn raised) ≡ bestOf k (counted counts)
   raised-best k g =
-      let code : chosen k (countIn raised) ≡ chosen k (counted counts) = chosen-ext (countIn raised) (counted counts) same k g in
-      ap₂ {C = Best} (λ (c : Code) (n : ℕ). record { code = c; total = n }) code
-      (total-ext (countIn raised) (counted counts) same (chosen k (countIn raised)) ∙ ap (λ (c : Code). total c (counted counts)) code)
+      ap₂ {C = Best} (λ (c : Code) (n : ℕ). record { code = c; total = n })
+      (chosen-ext (countIn raised) (counted counts) same k g)
+      (fewest-ext (countIn raised) (counted counts) same k g)
 
 module _ {k : ℕ} {counts : List ℕ} where
   pub choose-refused : {r : Choice} (n v : ℕ) → chooseSays k counts ≡ refused n v → r ≡ refusedChoice k n v → Choosing k counts r
@@ -54,3 +56,17 @@ module _ {k : ℕ} {counts : List ℕ} where
       → Choosing k counts (record { answer = Yes; table = record { code = best .code; sigma = ranking .sigma; places = ranking .places }; total = best .total })
   unfolding chosenTable
   choose-yes e p q = rw (p, q) (record { says = sym e; table = rw e; total = rw e })
+
+-- what an accepted call was lent, and what it answers
+module _ {k : ℕ} {counts : List ℕ} {c : Choice} (p : Choosing k counts c) (y : c .answer ≡ Yes) where
+  pub chosen-width : T (goodWidth k)
+  chosen-width = chooses-is k counts .1 (says-as (p .says) y) .0
+
+  pub lent-long : length counts ≡ 256
+  lent-long = chooses-is k counts .1 (says-as (p .says) y) .1
+
+  pub chosen-table : c .table ≡ chosenTable k (counted counts)
+  chosen-table = p .table ∙ accepted-leaves (says-as (p .says) y) _ _
+
+  pub chosen-total : c .total ≡ total (chosen k (counted counts)) (counted counts)
+  chosen-total = p .total ∙ accepted-leaves (says-as (p .says) y) _ _

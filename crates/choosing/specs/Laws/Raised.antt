@@ -15,13 +15,12 @@ use Rattle.ground.specs.Laws.Tests.{cond-yes, by-test, by-value, true-yes, neit
 use Rattle.ground.specs.Laws.Rows.{tab-at, below-mem, take-padded}
 use Rattle.stopper.specs.Paper.Table.{has, repeats, goodWidth, characters, tableOf}
 use Rattle.stopper.specs.Laws.Characters.{has-mem, mem-has, _∈_}
-use Rattle.stopper.specs.declared.code.Code.{Code}
 use Rattle.stopper.specs.declared.table.Table.{Table}
 use Rattle.choosing.specs.Paper.Ranking.{ranked}
 use Rattle.choosing.specs.Paper.Choosing.{occurs, countsOf, twelve, atLeast, counted, total, chosen, chosenTable}
 use Rattle.choosing.specs.Laws.Counting.{occurs-append, occurs-pos}
 use Rattle.choosing.specs.Laws.Ranking.{ranking}
-use Rattle.choosing.specs.Laws.Choosing.{ranked-ext, total-ext, chosen-ext}
+use Rattle.choosing.specs.Laws.Choosing.{ranked-ext, chosen-ext, fewest-ext}
 
 -- ---- the twelve
 
@@ -193,8 +192,7 @@ module _ (k : ℕ) (counts : List ℕ) where
       → (chosenTable k (counted counts) ≡ chosenTable k (occurs twelve)) × (total (chosen k (counted counts)) (counted counts) ≡ total (chosen k (occurs twelve)) (occurs twelve))
   unfolding chosenTable
   all-zero w z =
-      let same : (b : ℕ) → b < 256 → counted counts b ≡ occurs twelve b = λ b h. counted-none counts b (z b h) ∙ sym (occurs-twelve b) in
-      let code : chosen k (counted counts) ≡ chosen k (occurs twelve) = chosen-ext (counted counts) (occurs twelve) same k w in (
-        ap₂ {C = Table} tableOf code (ranked-ext (counted counts) (occurs twelve) same),
-        total-ext (counted counts) (occurs twelve) same (chosen k (counted counts)) ∙ ap (λ (c : Code). total c (occurs twelve)) code,
+      let same : (b : ℕ) → b < 256 → counted counts b ≡ occurs twelve b = λ b h. counted-none counts b (z b h) ∙ sym (occurs-twelve b) in (
+        ap₂ {C = Table} tableOf (chosen-ext (counted counts) (occurs twelve) same k w) (ranked-ext (counted counts) (occurs twelve) same),
+        fewest-ext (counted counts) (occurs twelve) same k w,
       )
