@@ -2,7 +2,7 @@
 use mathlib.Core.Path.{_≡_}
 use mathlib.Core.Bool.{cond}
 use mathlib.Core.List.{List, [], _∷_}
-use Prim.Native.Nat.{ℕ, zero, suc, _+_, _^_, _≤_, _<_}
+use Prim.Native.Nat.{ℕ, zero, suc, _+_, _/_, _%_, _^_, _≤_, _<_}
 use lib.Dec.{T, ltb}
 use lib.ListN.{drop}
 use Rattle.ground.specs.Paper.Rows.{tab}
@@ -47,6 +47,10 @@ pub record Passing (c : Code) (buf : List ℕ) (p count q left : ℕ) : Type 0 w
   pub enough : left ≤ stops (stoppers c) 0 (symbolsFrom c buf q)
   pub ends : endFrom c buf p count ≡ q + endOf (stoppers c) left 0 (symbolsFrom c buf q)
   pub counts : endFrom c buf p count < 2 ^ 64
+
+-- how many of the four symbols of byte b are below s, at 256 * (s - 1) + b, for s of 1, 2 and 3
+unfoldable pub stopsOfTwo : List ℕ
+stopsOfTwo = tab (λ i. stops (λ _. i / 256 + 1) 0 (symbolsOf 2 (i % 256 ∷ []))) 0 768
 
 -- how many codewords end in a byte, for each byte value
 unfoldable pub stopsByByte : Code → List ℕ

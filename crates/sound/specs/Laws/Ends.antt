@@ -1,7 +1,7 @@
 -- Where codewords end, by their stoppers alone: symbol by symbol, over codewords, and in a sound roll.
 use mathlib.Core.Path.{_≡_, refl, sym, ap, _∙_}
 use mathlib.Core.List.{List, [], _∷_, _++_, append-assoc}
-use Prim.Native.Nat.{ℕ, zero, suc, _+_, _≤_, _<_, zero-le, suc-le-suc}
+use Prim.Native.Nat.{ℕ, zero, suc, _+_, _≤_, _<_, zero-le}
 use native.Mathlib.Nat.{zero-add, le-of-suc-le-suc}
 use native.Mathlib.Decide.{decLt}
 use native.Mathlib.Numerals.{add-one}
@@ -83,13 +83,15 @@ module _ (m : ℕ) (s : ℕ → ℕ) (rest : List ℕ) where
 -- ---- the codewords of ranks
 
 module _ (m : ℕ) (s : ℕ → ℕ) (g : Good m s) (rest : List ℕ) where
-  pub write-stops : (rs : List ℕ) (n : ℕ) → n ≤ length rs → n ≤ stops s 0 (write m s rs ++ rest)
+  -- as many end as there are ranks
+  pub write-count : (rs : List ℕ) → stops s 0 (write m s rs ++ rest) ≡ length rs + stops s 0 rest
   unfolding write
-  write-stops rs zero h = zero-le
-  write-stops [] (suc n) h = absurd (omega arith)
-  write-stops (r ∷ rs) (suc n) h =
-      rw (append-assoc (codeword m s r) (write m s rs) rest, word-stops m s (write m s rs ++ rest) (codeword-word m s g r))
-      (suc-le-suc (write-stops rs n (le-of-suc-le-suc h)))
+  write-count [] = sym (zero-add (stops s 0 rest))
+  write-count (r ∷ rs) =
+      rw (append-assoc (codeword m s r) (write m s rs) rest, word-stops m s (write m s rs ++ rest) (codeword-word m s g r)) (omega (arith, write-count rs))
+
+  pub write-stops : (rs : List ℕ) (n : ℕ) → n ≤ length rs → n ≤ stops s 0 (write m s rs ++ rest)
+  write-stops rs n h = omega (arith, write-count rs)
 
   pub write-end : (rs : List ℕ) (n : ℕ) → n ≤ length rs → endOf s n 0 (write m s rs ++ rest) ≡ length (write m s (take n rs))
   unfolding write endOf

@@ -1,32 +1,43 @@
 -- The laws of codewords that are passed by their stoppers alone.
-use mathlib.Core.Path.{_≡_, refl, sym, ap, subst, _∙_}
+use mathlib.Core.Path.{_≡_, refl, sym, ap, subst, fun-ext, _∙_}
+use mathlib.Core.Bool.{cond}
 use mathlib.Core.List.{List, [], _∷_, _++_}
-use Prim.Native.Nat.{ℕ, zero, suc, _+_, _-_, _*_, _≤_, _<_, zero-le}
-use native.Mathlib.Nat.{zero-add, add-zero, suc-add, sub-zero, suc-sub-suc, one-mul, add-mul}
-use native.Mathlib.Numerals.{add-one}
+use Prim.Native.Nat.{ℕ, zero, suc, _+_, _-_, _*_, _/_, _%_, _≤_, _<_, zero-le}
+use native.Mathlib.Nat.{zero-add, add-zero, suc-add, sub-zero, suc-sub-suc, one-mul, add-mul, div-one}
+use native.Mathlib.Numerals.{add-one, one-add}
 use native.Mathlib.Decide.{decLt}
 use native.Mathlib.Omega.{arith}
-use lib.ListN.{length, drop, getD}
+use borrow.Author.Tests.{lt-ltb, le-ltb}
+use lib.Dec.{ltb}
+use lib.ListN.{length, drop, getD, set}
 use lib.Seq.{drop-cons}
-use Rattle.ground.specs.Laws.Rows.{length-tab, tab-at}
+use Rattle.ground.specs.Paper.Rows.{tab, zeros}
+use Rattle.ground.specs.Laws.Rows.{length-tab, tab-at, tab-ext, tab-set, tab-zeros}
 use Rattle.stopper.specs.Paper.Table.{stoppers}
 use Rattle.stopper.specs.Laws.Table.{one-place, code-width}
 use Rattle.stopper.specs.declared.code.Code.{Code}
-use Rattle.symbols.specs.Paper.Symbols.{per, symbolsOf}
+use Rattle.symbols.specs.Paper.Symbols.{per, shift, symbolAt, symbolsOf}
 use Rattle.symbols.specs.Helpers.Widths.{Width}
 use Rattle.symbols.specs.Laws.Rows.{symbols-length, symbols-append, symbols-drop, starts-within}
-use Rattle.sound.specs.Helpers.Ends.{stops, endOf, Ending, Passing, endFrom, stopsByByte}
+use Rattle.sound.specs.Helpers.Ends.{stops, endOf, Ending, Passing, endFrom, stopsOfTwo, stopsByByte}
 use Rattle.sound.specs.Laws.Ends.{stops-stop, stops-more, end-stop, end-more, stops-inside}
+
+-- with one stopper count for all places the place of the next symbol does not matter
+even-place : (s i : ℕ) (ys : List ℕ) → stops (λ _. s) i ys ≡ stops (λ _. s) 0 ys
+unfolding stops
+even-place s i [] = refl
+even-place s i (y ∷ ys) = rw (even-place s (suc i) ys, even-place s 1 ys)
 
 module _ (c : Code) where
   abbrev st : ℕ → ℕ
   st = stoppers c
 
-  -- with one stopper count for all places the place of the next symbol does not matter
+  -- a code has one
+  pub stops-even : (i : ℕ) (ys : List ℕ) → stops (λ _. st 0) i ys ≡ stops st i ys
+  stops-even i ys = ap (λ (f : ℕ → ℕ). stops f i ys) (sym (fun-ext (one-place c)))
+
   pub stops-place : (i : ℕ) (ys : List ℕ) → stops st i ys ≡ stops st 0 ys
-  unfolding stops
-  stops-place i [] = refl
-  stops-place i (y ∷ ys) = rw (one-place c i, stops-place (suc i) ys, stops-place 1 ys)
+  stops-place i ys = sym (stops-even i ys) ∙ even-place (st 0) i ys ∙ stops-even 0 ys
 
   pub end-place : (n i : ℕ) (ys : List ℕ) → endOf st n i ys ≡ endOf st n 0 ys
   unfolding endOf
@@ -105,8 +116,98 @@ module _ (c : Code) where
   unfolding stopsByByte
   stops-at b h = tab-at _ 256 b h
 
+  pub stops-table : tab (λ b. stops (λ _. st 0) 0 (symbolsOf (c .k) (b ∷ []))) 0 256 ≡ stopsByByte c
+  unfolding stopsByByte
+  stops-table = ap (λ (f : ℕ → ℕ). tab f 0 256) (fun-ext (λ b. stops-even 0 (symbolsOf (c .k) (b ∷ []))))
+
 pub byte-length : (k b : ℕ) → length (symbolsOf k (b ∷ [])) ≡ per k
 byte-length k b = symbols-length k (b ∷ []) ∙ one-mul (per k)
+
+-- ---- the symbols of a byte that are below s, by one test of the byte for each
+
+two-row : (b : ℕ) → symbolsOf 2 (b ∷ []) ≡ b / 64 % 4 ∷ b / 16 % 4 ∷ b / 4 % 4 ∷ b % 4 ∷ []
+unfolding symbolsOf symbolAt tab per shift
+two-row b = ap (λ (n : ℕ). b / 64 % 4 ∷ b / 16 % 4 ∷ b / 4 % 4 ∷ n % 4 ∷ []) (div-one b)
+
+four-row : (b : ℕ) → symbolsOf 4 (b ∷ []) ≡ b / 16 % 16 ∷ b % 16 ∷ []
+unfolding symbolsOf symbolAt tab per shift
+four-row b = ap (λ (n : ℕ). b / 16 % 16 ∷ n % 16 ∷ []) (div-one b)
+
+-- a symbol's part of the sum
+one-more : (s y : ℕ) (ys : List ℕ) → stops (λ _. s) 0 (y ∷ ys) ≡ cond (ltb y s) 1 0 + stops (λ _. s) 0 ys
+unfolding stops
+one-more s y ys =
+    elim (decLt y s) [
+      | yes h ↦ rw (lt-ltb y s h) (rw one-add)
+      | no h ↦ rw (le-ltb y s (omega arith)) (even-place s 1 ys ∙ sym (zero-add (stops (λ _. s) 0 ys)))
+    ]
+
+-- tests that agree
+same-test : (a b x y : ℕ) → (a < b → x < y) → (b ≤ a → y ≤ x) → _≡_ {A = ℕ} (cond (ltb a b) 1 0) (cond (ltb x y) 1 0)
+same-test a b x y f g =
+    elim (decLt a b) [
+      | yes h ↦ rw (lt-ltb a b h, lt-ltb x y (f h))
+      | no h ↦ rw (le-ltb a b (omega arith), le-ltb x y (g (omega arith)))
+    ]
+
+module _ (s b : ℕ) (h : b < 256) where
+  pub stops-two : cond (ltb b (64 * s)) 1 0 + cond (ltb (b % 64) (16 * s)) 1 0 + cond (ltb (b % 16) (4 * s)) 1 0 + cond (ltb (b % 4) s) 1 0
+      ≡ stops (λ _. s) 0 (symbolsOf 2 (b ∷ []))
+  unfolding stops
+  stops-two =
+      rw (two-row b)
+      (omega (
+        arith,
+        same-test (b / 64 % 4) s b (64 * s) (λ l. omega arith) (λ l. omega arith),
+        same-test (b / 16 % 4) s (b % 64) (16 * s) (λ l. omega arith) (λ l. omega arith),
+        same-test (b / 4 % 4) s (b % 16) (4 * s) (λ l. omega arith) (λ l. omega arith),
+        one-more s (b / 64 % 4) (b / 16 % 4 ∷ b / 4 % 4 ∷ b % 4 ∷ []),
+        one-more s (b / 16 % 4) (b / 4 % 4 ∷ b % 4 ∷ []),
+        one-more s (b / 4 % 4) (b % 4 ∷ []),
+        one-more s (b % 4) [],
+      ))
+
+  pub stops-four : cond (ltb b (16 * s)) 1 0 + cond (ltb (b % 16) s) 1 0 ≡ stops (λ _. s) 0 (symbolsOf 4 (b ∷ []))
+  unfolding stops
+  stops-four =
+      rw (four-row b)
+      (omega (
+        arith,
+        same-test (b / 16 % 16) s b (16 * s) (λ l. omega arith) (λ l. omega arith),
+        one-more s (b / 16 % 16) (b % 16 ∷ []),
+        one-more s (b % 16) [],
+      ))
+
+  -- what the table has of it
+  pub listed-at : 0 < s → s < 4 → getD stopsOfTwo (256 * (s - 1) + b) 0 ≡ stops (λ _. s) 0 (symbolsOf 2 (b ∷ []))
+  unfolding stopsOfTwo
+  listed-at l m =
+      let e : (256 * (s - 1) + b) / 256 + 1 ≡ s = omega arith in
+      let f : (256 * (s - 1) + b) % 256 ≡ b = omega arith in
+      tab-at _ 768 (256 * (s - 1) + b) (omega arith) ∙ rw (e, f)
+
+-- ---- a row of n numbers filled from its front
+
+abbrev pub filled : (ℕ → ℕ) → ℕ → ℕ → ℕ
+filled f b j = cond (ltb j b) (f j) 0
+
+module _ (f : ℕ → ℕ) (n : ℕ) where
+  pub filled-none : zeros n ≡ tab (filled f 0) 0 n
+  filled-none = tab-zeros (filled f 0) n (λ j. rw (le-ltb j 0 (omega arith)))
+
+  pub filled-more : (b v : ℕ) → b < n → v ≡ f b → set (tab (filled f b) 0 n) b v ≡ tab (filled f (b + 1)) 0 n
+  filled-more b v h e =
+      tab-set (filled f b) (filled f (b + 1)) n b v h
+      (rw (lt-ltb b (b + 1) (omega arith)) (sym e))
+      (λ j o. elim (decLt j b) [
+        | yes l ↦ rw (lt-ltb j b l, lt-ltb j (b + 1) (omega arith))
+        | no l ↦ rw (le-ltb j b (omega arith), le-ltb j (b + 1) (omega arith))
+      ])
+
+  pub filled-all : (b : ℕ) → n ≤ b → tab (filled f b) 0 n ≡ tab f 0 n
+  filled-all b h =
+      tab-ext f n (tab (filled f b) 0 n) (length-tab _ 0 n)
+      (λ i l. tab-at (filled f b) n i l ∙ rw (lt-ltb i b (omega arith)))
 
 -- ---- a buffer's codewords passed, from symbol p on: so many of them are left from symbol q on
 
