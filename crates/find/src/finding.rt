@@ -17,7 +17,7 @@ ghost use Rattle.sound.specs.Paper.Roll.{textOf, Sound};
 ghost use Rattle.find.specs.Helpers.Finding.{patternRow, wordHits};
 
 // The symbols of a pattern, one a byte, from the front of symbols; how many, or 0 if a character is not in the table.
-fn spell_pattern(
+pub fn spell_pattern(
     code: Code,
     sigma: u16,
     places: [u8; 256],
@@ -44,7 +44,7 @@ fn spell_pattern(
 }
 
 // From codeword to codeword: the total of those at whose start the symbols stand; the first of them are listed as far as the slice goes.
-fn list_hits(roll: Roll, buf: &[u8], symbols: &[u8], slice: &mut [u32]) -> u32
+pub fn list_hits(roll: Roll, buf: &[u8], symbols: &[u8], slice: &mut [u32]) -> u32
     requires { ⌜ Sound roll (now buf) ⌝ }
     ensures total { λ r. ⌜ r ≡ length (wordHits roll (now (buf .entry)) (now (symbols .entry))) ⌝ }
     ensures list { λ _. ⌜ now (slice .exit) ≡ listed (wordHits roll (now (buf .entry)) (now (symbols .entry))) (now (slice .entry)) ⌝ }

@@ -1,5 +1,5 @@
 -- The pattern's symbols; and that searching by symbols finds the hits.
-use mathlib.Core.Path.{_≡_, ap, _∙_}
+use mathlib.Core.Path.{_≡_, sym, ap, _∙_}
 use mathlib.Core.Logic.{_≢_}
 use mathlib.Core.List.{List, [], _∷_}
 use Prim.Native.Nat.{ℕ, _<_}
@@ -17,13 +17,16 @@ use Rattle.texts.specs.Laws.Characters.{foreign-within, foreign-known}
 use Rattle.texts.specs.Laws.Hits.{foreign-hits}
 use Rattle.texts.specs.Laws.Patterns.{pattern-least}
 use Rattle.texts.specs.Laws.Finding.{passing-same, passing-all}
-use Rattle.sound.specs.Paper.Roll.{textRow, symbolsFor, textOf}
+use Rattle.reading.specs.Paper.Reading.{rowUpto, ranksRead}
+use Rattle.sound.specs.Paper.Roll.{textRow, symbolsFor, reading, textOf, Sound}
 use Rattle.sound.specs.Helpers.Held.{Held}
 use Rattle.sound.specs.Laws.Texts.{length-cons}
+use Rattle.sound.specs.Laws.Sound.{sound-code}
+use Rattle.sound.specs.Laws.Ends.{sound-end}
 use Rattle.sound.specs.Laws.Holding.{sound-known, sound-ranked}
 use Rattle.sound.specs.declared.records.Roll.{Roll}
-use Rattle.find.specs.Helpers.Finding.{patternRow, wordHits}
-use Rattle.find.specs.Laws.Hits.{hit-rank}
+use Rattle.find.specs.Helpers.Finding.{patternRow, standsAt, standsBehind, wordHits}
+use Rattle.find.specs.Laws.Hits.{stands-start, hit-rank}
 
 -- ---- the pattern's symbols
 
@@ -55,6 +58,15 @@ some-known c l p n =
     let h : firstForeign l p < length p → ⊥ = λ h. n (ap length (pattern-foreign c l p h)) in
     omega (arith, foreign-within l p, h)
 
+-- where the first i codewords end codeword i starts
+pub words-behind : {r : Roll} {buf : List ℕ} → Sound r buf → (symbols : List ℕ)
+    → passing (standsBehind (r .table .code) buf (r .h) symbols) (r .n) ≡ wordHits r buf symbols
+unfolding wordHits
+words-behind {r} {buf} s symbols =
+    passing-same (r .n)
+    (λ i h. ap (λ (p : ℕ). stands symbols (drop p (rowUpto (r .table .code) (r .h) buf))) (sound-end s i (omega arith)) ∙ sym (stands-start s symbols i))
+    ∙ ap (passing (standsAt (r .table .code) (ranksRead (reading r buf)) symbols)) (sym (s .count))
+
 module _ {r : Roll} {buf : List ℕ} (held : Held r buf) (p : List ℕ) where
   pub word-hits : firstForeign (characters (r .table)) p ≡ length p → wordHits r buf (symbolsFor (r .table) p) ≡ hits p (textOf r buf)
   unfolding wordHits
@@ -67,3 +79,15 @@ module _ {r : Roll} {buf : List ℕ} (held : Held r buf) (p : List ℕ) where
 
   pub no-hits : firstForeign (characters (r .table)) p < length p → hits p (textOf r buf) ≡ []
   no-hits h = foreign-hits (characters (r .table)) p h (sound-known held)
+
+  -- by the pattern's symbols: none of them, or the codewords at whose start they stand
+  abbrev symbols : List ℕ
+  symbols = patternRow (r .table .code) (characters (r .table)) p
+
+  pub row-none : T (goodPattern p) → length symbols ≡ 0 → hits p (textOf r buf) ≡ []
+  row-none g e = no-hits (none-foreign (r .table .code) (sound-code (held .sound)) (characters (r .table)) p g e)
+
+  pub row-hits : length symbols ≢ 0 → wordHits r buf symbols ≡ hits p (textOf r buf)
+  row-hits n =
+      let k = some-known (r .table .code) (characters (r .table)) p n in
+      ap (wordHits r buf) (pattern-known (r .table .code) (characters (r .table)) p k) ∙ word-hits k

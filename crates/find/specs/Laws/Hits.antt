@@ -121,7 +121,8 @@ module _ (m : ℕ) (s : ℕ → ℕ) (g : Good m s) (stop : ℕ) (even : (i : �
             (suc i, omega arith, omega (arith, d, e, length-append w (write m s (take i rs))))
       ]
 
-  starts-after : (rs : List ℕ) (i : ℕ) → i < length rs → AfterStopper stop (write m s rs) (length (write m s (take i rs)))
+  -- also behind the last codeword
+  pub starts-after : (rs : List ℕ) (i : ℕ) → i ≤ length rs → AfterStopper stop (write m s rs) (length (write m s (take i rs)))
   unfolding write
   starts-after rs zero h = tt
   starts-after [] (suc i) h = absurd (omega arith)

@@ -33,12 +33,12 @@ number-digit m f h t zero = rw (add-zero, pow-zero, div-one) (digits-mod (number
 number-digit m f h t (suc d) =
     rw (add-suc, pow-suc, mul-comm (m ^ d) m, ← div-div-eq-div-mul, digits-div (number m f (suc (t + d))) (h (suc (t + d)))) (number-digit m f h t d)
 
-number-lt : (m : ℕ) (f : ℕ → ℕ) → ((j : ℕ) → f j < m) → (n : ℕ) → number m f n < m ^ n
+pub number-lt : (m : ℕ) (f : ℕ → ℕ) → ((j : ℕ) → f j < m) → (n : ℕ) → number m f n < m ^ n
 unfolding number
 number-lt m f h zero = rw pow-zero (omega arith)
 number-lt m f h (suc n) = rw pow-suc (digits-lt (number-lt m f h n) (h n))
 
-number-ext : (m : ℕ) (f g : ℕ → ℕ) (n : ℕ) → ((t : ℕ) → t < n → f t ≡ g t) → number m f n ≡ number m g n
+pub number-ext : (m : ℕ) (f g : ℕ → ℕ) (n : ℕ) → ((t : ℕ) → t < n → f t ≡ g t) → number m f n ≡ number m g n
 unfolding number
 number-ext m f g zero e = refl
 number-ext m f g (suc n) e = ap₂ (λ (a b : ℕ). a * m + b) (number-ext m f g n (λ t h. e t (omega arith))) (e n (le-refl (suc n)))

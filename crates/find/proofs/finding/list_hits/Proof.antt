@@ -14,23 +14,19 @@ use Rattle.stopper.specs.declared.code.Code.{Code}
 use Rattle.symbols.specs.Paper.Symbols.{symbolsOf}
 use Rattle.texts.specs.Paper.Hits.{stands, listed}
 use Rattle.texts.specs.Helpers.Passing.{grown, passing}
-use Rattle.texts.specs.Laws.Finding.{stands-end, stands-past, stands-same, stands-differ, passing-more, passing-same, listed-none, listed-more, listed-full}
-use Rattle.reading.specs.Paper.Reading.{rowUpto, ranksRead}
-use Rattle.sound.specs.Paper.Roll.{reading}
+use Rattle.texts.specs.Laws.Finding.{stands-end, stands-past, stands-same, stands-differ, passing-more, listed-none, listed-more, listed-full}
+use Rattle.reading.specs.Paper.Reading.{rowUpto}
 use Rattle.sound.specs.Helpers.Ends.{endOf, endFrom}
 use Rattle.sound.specs.Laws.Sound.{sound-width, sound-reads, sound-start, sound-length}
 use Rattle.sound.specs.Laws.Ends.{sound-end, sound-one, sound-next}
-use Rattle.find.specs.Helpers.Finding.{standsAt, wordHits}
-use Rattle.find.specs.Laws.Hits.{stands-start}
+use Rattle.find.specs.Helpers.Finding.{standsBehind}
+use Rattle.find.specs.Laws.Finding.{words-behind}
 use Rattle.find.proofs.finding.list_hits.Statement.{statement}
 use Rattle.find.proofs.finding.list_hits.Tie as tie
 
--- whether the symbols stand where the first i codewords end, and the numbers below i for which they do
-abbrev behind : Code → List ℕ → ℕ → List ℕ → ℕ → Bool
-behind code buf h symbols i = stands symbols (drop (endFrom code buf 0 i) (rowUpto code h buf))
-
+-- the numbers below i of codewords at whose start the symbols stand
 abbrev found : Code → List ℕ → ℕ → List ℕ → ℕ → List ℕ
-found code buf h symbols i = passing (behind code buf h symbols) i
+found code buf h symbols i = passing (standsBehind code buf h symbols) i
 
 abbrev Inv-loop2 : tie.InvT-loop2
 Inv-loop2 buf symbols slice code k n h total p i next j₀ j =
@@ -155,7 +151,7 @@ loop2-again c =
 
 -- its answer, whichever break gave it
 same-is : (c : tie.Joined1 Inv-loop2 μ-loop2 Inv-loop μ-loop) → let l = turned (c .before) .before in let s = entered l in
-    c .if1 .same ≡ behind (s .args .roll .table .code) (s .args .buf .now) (s .args .roll .h) (s .args .symbols .now) (l .loop .i)
+    c .if1 .same ≡ standsBehind (s .args .roll .table .code) (s .args .buf .now) (s .args .roll .h) (s .args .symbols .now) (l .loop .i)
 same-is c =
     let q = c .before in
     let l = turned q .before in
@@ -180,7 +176,7 @@ loop-again c =
     let n = turned (c .before .before) in
     let l = n .before in
     let s = entered l in
-    let f = behind (s .args .roll .table .code) (s .args .buf .now) (s .args .roll .h) (s .args .symbols .now) in
+    let f = standsBehind (s .args .roll .table .code) (s .args .buf .now) (s .args .roll .h) (s .args .symbols .now) in
     let o = s .args .slice .now in
     let i = l .loop .i in
     let hs = passing f i in
@@ -204,23 +200,12 @@ loop-again c =
     (omega (arith, n .loop-test .taken), next, w .2 ∙ inv .2 ∙ ap length (sym e), w .1 ∙ inv .3 ∙ ap (λ (x : List ℕ). listed x o) (sym e), omega (arith, w .2, inv .4), ap length (w .1) ∙ inv .5))
     (c .if4 .came)
 
--- where the first i codewords end codeword i starts
-all-found : (s : tie.Start Inv-loop2 μ-loop2 Inv-loop μ-loop)
-    → found (s .args .roll .table .code) (s .args .buf .now) (s .args .roll .h) (s .args .symbols .now) (s .args .roll .n) ≡ wordHits (s .args .roll) (s .args .buf .now) (s .args .symbols .now)
-unfolding wordHits
-all-found s =
-    let roll = s .args .roll in
-    let buf = s .args .buf .now in
-    let sy = s .args .symbols .now in
-    passing-same (roll .n) (λ i h. ap (λ (p : ℕ). stands sy (drop p (row s))) (sound-end (s .pre) i (omega arith)) ∙ sym (stands-start (s .pre) sy i))
-    ∙ ap (passing (standsAt (roll .table .code) (ranksRead (reading roll buf)) sy)) (sym (s .pre .count))
-
 returns : tie.Need-returns Inv-loop2 μ-loop2 Inv-loop μ-loop
 returns c =
     let l = c .before in
     let s = entered l in
     let e : l .loop .i ≡ s .args .roll .n = omega (arith, l .loop .inv .0, c .loop-test .left) in
-    let all = ap (found (s .args .roll .table .code) (s .args .buf .now) (s .args .roll .h) (s .args .symbols .now)) e ∙ all-found s in
+    let all = ap (found (s .args .roll .table .code) (s .args .buf .now) (s .args .roll .h) (s .args .symbols .now)) e ∙ words-behind (s .pre) (s .args .symbols .now) in
     (l .loop .inv .2 ∙ ap length all, l .loop .inv .3 ∙ ap (λ (x : List ℕ). listed x (s .args .slice .now)) all)
 
 pub list-hits-spec : {M : Type 1} → statement M

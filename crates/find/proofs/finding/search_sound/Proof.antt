@@ -6,9 +6,7 @@ use Prim.Native.Nat.{ℕ, _≤_}
 use native.Mathlib.Omega.{arith}
 use borrow.Author.Needs.{needs}
 use lib.ListN.{length, take, length-take}
-use Rattle.stopper.specs.Paper.Table.{characters}
 use Rattle.stopper.specs.Laws.Table.{table-few}
-use Rattle.texts.specs.Paper.Characters.{firstForeign}
 use Rattle.texts.specs.Paper.Hits.{hits, listed, mostPattern}
 use Rattle.texts.specs.Laws.Patterns.{pattern-most}
 use Rattle.texts.specs.Laws.Finding.{listed-none}
@@ -16,7 +14,7 @@ use Rattle.sound.specs.Paper.Roll.{textOf}
 use Rattle.sound.specs.Helpers.Held.{Held}
 use Rattle.sound.specs.Laws.Sound.{sound-code}
 use Rattle.find.specs.Helpers.Finding.{wordHits}
-use Rattle.find.specs.Laws.Finding.{pattern-known, none-foreign, some-known, word-hits, no-hits}
+use Rattle.find.specs.Laws.Finding.{row-none, row-hits}
 use Rattle.find.proofs.finding.search_sound.Statement.{statement}
 use Rattle.find.proofs.finding.search_sound.Tie as tie
 
@@ -46,8 +44,7 @@ returns c =
     let p = c .before .before in
     let s = begun p in
     let a = s .args in
-    let e = no-hits (held s) (a .pattern .now)
-    (none-foreign (a .roll .table .code) (sound-code (s .pre .0)) (characters (a .roll .table)) (a .pattern .now) (s .pre .1) (sym (p .spell-pattern .ensures .0) ∙ c .if1 .taken)) in
+    let e = row-none (held s) (a .pattern .now) (s .pre .1) (sym (p .spell-pattern .ensures .0) ∙ c .if1 .taken) in
     (sym (ap length e), sym (ap (λ (found : List ℕ). listed found (a .slice .now)) e ∙ listed-none (a .slice .now)))
 
 array-share-prefix-symbols : tie.Need-array-share-prefix-symbols
@@ -61,11 +58,7 @@ hits-are e =
     let p = e .before .before in
     let s = begun p in
     let a = s .args in
-    let l = characters (a .roll .table) in
-    let k : firstForeign l (a .pattern .now) ≡ length (a .pattern .now)
-    = some-known (a .roll .table .code) l (a .pattern .now) (λ z. e .if1 .left (p .spell-pattern .ensures .0 ∙ z)) in
-    ap (wordHits (a .roll) (a .buf .now)) (p .spell-pattern .ensures .1 ∙ pattern-known (a .roll .table .code) l (a .pattern .now) k)
-    ∙ word-hits (held s) (a .pattern .now) k
+    ap (wordHits (a .roll) (a .buf .now)) (p .spell-pattern .ensures .1) ∙ row-hits (held s) (a .pattern .now) (λ z. e .if1 .left (p .spell-pattern .ensures .0 ∙ z))
 
 returns-2 : tie.Need-returns-2
 returns-2 c =

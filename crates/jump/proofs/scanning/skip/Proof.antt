@@ -1,0 +1,44 @@
+-- `jump::scanning::skip` meets its contract.
+use mathlib.Core.Path.{sym, ap, _∙_}
+use Prim.Native.Nat.{ℕ, _+_, _-_, _≤_}
+use native.Mathlib.Omega.{arith}
+use borrow.Author.Needs.{needs}
+use lib.ListN.{getD}
+use Rattle.jump.specs.Helpers.Windows.{Skipped, none, also}
+use Rattle.jump.proofs.scanning.skip.Statement.{statement}
+use Rattle.jump.proofs.scanning.skip.Tie as tie
+
+abbrev Inv-loop : tie.InvT-loop
+Inv-loop buf t full from wide back places f₀ f =
+    (from ≤ f) × (f ≤ full) × Skipped wide back places t buf from f
+
+abbrev μ-loop : tie.MeasureT-loop
+μ-loop buf t full from wide back places f₀ f = full + 1 - f
+
+loop-holds : tie.Need-loop-holds Inv-loop μ-loop
+loop-holds c = (omega arith, c .before .before .pre .7, none)
+
+loop-again : tie.Need-loop-again Inv-loop μ-loop
+loop-again c =
+    let l = c .before .before .before .before in
+    let s = l .before .before .before in
+    let e = ap (λ (n : ℕ). getD (s .args .t .now) n 0) (sym (c .before .before .key-at .ensures .0)) ∙ c .if1 .left in
+    (omega (arith, l .loop .inv .0), omega (arith, s .pre .1, c .before .before .before .loop-test .taken), also (l .loop .inv .2) e)
+
+pub skip-spec : {M : Type 1} → statement M
+skip-spec =
+    tie.close
+    (tie.spec
+    Inv-loop
+    μ-loop
+    loop-holds
+    (λ c. search needs)
+    (λ c. search needs)
+    (λ c. search needs)
+    (λ c κs. search needs)
+    (λ c. search needs)
+    (λ c. search needs)
+    (λ c. search needs)
+    (λ c. search needs)
+    loop-again
+    (λ c. search needs))

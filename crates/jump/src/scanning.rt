@@ -1,0 +1,212 @@
+// The windows of a roll, one after the other: those that the table passes over are jumped, in the others each alignment is tried.
+use crate::counting::Counted;
+use crate::counting::count_to;
+use crate::counting::number_of;
+use crate::windows::Window;
+use crate::windows::key_at;
+use stopper::code::Code;
+use stopper::code::stoppers_at;
+use symbols::bits::byte_of;
+use symbols::bits::per_byte;
+use symbols::symbol::get;
+ghost use mathlib.Core.Path.{_≡_};
+ghost use mathlib.Core.Logic.{_↔_};
+ghost use mathlib.Core.List.{List, [], _∷_, _++_};
+ghost use Prim.Native.Nat.{ℕ, _+_, _*_, _^_, _≤_, _<_};
+ghost use lib.Dec.{T};
+ghost use lib.ListN.{length};
+ghost use Rattle.stopper.specs.Paper.Table.{stoppers, goodCode};
+ghost use Rattle.symbols.specs.Paper.Symbols.{per, symbolsOf};
+ghost use Rattle.texts.specs.Paper.Hits.{listed};
+ghost use Rattle.sound.specs.Helpers.Ends.{stopsByByte};
+ghost use Rattle.find.specs.Laws.Hits.{AfterStopper};
+ghost use Rattle.jump.specs.Helpers.Counting.{numberAt, Counts};
+ghost use Rattle.jump.specs.Helpers.Hits.{standsAt, Hit, hitsBelow, Grows};
+ghost use Rattle.jump.specs.Helpers.Windows.{Fits, Safe, Lasts, firstOf, Skipped};
+
+// Whether symbols stand at symbol a, all of them among the first h.
+fn same(code: Code, buf: &[u8], h: usize, symbols: &[u8], a: usize) -> bool
+    requires { ⌜ T (goodCode code) × (h ≤ length (symbolsOf (code .k) (now buf))) × (a + length (now symbols) ≤ h) ⌝ }
+    ensures { λ r. ⌜ r ≡ standsAt code h (now (buf .entry)) (now (symbols .entry)) a ⌝ }
+{
+    let k = code.k;
+    let mut j = 0;
+    while j < symbols.len() {
+        if get(k, buf, a + j) != symbols[j] {
+            return false;
+        }
+        j += 1;
+    }
+    true
+}
+
+// Whether symbol a is the first or stands after a stopper.
+fn after_stopper(code: Code, buf: &[u8], a: usize) -> bool
+    requires { ⌜ T (goodCode code) × (a ≤ length (symbolsOf (code .k) (now buf))) ⌝ }
+    ensures { λ r. ⌜ T r ↔ AfterStopper (stoppers code 0) (symbolsOf (code .k) (now (buf .entry))) a ⌝ }
+{
+    if a == 0 {
+        return true;
+    }
+    (get(code.k, buf, a - 1) as u32) < stoppers_at(code, 0)
+}
+
+// Whether a hit starts at symbol a, for which `last` is the last byte of the window that ends with byte e.
+fn is_hit(code: Code, buf: &[u8], h: usize, symbols: &[u8], a: usize) -> bool
+    requires { ⌜ T (goodCode code) × (h ≤ length (symbolsOf (code .k) (now buf))) × (a < h) × (h ≤ 2 ^ 24) ⌝ }
+    ensures { λ r. ⌜ T r ↔ Hit code h (now (buf .entry)) (now (symbols .entry)) a ⌝ }
+{
+    if h - a < symbols.len() {
+        return false;
+    }
+    if !after_stopper(code, buf, a) {
+        return false;
+    }
+    same(code, buf, h, symbols, a)
+}
+
+// Hits found, and how far codewords are counted.
+pub struct Found {
+    pub total: u32,
+    pub next: usize,
+    pub ended: u32,
+}
+
+// One more hit, at symbol a. Codewords are counted only where the hit is listed.
+fn note(code: Code, stops: &[u8], buf: &[u8], a: usize, found: Found, slice: &mut [u32]) -> Found
+    requires { ⌜ T (goodCode code) × (now stops ≡ stopsByByte code) × (a ≤ length (symbolsOf (code .k) (now buf))) × (a ≤ 2 ^ 24) × Counts code (now buf) a (found .next) (found .ended) × (found .total ≤ a) ⌝ }
+    ensures { λ r. ⌜ (r .total ≡ found .total + 1) × Counts code (now (buf .entry)) a (r .next) (r .ended) × ((hits : List ℕ) → found .total ≡ length hits → Grows hits (hits ++ (numberAt code (now (buf .entry)) a ∷ [])) (now (slice .entry)) (now (slice .exit))) ⌝ }
+{
+    let total = found.total;
+    let before = Counted {
+        next: found.next,
+        ended: found.ended,
+    };
+    if (total as usize) < slice.len() {
+        let counted = count_to(code, stops, buf, before, a);
+        slice[total as usize] = number_of(code, buf, counted, a);
+        Found {
+            total: total + 1,
+            next: counted.next,
+            ended: counted.ended,
+        }
+    } else {
+        Found {
+            total: total + 1,
+            next: before.next,
+            ended: before.ended,
+        }
+    }
+}
+
+// Whether a hit starts at symbol a of the window from byte f on. A window's last byte is asked first: it differs at most alignments.
+fn is_hit_in(
+    code: Code,
+    buf: &[u8],
+    h: usize,
+    symbols: &[u8],
+    v: Window,
+    last: &[u8],
+    f: usize,
+    a: usize,
+) -> bool
+    requires { ⌜ T (goodCode code) × (h ≤ length (symbolsOf (code .k) (now buf))) × (h ≤ 2 ^ 24) × Fits (code .k) (length (now symbols)) v × (1 < v .wide → Lasts (code .k) v (now symbols) (now last) (per (code .k))) × (length (now last) ≡ 4) × ((f + v .wide) * per (code .k) ≤ h) × (firstOf (code .k) (v .free) f ≤ a) × (a ≤ f * per (code .k) + v .free) ⌝ }
+    ensures { λ r. ⌜ T r ↔ Hit code h (now (buf .entry)) (now (symbols .entry)) a ⌝ }
+{
+    let wide = v.wide;
+    if 1 < wide {
+        if buf[f + wide - 1] != last[f * per_byte(code.k) + v.free - a] {
+            return false;
+        }
+    }
+    is_hit(code, buf, h, symbols, a)
+}
+
+// The hits that start in the window from byte f on.
+fn try_window(
+    code: Code,
+    stops: &[u8],
+    buf: &[u8],
+    h: usize,
+    symbols: &[u8],
+    v: Window,
+    last: &[u8],
+    f: usize,
+    before: Found,
+    slice: &mut [u32],
+) -> Found
+    requires { ⌜ T (goodCode code) × (now stops ≡ stopsByByte code) × (h ≤ length (symbolsOf (code .k) (now buf))) × (h ≤ 2 ^ 24) × Fits (code .k) (length (now symbols)) v × (1 < v .wide → Lasts (code .k) v (now symbols) (now last) (per (code .k))) × (length (now last) ≡ 4) × ((f + v .wide) * per (code .k) ≤ h) × Counts code (now buf) (firstOf (code .k) (v .free) f) (before .next) (before .ended) × (before .total ≡ length (hitsBelow code h (now buf) (now symbols) (firstOf (code .k) (v .free) f))) ⌝ }
+    ensures { λ r. ⌜ Counts code (now (buf .entry)) (firstOf (code .k) (v .free) (f + 1)) (r .next) (r .ended) × (r .total ≡ length (hitsBelow code h (now (buf .entry)) (now (symbols .entry)) (firstOf (code .k) (v .free) (f + 1)))) × Grows (hitsBelow code h (now (buf .entry)) (now (symbols .entry)) (firstOf (code .k) (v .free) f)) (hitsBelow code h (now (buf .entry)) (now (symbols .entry)) (firstOf (code .k) (v .free) (f + 1))) (now (slice .entry)) (now (slice .exit)) ⌝ }
+{
+    let per = per_byte(code.k);
+    let end = f * per + v.free + 1;
+    let mut a = 0;
+    if per < end {
+        a = end - per;
+    }
+    let mut found = before;
+    while a < end {
+        if is_hit_in(code, buf, h, symbols, v, last, f, a) {
+            found = note(code, stops, buf, a, found, slice);
+        }
+        a += 1;
+    }
+    found
+}
+
+// The first window from byte `from` on whose key stands in the pattern; or past the last window.
+fn skip(buf: &[u8], v: Window, t: &[u8], full: usize, from: usize) -> usize
+    requires { ⌜ (v .back ≤ 1) × (v .places + v .back ≡ v .wide) × (0 < v .places) × (v .wide ≤ 255) × (length (now t) ≡ 4096) × (full ≤ length (now buf)) × (full ≤ 2 ^ 24) × (from ≤ full) ⌝ }
+    ensures { λ r. ⌜ (from ≤ r) × (r ≤ full) × Skipped (v .wide) (v .back) (v .places) (now (t .entry)) (now (buf .entry)) from r ⌝ }
+{
+    let wide = v.wide;
+    let back = v.back;
+    let places = v.places;
+    let mut f = from;
+    while f + wide <= full {
+        if t[key_at(back, buf, f + wide - 1)] != 0 {
+            return f;
+        }
+        f += places;
+    }
+    f
+}
+
+// All windows: the total of all hits; the first of them are listed as far as the slice goes.
+pub fn scan(
+    code: Code,
+    stops: &[u8],
+    buf: &[u8],
+    h: usize,
+    symbols: &[u8],
+    v: Window,
+    t: &[u8],
+    last: &[u8],
+    slice: &mut [u32],
+) -> u32
+    requires { ⌜ T (goodCode code) × (now stops ≡ stopsByByte code) × (h ≤ length (symbolsOf (code .k) (now buf))) × (h ≤ 2 ^ 24) × Fits (code .k) (length (now symbols)) v × Safe (code .k) v (now symbols) (now t) × (1 < v .wide → Lasts (code .k) v (now symbols) (now last) (per (code .k))) × (length (now last) ≡ 4) ⌝ }
+    ensures total { λ r. ⌜ r ≡ length (hitsBelow code h (now (buf .entry)) (now (symbols .entry)) h) ⌝ }
+    ensures list { λ _. ⌜ now (slice .exit) ≡ listed (hitsBelow code h (now (buf .entry)) (now (symbols .entry)) h) (now (slice .entry)) ⌝ }
+{
+    let wide = v.wide;
+    let back = v.back;
+    let places = v.places;
+    let full = byte_of(code.k, h);
+    let mut found = Found {
+        total: 0,
+        next: 0,
+        ended: 0,
+    };
+    let mut f = skip(buf, v, t, full, 0);
+    while f + wide <= full {
+        let place = t[key_at(back, buf, f + wide - 1)] as usize;
+        if place < places {
+            f += places - place;
+        } else {
+            found = try_window(code, stops, buf, h, symbols, v, last, f, found, slice);
+            f += 1;
+        }
+        f = skip(buf, v, t, full, f);
+    }
+    found.total
+}
