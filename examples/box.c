@@ -129,7 +129,7 @@ int main(void)
     static uint32_t counts[256];
     struct monterculo_chosen chosen;
     struct monterculo_rolled rolled;
-    uint32_t hits[1];
+    uint32_t hits[1], jumping[1];
     uint64_t total;
     size_t start, end;
     FILE *file = tmpfile();
@@ -150,6 +150,10 @@ int main(void)
     total = expect(0, monterculo_search(roll, buf, sizeof buf, pan, sizeof pan - 1, hits, ROOM(hits)), "search");
     printf("'%s' stands %" PRIu64 " time(s)\n", (const char *)pan, total);
     if (total != 1)
+        return EXIT_FAILURE;
+    /* The search that jumps has the same answers; in a long roll it is the faster one. */
+    if (expect(0, monterculo_search_jumping(roll, buf, sizeof buf, pan, sizeof pan - 1, jumping, ROOM(jumping)),
+               "search by jumping") != total || jumping[0] != hits[0])
         return EXIT_FAILURE;
     /* The telephone number runs from behind the line's last blank to the line's end. */
     start = hits[0];

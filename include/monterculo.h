@@ -55,8 +55,8 @@ extern "C" {
 /* Of this header: the first number changes where the form of a struct or a function does, the second where one is added
  * or answers otherwise. */
 #define MONTERCULO_VERSION_MAJOR 1
-#define MONTERCULO_VERSION_MINOR 2
-#define MONTERCULO_VERSION "1.2"
+#define MONTERCULO_VERSION_MINOR 3
+#define MONTERCULO_VERSION "1.3"
 
 #define MONTERCULO_PLACES 256
 #define MONTERCULO_CODEWORD 86
@@ -265,6 +265,16 @@ struct monterculo_answer monterculo_read_one(struct monterculo_roll roll, const 
 struct monterculo_answer monterculo_search(struct monterculo_roll roll, const uint8_t *buf, size_t buf_len,
                                            const uint8_t *pattern, size_t pattern_len, uint32_t *hits,
                                            size_t hits_len);
+
+/* The same search by another way: on every input, refused ones too, it answers and writes what monterculo_search does.
+ * It jumps over most of the bytes. Take it for long rolls and patterns of four characters or more. Take the plain one
+ * where stack is scarce, as this one takes more of it. For a pattern of too few symbols to jump by (fewer than 4 with
+ * k = 2, one with k = 4) the plain one serves inside.
+ * Refused: check's 1, 5, 6, 7, 8, then 11 (0).
+ * Writes, and value: as monterculo_search. */
+struct monterculo_answer monterculo_search_jumping(struct monterculo_roll roll, const uint8_t *buf, size_t buf_len,
+                                                   const uint8_t *pattern, size_t pattern_len, uint32_t *hits,
+                                                   size_t hits_len);
 
 /* Replaces the characters start up to, and not including, end by a text of any length; the directory is kept right.
  * Refused: check's 1, 5, 6, 7, 8, then 9 (the first missing or wrong entry), 10 (0), 3 (place in the text put in), 4

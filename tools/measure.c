@@ -45,6 +45,7 @@ CALL(unpack, monterculo_unpack(roll, buf, sizeof buf, 0, length, out, sizeof out
 CALL(make_directory, monterculo_make_directory(roll, buf, sizeof buf, dir, ROOM(dir)))
 CALL(read_one, monterculo_read_one(roll, buf, sizeof buf, dir, ROOM(dir), length - 1))
 CALL(search, monterculo_search(roll, buf, sizeof buf, text + length - 64, 64, hits, ROOM(hits)))
+CALL(search_jumping, monterculo_search_jumping(roll, buf, sizeof buf, text + length - 64, 64, hits, ROOM(hits)))
 CALL(start, monterculo_start(roll, text + length - 64, 64).answer)
 CALL(feed, monterculo_feed(fresh, buf, MONTERCULO_BYTES(roll.h, 2), hits, ROOM(hits)).answer)
 CALL(finish, monterculo_finish(whole))
@@ -115,6 +116,7 @@ int main(void)
     MEASURE(make_directory);
     MEASURE(read_one);
     MEASURE(search);
+    MEASURE(search_jumping);
     MEASURE(start);
     MEASURE(feed);
     MEASURE(finish);

@@ -9,6 +9,7 @@ bounds of its numbers: these are the library's own choice, and stand in docs/PAP
 import pathlib
 
 LIMIT = 65536
+PART = 262144  # as crates/vectors reads them
 CRATES = pathlib.Path(__file__).resolve().parent.parent / "crates"
 
 
@@ -374,10 +375,20 @@ def finish(s):
 given, said = [], []
 
 
-def write(crate):
-    """The cases so far are this crate's."""
+def write(crate, most=1):
+    """The cases so far are this crate's, in at most so many parts: a case that would go over the end of a part begins the next one."""
     given.append("0")
-    (CRATES / crate / "stdin").write_text("\n".join(given) + "\n")
+    parts, case = [""], ""
+    for line in given:
+        case += line + "\n"
+        if not line.startswith("#"):
+            if most > 1 and len(parts[-1]) + len(case) > PART:
+                parts[-1] = parts[-1].ljust(PART - 1, "#").ljust(PART, "\n")
+                parts.append("")
+            parts[-1] += case
+            case = ""
+    assert len(parts) <= most
+    (CRATES / crate / "stdin").write_text("".join(parts))
     (CRATES / crate / "stdout").write_text("\n".join(said) + "\n")
     print(f"{crate}: {len(said)} cases, {(CRATES / crate / 'stdin').stat().st_size} bytes of input")
     given.clear()
@@ -506,11 +517,13 @@ def read_case(words, t, n, h, buf, entries, place, expect=...):
 
 
 def search_case(words, t, n, h, buf, pattern, hits, expect=...):
+    """Both searches: the one by jumps answers and leaves what the plain one does."""
     r, total, after = search(t, n, h, buf, pattern, hits)
     assert expect is ... or r == expect, (words, r, expect)
     note(words)
     given.append(f"6 {table_in(t)} {n} {h} {row_in(buf)} {row_in(pattern)} {numbers_in(hits)}")
-    said.append("search" + (answer(r) if r else f" {total}") + numbers_out(after))
+    outcome = (answer(r) if r else f" {total}") + numbers_out(after)
+    said.append("search" + outcome + "\njumping" + outcome)
 
 
 def edit_case(words, t, n, h, buf, entries, start, end, text, expect=...):
@@ -849,6 +862,166 @@ _, n, h, buf = pack(every, rare, [0xFF] * 1500)
 search_case("64 characters of 86 symbols each", every, n, h, buf, [255] * 64, [9] * 4, None)
 search_case("no roll inside a codeword: 252 stands in 255's symbols", every, n, h, buf, [252], [9] * 4, None)
 
+# the search by jumps: its windows have as many bytes as the pattern's symbols fill
+
+def symbols_for(t, w):
+    """How many symbols a pattern may have whose windows are so many bytes wide."""
+    per = 8 // t[0]
+    return range(w * per, (w + 1) * per)
+
+
+def of_symbols(t, many, turn):
+    """A text of so many symbols, of characters that differ."""
+    words, text = codewords(t[0], t[1])[:t[2]], []
+    while many:
+        fitting = [r for r, word in enumerate(words) if len(word) <= many]
+        rank = fitting[(7 * turn + 5 * len(text)) % len(fitting)]
+        text.append(t[3][rank])
+        many -= len(words[rank])
+    return text
+
+
+def symbols_of(t, text):
+    words = codewords(t[0], t[1])
+    lengths = {b: len(words[r]) for r, b in enumerate(t[3][:t[2]])}
+    return sum(lengths[b] for b in text)
+
+
+def aligned(t, parts):
+    """The parts, the first from the first symbol of a byte on and each from the next one on; between them stands the first character."""
+    text, per = [], 8 // t[0]
+    for i, part in enumerate(parts):
+        text += t[3][:1] * ((i - symbols_of(t, text)) % per) + part
+    return text
+
+
+def text_case(words, t, text, pattern, hits=None, expect=...):
+    """A text, packed, and how many hits it has; room for so many, or for all and one more, which stays."""
+    r, n, h, buf = pack(t, text, [0xA5] * -(-symbols_of(t, text) * t[0] // 8))
+    found = sum(text[i:i + len(pattern)] == pattern for i in range(len(text)))
+    assert r is None and expect in (..., found), (words, r, found, expect)
+    search_case(words, t, n, h, buf, pattern, [9] * (found + 1 if hits is None else hits), None)
+
+
+SMALL = list(range(97, 123))
+turn = 0
+for k, s in ((2, 1), (2, 2), (2, 3), (4, 1), (4, 3), (4, 15)):
+    t, per = table(k, s, SMALL), 8 // k
+    words, a = codewords(k, s)[:26], SMALL[0]
+    for w in (1, 2, 3):
+        for many in symbols_for(t, w):
+            name = f"width {k}, s {s}, {many} symbols: "
+            pattern = of_symbols(t, many, turn)
+            text_case(name + "from each symbol of a byte on, at the start and at the end", t, aligned(t, [pattern] * (per + 1)), pattern)
+            turn += 1
+        many = symbols_for(t, w)[-1 - turn % 2]
+        name = f"width {k}, s {s}, {many} symbols: "
+        # another character at the front, in the middle and at the end, of as many symbols where there is one
+        pattern = of_symbols(t, many, turn)
+        near = []
+        for i in (0, len(pattern) // 2, len(pattern) - 1):
+            others = [SMALL[r] for r, word in enumerate(words) if SMALL[r] != pattern[i] and len(word) == symbols_of(t, pattern[i:i + 1])] or SMALL[21:]
+            near.append(pattern[:i] + [others[turn % len(others)]] + pattern[i + 1:])
+        text_case(name + "near misses", t, aligned(t, near + [pattern]), pattern)
+        text_case(name + "near misses alone, and cut at the end", t, aligned(t, [near[2], near[0], pattern[1:], pattern[:-1]]), pattern, 2, 0)
+        # its symbols stand behind a continuer: no hit, wherever in a byte
+        pattern = [a] + of_symbols(t, many - 1, turn)
+        longer = SMALL[[word[1:] for word in words].index(words[0])]
+        inside = [longer] + pattern[1:]
+        text_case(name + "inside codewords, from each symbol of a byte on", t, aligned(t, [inside] * per), pattern, 2, 0)
+        text_case(name + "inside codewords and not", t, aligned(t, [inside, pattern, inside]), pattern)
+        turn += 1
+    name = f"width {k}, s {s}: "
+    # what stands behind h is no text: unused symbols, and bytes behind the last
+    for used in range(1, per):
+        pattern = of_symbols(t, 4 * per, turn) + [a] * (per - used)
+        text = pattern[:-(per - used)]
+        text = [SMALL[0]] * ((used - symbols_of(t, text)) % per) + text
+        text_case(name + f"its last symbols are unused ones, {used} used", t, text, pattern, 2, 0)
+    pattern = of_symbols(t, 5 * per, turn)
+    behind = pack(t, pattern, [0] * 9)[3][:5]
+    r, n, h, buf = pack(t, [a] * 6, [0] * (6 // per + (6 % per > 0)))
+    search_case(name + "bytes behind the last are free", t, n, h, buf + behind + behind, pattern, [9] * 2, None)
+    search_case(name + "the room of the buffer, and the pattern is longer", t, n, h, buf, pattern, [9] * 2, None)
+    for hits in (0, 1, 3, 5):
+        text_case(name + f"three hits, room for {hits}", t, aligned(t, [pattern] * 3), pattern, hits, 3)
+    text_case(name + "the pattern is the roll", t, pattern, pattern, 2, 1)
+    text_case(name + "and one character before it", t, SMALL[3:4] + pattern, pattern)
+    text_case(name + "and one behind it", t, pattern + SMALL[3:4], pattern)
+    # texts of few characters, and a part of each
+    seed = 16 * k + s
+    for many in (3, 8, 20):
+        some, text = [SMALL[i] for i in (0, 1 + seed % 4, 6 + seed % 19)], []
+        while len(text) < 30:
+            seed = seed * 1103515245 + 12345 & 0x7FFFFFFF
+            text.append(some[(seed >> 16) % 3])
+        at = (seed >> 8) % (31 - many)
+        text_case(name + f"three characters, a part of {many}", t, text, text[at:at + many], 5)
+        text_case(name + f"three characters, a part of {many} and another behind it", t, text, text[at:at + many - 1] + some[:1], 5)
+    if s != 3:
+        continue
+    # a character that the table has not
+    for i in (0, len(pattern) // 2, len(pattern) - 1):
+        text_case(name + f"place {i} of the pattern is not in the table", t, pattern, pattern[:i] + [200] + pattern[i + 1:], 2, 0)
+    text_case(name + "a character that stands past sigma alone", (k, s, 25, t[3]), SMALL[16:25], SMALL[17:26], 2, 0)
+    # refused: the slice stays
+    text = pattern + SMALL[-1:]
+    _, n, h, buf = pack(t, text, [0] * 12)
+    for refusal, roll in (
+        ((1, 0), ((3, s, 26, t[3]), n, h, buf)), ((1, 0), ((k, s, 26, SMALL[:25] + SMALL[:1] + t[3][26:]), n, h, buf)), ((5, 999), (t, n, 999, buf)),
+        ((6, h - len(words[-1])), (t, n, h - 1, buf)), ((7, n), (t, n + 1, h, buf)), ((8, 0), (t, per + 1, per + 1, packed(k, [0] * (per + 1) + [1]))),
+    ):
+        search_case(name + f"{refusal[0]} for a longer pattern", *roll, pattern, [9] * 2, refusal)
+    for many in (0, 65):
+        search_case(name + f"11 for {many} characters", t, n, h, buf, SMALL[4:5] * many, [9] * 2, (11, 0))
+    search_case(name + "7 before 11, 65 characters", t, n + 1, h, buf, SMALL[4:5] * 65, [9] * 2, (7, n))
+    # one character again and again, and patterns that overlap
+    for b in (SMALL[0], SMALL[5], SMALL[25]):
+        for many in (1, 2, 3, 7, 8, 64):
+            text_case(name + f"66 times {b}, for {many}", t, [b] * 66, [b] * many, 4, 67 - many)
+        text_case(name + f"63 times {b}, for 64", t, [b] * 63, [b] * 64, 4, 0)
+        text_case(name + f"66 times {b}, for another behind 7", t, [b] * 66, [b] * 7 + SMALL[1:2], 4, 0)
+        text_case(name + f"66 times {b}, for another before 7", t, [b] * 66, SMALL[1:2] + [b] * 7, 4, 0)
+    for pair in (b"ab", b"bz"):
+        rabbits = [pair[1:], pair[:1]]
+        while len(rabbits[-1]) < 34:
+            rabbits.append(rabbits[-1] + rabbits[-2])
+        for i in (3, 4, 5, 6):
+            text_case(name + f"overlapping, {pair.decode()}, {len(rabbits[i])} characters", t, list(rabbits[-1]), list(rabbits[i]), 4)
+
+# the longest codewords, from each symbol of a byte on: 64 of them, one alone, and one that stands inside another
+for k, s, most in ((2, 3, 86), (4, 15, 18)):
+    t, name = table(k, s, ALL), f"width {k}, s {s}: "
+    assert len(codewords(k, s)[255]) == most and s * (most - 1) <= 255
+    shorter = 255 - s
+    for before in range(8 // k):
+        text_case(name + f"64 characters of {most} symbols each, {before} before them", t, [0] * before + [255] * 66, [255] * 64, None, 3)
+        text = [0] * before + [255, shorter, 254, 255, 0, 255, shorter, 0]
+        for pattern, hits in (([255], 3), ([shorter], 2), ([254, 255], 1), ([255, 0, 255], 1)):
+            text_case(name + f"codewords of {most} symbols, {before} before them, for {len(pattern)} from {pattern[0]} on", t, text, pattern, None, hits)
+    text_case(name + "64 characters, the last of them differs", t, [255] * 65 + [254], [255] * 63 + [254], None, 1)
+    text_case(name + "64 characters, the last of them is not there", t, [255] * 65, [255] * 63 + [254], None, 0)
+    text_case(name + "64 characters, one between is not there", t, [255] * 65, [255] * 31 + [254] + [255] * 32, None, 0)
+    text_case(name + "the first of 64 characters stands inside a longer one", t, [255] * 65, [shorter] + [255] * 63, None, 0)
+    # 254 to 256 whole bytes
+    per = 8 // k
+    for w in (254, 255, 256):
+        for many in (symbols_for(t, w)[0], symbols_for(t, w)[-1]):
+            pattern = [255] * (many // most) + [s * (many % most - 1)]
+            assert symbols_of(t, pattern) == many
+            text_case(name + f"{many} symbols, a near miss and a hit", t, [0] * (w % per) + [254] + pattern[1:] + [0] + pattern, pattern, None, 1)
+
+# the longest rolls
+for k, s in ((2, 3), (4, 3)):
+    t, name = table(k, s, SMALL), f"width {k}: 65,536 symbols, "
+    for many in (1, 7, 30, 64):
+        text_case(name + f"for {many} times their character", t, [97] * LIMIT, [97] * many, 2, LIMIT + 1 - many)
+    pattern = list(b"bacabdabac")
+    long = [97] * (LIMIT - 2 * symbols_of(t, pattern) - 7)
+    text_case(name + "a hit at the start and one at the end", t, pattern + long + [98] * 7 + pattern, pattern, None, 2)
+    text_case(name + "one at the end alone", t, pattern[:-1] + [97] + long + [98] * 7 + pattern, pattern, None, 1)
+    text_case(name + "and none there", t, pattern + long + [98] * 7 + pattern[:-1] + [97], pattern, None, 1)
+
 # the edit
 edit_case("P10: 4..5 by dd", ABRA, 11, 13, BYTES, [0], 4, 5, b"dd", None)
 edit_case("P11: 4..7 dropped", ABRA, 11, 13, BYTES, [0], 4, 7, b"", None)
@@ -1082,7 +1255,7 @@ report_case("many rare characters: packing refuses", b"a\n" + bytes(range(256)) 
 assert report(b"a\n" + bytes(range(256)) * 64).startswith(b"refused 4 1")
 report_case("the room just passed by the last characters", b"a\n" + bytes(range(256)) * 48)
 
-write("vectors")
+write("vectors", 4)
 
 # a roll that comes in: one roll cut in every way into up to three pieces, empty ones among them; then byte by byte
 

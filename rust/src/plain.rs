@@ -325,9 +325,14 @@ pub fn search(roll: &Roll, buf: &[u8], pattern: &[u8], hits: &mut [u32]) -> Answ
     if pattern.is_empty() || pattern.len() > PATTERN {
         return refuse(11, 0);
     }
+    Ok(search_sound(roll, buf, pattern, hits))
+}
+
+/// The searching alone, after the check: the roll is sound, the pattern good.
+pub fn search_sound(roll: &Roll, buf: &[u8], pattern: &[u8], hits: &mut [u32]) -> u32 {
     match roll.table.k {
-        2 => Ok(search_in::<2, false>(roll, buf, pattern, hits)),
-        _ => Ok(search_in::<4, false>(roll, buf, pattern, hits)),
+        2 => search_in::<2, false>(roll, buf, pattern, hits),
+        _ => search_in::<4, false>(roll, buf, pattern, hits),
     }
 }
 

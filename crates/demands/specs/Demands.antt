@@ -395,6 +395,12 @@ search-each {r} {buf} {text} {pattern} {slice} {after} {answer} t low high p =
       },
     )
 
+-- `Searching` is said of a call of the search by jumps too, so all that stands here of a search holds of both: and one of each, or two of one, on the same roll, buffer,
+-- pattern and slice answer the same and leave the same, refused or not
+pub searches-agree : {r : Roll} {buf pattern slice plain jumping : List ℕ} {answer other : Total} → Searching r buf pattern slice answer plain
+    → Searching r buf pattern slice other jumping → (answer ≡ other) × (plain ≡ jumping)
+searches-agree {answer = answer} {other = other} p q = (total-one answer other (p .says ∙ sym (q .says)), p .leaves ∙ sym (q .leaves))
+
 -- ---- 3. Let a sound roll have a right directory. Replace any run of its characters, an empty one too, by any text such that the edited text's characters are in the
 -- table and its symbols and entries fit: the edit is accepted
 pub edit-accepted : {r : Roll} {buf dir text new row after dirAfter : List ℕ} {start end : ℕ} {e : Edited} → TextIs r buf text → DirectoryIs r buf dir

@@ -1,5 +1,5 @@
 -- Two outcomes that an exported function's contract allows for one input are equal, what is answered and all that is lent: of the
--- contracts as the source states them.
+-- contracts as the source states them. So are an outcome of the search and one of the search by jumps.
 use mathlib.Core.Path.{_≡_, _∙_, sym}
 use contract.Lifetimes.{Lfts}
 use borrow.Fn.Kinds.{Dens, resT, endedOf}
@@ -24,6 +24,8 @@ use Rattle.monterculo.proofs.monterculo_read_one.Kinds as read-one-kind
 use Rattle.monterculo.proofs.monterculo_read_one.Reads as read-one-reads
 use Rattle.monterculo.proofs.monterculo_search.Kinds as search-kinds
 use Rattle.monterculo.proofs.monterculo_search.Reads as search-reads
+use Rattle.monterculo.proofs.monterculo_search_jumping.Kinds as search-jumping-kinds
+use Rattle.monterculo.proofs.monterculo_search_jumping.Reads as search-jumping-reads
 use Rattle.monterculo.proofs.monterculo_edit.Kinds as edit-kinds
 use Rattle.monterculo.proofs.monterculo_edit.Reads as edit-reads
 use Rattle.monterculo.proofs.monterculo_start.Kinds as start-kinds
@@ -87,6 +89,19 @@ pub search-tight : (κs : Lfts 3) (a : Dens κs search-kinds.ps) (r₁ r₂ : re
     → search-reads.Learnt κs a r₁ s₁ → search-reads.Learnt κs a r₂ s₂
     → (r₁ ≡ r₂) × (s₁ .1 .1 .1 .0 .now ≡ s₂ .1 .1 .1 .0 .now)
 search-tight κs a r₁ r₂ s₁ s₂ p q = (p .0 ∙ sym (q .0), p .1 ∙ sym (q .1))
+
+-- lent: `slice`
+pub search-jumping-tight : (κs : Lfts 3) (a : Dens κs search-jumping-kinds.ps) (r₁ r₂ : resT search-jumping-kinds.r κs .Denot) (s₁ s₂ : AtExit (endedOf 3 search-jumping-kinds.ps search-jumping-kinds.r) κs)
+    → search-jumping-reads.Learnt κs a r₁ s₁ → search-jumping-reads.Learnt κs a r₂ s₂
+    → (r₁ ≡ r₂) × (s₁ .1 .1 .1 .0 .now ≡ s₂ .1 .1 .1 .0 .now)
+search-jumping-tight κs a r₁ r₂ s₁ s₂ p q = (p .0 ∙ sym (q .0), p .1 ∙ sym (q .1))
+
+-- and one outcome of each of the two searches
+pub jumping-agrees : (κs : Lfts 3) (a : Dens κs search-kinds.ps) (r₁ : resT search-kinds.r κs .Denot) (r₂ : resT search-jumping-kinds.r κs .Denot)
+    (s₁ : AtExit (endedOf 3 search-kinds.ps search-kinds.r) κs) (s₂ : AtExit (endedOf 3 search-jumping-kinds.ps search-jumping-kinds.r) κs)
+    → search-reads.Learnt κs a r₁ s₁ → search-jumping-reads.Learnt κs a r₂ s₂
+    → (r₁ ≡ r₂) × (s₁ .1 .1 .1 .0 .now ≡ s₂ .1 .1 .1 .0 .now)
+jumping-agrees κs a r₁ r₂ s₁ s₂ p q = (p .0 ∙ sym (q .0), p .1 ∙ sym (q .1))
 
 -- lent: `buf`, `dir`
 pub edit-tight : (κs : Lfts 3) (a : Dens κs edit-kinds.ps) (r₁ r₂ : resT edit-kinds.r κs .Denot) (s₁ s₂ : AtExit (endedOf 3 edit-kinds.ps edit-kinds.r) κs)

@@ -145,6 +145,21 @@ pub extern "C" fn monterculo_search(
     totalled(answer)
 }
 
+// Its value is the total. What it answers and writes is what `monterculo_search` does.
+#[no_mangle]
+pub extern "C" fn monterculo_search_jumping(
+    roll: Roll,
+    buf: &[u8],
+    pattern: &[u8],
+    slice: &mut [u32],
+) -> Told
+    ensures told { λ r. ⌜ r ≡ told (searchSays roll (now (buf .entry)) (now (pattern .entry))) ⌝ }
+    ensures slice { λ _. ⌜ now (slice .exit) ≡ searchLeaves roll (now (buf .entry)) (now (pattern .entry)) (now (slice .entry)) ⌝ }
+{
+    let answer = jump::search_jumping::search_jumping(roll, buf, pattern, slice);
+    totalled(answer)
+}
+
 // A refused edit answers the roll that came in.
 #[no_mangle]
 pub extern "C" fn monterculo_edit(

@@ -1,6 +1,7 @@
 // Runs worked cases through the public operations and prints what they answer and what they leave in lent memory.
 //
-// Standard input is cases as `casebook` has them: each is the number of an operation and its arguments; 0 ends.
+// Standard input is cases as `casebook` has them: each is the number of an operation and its arguments; 0 ends. They come in parts of 262,144
+// bytes, and no case goes over the end of a part: a comment fills it up.
 
 use casebook::given::bytes;
 use casebook::given::number;
@@ -23,7 +24,14 @@ use stopper::codeword_of::Codeword;
 use stopper::table::Table;
 
 fn main() {
-    let mut input = [0u8; 524288];
+    part();
+    part();
+    part();
+    part();
+}
+
+fn part() {
+    let mut input = [0u8; 262144];
     let n = io::read_full(0, &mut input);
     cases(&input[..n]);
 }
@@ -162,7 +170,7 @@ fn read(roll: Roll, buf: &[u8], dir: &[u32], place: usize) {
     end();
 }
 
-// A roll, a buffer, a pattern, the hit list as it was.
+// A roll, a buffer, a pattern, the hit list as it was: both searches.
 fn search_case(s: &[u8], at: usize) -> usize {
     let given = roll_at(s, at);
     let mut space = [0u8; 32800];
@@ -174,14 +182,30 @@ fn search_case(s: &[u8], at: usize) -> usize {
     let mut places = [0u32; 2100];
     let hits = numbers(s, pattern.next, &mut places);
     let m = hits.value;
+    let mut others = [0u32; 2100];
+    let again = numbers(s, pattern.next, &mut others);
+    let o = again.value;
     let roll = given.roll;
     searched(roll, &space[..n], &letters[..p], &mut places[..m]);
+    searched_jumping(roll, &space[..n], &letters[..p], &mut others[..o]);
     hits.next
 }
 
 fn searched(roll: Roll, buf: &[u8], pattern: &[u8], slice: &mut [u32]) {
     io::write_all(1, b"search");
-    let answer = roll::search::search(roll, buf, pattern, slice);
+    total(roll::search::search(roll, buf, pattern, slice));
+    list(slice);
+    end();
+}
+
+fn searched_jumping(roll: Roll, buf: &[u8], pattern: &[u8], slice: &mut [u32]) {
+    io::write_all(1, b"jumping");
+    total(jump::search_jumping::search_jumping(roll, buf, pattern, slice));
+    list(slice);
+    end();
+}
+
+fn total(answer: Total) {
     match answer {
         Total::Of(total) => {
             io::write_all(1, b" ");
@@ -191,8 +215,6 @@ fn searched(roll: Roll, buf: &[u8], pattern: &[u8], slice: &mut [u32]) {
             refused(number, value);
         }
     }
-    list(slice);
-    end();
 }
 
 // A roll, a buffer, a directory, start, end, a text.

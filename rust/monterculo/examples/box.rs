@@ -142,6 +142,10 @@ pub fn run(out: &mut impl Write) -> Result<(), Box<dyn Error>> {
         [hit] => hit,
         _ => return Err("the pan is not found once".into()),
     };
+    // The search that jumps has the same answers; in a long roll it is the faster one.
+    if roll.find_jumping(PAN.as_bytes())? != hits {
+        return Err("the two searches differ".into());
+    }
     // The telephone number runs from behind the line's last blank to the line's end.
     let line = roll.line_of(hit)?;
     let digits = line.text.rsplit(|&character| character == b' ').next().unwrap_or_default();

@@ -6,7 +6,11 @@
 //! [`OwnedRoll`] has everything that a roll needs. [`Table`] and [`Roll`] are for boxes that lend fixed memory: the
 //! symbols then lie in a buffer of the caller, and the directory, where used, in a slice of 32-bit numbers. A
 //! [`Searcher`] is fed a roll piece by piece, as it comes in, and keeps none of it. Nothing is allocated there but by
-//! [`Roll::find`] and [`Searcher::find`].
+//! [`Roll::find`], [`Roll::find_jumping`] and [`Searcher::find`].
+//!
+//! There are two searches of a whole roll with the same answers: [`Roll::search`] goes from character to character, and
+//! [`Roll::search_jumping`] jumps over most of the bytes, for which it takes more stack. `find` and `find_jumping` go by
+//! them.
 //!
 //! Whatever bytes, numbers and ranges arrive, a call comes back: what is bad is refused, by a [`Refusal`]. No function
 //! of this crate panics.

@@ -225,6 +225,25 @@ impl OwnedRoll {
         self.roll.find(&self.buf, pattern)
     }
 
+    /// The same places by another way: it answers what [`OwnedRoll::find`] does, and jumps over most of the bytes.
+    ///
+    /// Take it for long rolls and patterns of four characters or more, and [`OwnedRoll::find`] where stack is scarce, as
+    /// this one takes more of it.
+    ///
+    /// Refusals: 11 (0).
+    ///
+    /// ```
+    /// use monterculo::{OwnedRoll, Width};
+    ///
+    /// let roll = OwnedRoll::new(Width::Two, b"pan 7 Oda\npan 12 Jory\n")?;
+    /// assert_eq!(roll.find_jumping(b"pan 12 ")?, [10]);
+    /// assert_eq!(roll.find_jumping(b"pan")?, roll.find(b"pan")?);
+    /// # Ok::<(), monterculo::Refusal>(())
+    /// ```
+    pub fn find_jumping(&self, pattern: &[u8]) -> Result<Vec<usize>, Refusal> {
+        self.roll.find_jumping(&self.buf, pattern)
+    }
+
     /// The line in which a character stands. A byte 10 stands in the line that it ends.
     ///
     /// Refusals: 10 (0).

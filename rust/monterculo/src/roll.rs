@@ -35,6 +35,18 @@ pub(crate) fn bounds(range: impl RangeBounds<usize>, n: u32) -> (usize, usize) {
     (start, end)
 }
 
+/// All hits of a search, which lists them in a slice and answers their total.
+fn all_of(search: impl Fn(&mut [u32]) -> Result<u32, Refusal>) -> Result<Vec<usize>, Refusal> {
+    // Most patterns stand at few places, and are then searched for once.
+    let mut hits = vec![0; 64];
+    let total = search(&mut hits)? as usize;
+    if total > hits.len() {
+        hits.resize(total.min(SYMBOLS), 0);
+        search(&mut hits)?;
+    }
+    Ok(hits.into_iter().take(total).map(|hit| hit as usize).collect())
+}
+
 impl From<sys::Roll> for Roll {
     fn from(roll: sys::Roll) -> Roll {
         Roll { table: Table(roll.table), n: roll.n, h: roll.h }
@@ -178,6 +190,8 @@ impl Roll {
     ///
     /// The total may be more than `hits` holds. It is 0 if a character of the pattern is not in the table.
     ///
+    /// This one goes from character to character. In long rolls [`Roll::search_jumping`] is faster for most patterns.
+    ///
     /// Refusals, in their order: those of [`Roll::check`], then 11 (0).
     ///
     /// ```
@@ -193,6 +207,28 @@ impl Roll {
         sys::search(self.record(), buf, pattern, hits).narrow(Given { text: pattern, ..self.given() })
     }
 
+    /// The same search by another way: whatever comes, it answers and writes what [`Roll::search`] does, refusals too.
+    /// It jumps over most of the bytes.
+    ///
+    /// Take it for long rolls and patterns of four characters or more. Take [`Roll::search`] where stack is scarce, as
+    /// this one takes more of it. Where the pattern has too few symbols to jump by, the plain search serves inside.
+    ///
+    /// Refusals, in their order: those of [`Roll::check`], then 11 (0).
+    ///
+    /// ```
+    /// use monterculo::{Roll, Table};
+    ///
+    /// let roll = Roll::new(Table::new(4, 3, b"anb"), 6, 6);
+    /// let (mut hits, mut plain) = ([9; 8], [9; 8]);
+    /// assert_eq!(roll.search_jumping(&[0x20, 0x10, 0x10], b"ana", &mut hits)?, 2);
+    /// assert_eq!(roll.search(&[0x20, 0x10, 0x10], b"ana", &mut plain)?, 2);
+    /// assert_eq!((hits, &hits[..2]), (plain, &[1, 3][..]));
+    /// # Ok::<(), monterculo::Refusal>(())
+    /// ```
+    pub fn search_jumping(&self, buf: &[u8], pattern: &[u8], hits: &mut [u32]) -> Result<u32, Refusal> {
+        sys::search_jumping(self.record(), buf, pattern, hits).narrow(Given { text: pattern, ..self.given() })
+    }
+
     /// All places where a pattern of 1 to 64 characters stands, ascending, overlapping ones too. This one allocates.
     ///
     /// Refusals: those of [`Roll::search`].
@@ -205,14 +241,22 @@ impl Roll {
     /// # Ok::<(), monterculo::Refusal>(())
     /// ```
     pub fn find(&self, buf: &[u8], pattern: &[u8]) -> Result<Vec<usize>, Refusal> {
-        // Most patterns stand at few places, and are then searched for once.
-        let mut hits = vec![0; 64];
-        let total = self.search(buf, pattern, &mut hits)? as usize;
-        if total > hits.len() {
-            hits.resize(total.min(SYMBOLS), 0);
-            self.search(buf, pattern, &mut hits)?;
-        }
-        Ok(hits.into_iter().take(total).map(|hit| hit as usize).collect())
+        all_of(|hits| self.search(buf, pattern, hits))
+    }
+
+    /// What [`Roll::find`] gives, by [`Roll::search_jumping`]. This one allocates.
+    ///
+    /// Refusals: those of [`Roll::search`].
+    ///
+    /// ```
+    /// use monterculo::{Roll, Table};
+    ///
+    /// let roll = Roll::new(Table::new(4, 3, b"anb"), 6, 6);
+    /// assert_eq!(roll.find_jumping(&[0x20, 0x10, 0x10], b"anan")?, [1]);
+    /// # Ok::<(), monterculo::Refusal>(())
+    /// ```
+    pub fn find_jumping(&self, buf: &[u8], pattern: &[u8]) -> Result<Vec<usize>, Refusal> {
+        all_of(|hits| self.search_jumping(buf, pattern, hits))
     }
 
     /// Replaces the characters of a range by a text of any length; the record, the buffer and the directory become

@@ -178,6 +178,7 @@ extern "C" {
     fn monterculo_make_directory(roll: Roll, buf: *const u8, buf_len: usize, dir: *mut u32, dir_len: usize) -> Answer;
     fn monterculo_read_one(roll: Roll, buf: *const u8, buf_len: usize, dir: *const u32, dir_len: usize, place: usize) -> Answer;
     fn monterculo_search(roll: Roll, buf: *const u8, buf_len: usize, pattern: *const u8, pattern_len: usize, hits: *mut u32, hits_len: usize) -> Answer;
+    fn monterculo_search_jumping(roll: Roll, buf: *const u8, buf_len: usize, pattern: *const u8, pattern_len: usize, hits: *mut u32, hits_len: usize) -> Answer;
     fn monterculo_edit(roll: Roll, buf: *mut u8, buf_len: usize, dir: *mut u32, dir_len: usize, start: usize, end: usize, text: *const u8, text_len: usize) -> Rolled;
     fn monterculo_start(roll: Roll, pattern: *const u8, pattern_len: usize) -> Started;
     fn monterculo_feed(searcher: Searcher, piece: *const u8, piece_len: usize, slice: *mut u32, slice_len: usize) -> Fed;
@@ -254,6 +255,23 @@ pub fn search(roll: Roll, buf: &[u8], pattern: &[u8], hits: &mut [u32]) -> Answe
     // SAFETY: as above; buf and pattern are read, hits are written.
     unsafe {
         monterculo_search(roll, buf.as_ptr(), buf.len(), pattern.as_ptr(), pattern.len(), hits.as_mut_ptr(), hits.len())
+    }
+}
+
+/// What [`search`] answers and writes, by jumping over most of the bytes. Refused: check's, 11.
+#[inline]
+pub fn search_jumping(roll: Roll, buf: &[u8], pattern: &[u8], hits: &mut [u32]) -> Answer {
+    // SAFETY: as above; buf and pattern are read, hits are written.
+    unsafe {
+        monterculo_search_jumping(
+            roll,
+            buf.as_ptr(),
+            buf.len(),
+            pattern.as_ptr(),
+            pattern.len(),
+            hits.as_mut_ptr(),
+            hits.len(),
+        )
     }
 }
 

@@ -132,7 +132,7 @@ fn code(garbage: &mut Garbage, tally: &mut Tally) {
     sys::character_of(raw, sys::Codeword { length: garbage.place(), symbols: [garbage.next() as u8 % 5; 86] });
 }
 
-/// The roll in lent memory: eight calls.
+/// The roll in lent memory: ten calls.
 fn lent(garbage: &mut Garbage, tally: &mut Tally) {
     let mut buf = garbage.bytes(24, 256);
     let mut roll = garbage.roll(&mut buf);
@@ -141,8 +141,15 @@ fn lent(garbage: &mut Garbage, tally: &mut Tally) {
     tally.told(roll.check(&buf));
     let range = (garbage.bound(), garbage.bound());
     tally.told(roll.unpack(&buf, range, &mut garbage.bytes(12, 1)));
-    tally.told(roll.search(&buf, &garbage.bytes(3, 6), &mut garbage.numbers(4)));
-    tally.told(roll.find(&buf, &garbage.bytes(66, 2)));
+    let (pattern, mut hits) = (garbage.bytes(3, 6), garbage.numbers(4));
+    let mut jumping = hits.clone();
+    let answer = roll.search(&buf, &pattern, &mut hits);
+    assert_eq!((roll.search_jumping(&buf, &pattern, &mut jumping), &jumping), (answer, &hits));
+    tally.told(answer);
+    let pattern = garbage.bytes(66, 2);
+    let answer = roll.find(&buf, &pattern);
+    assert_eq!(roll.find_jumping(&buf, &pattern), answer);
+    tally.told(answer);
     tally.told(roll.make_directory(&buf, &mut directory));
     tally.told(roll.read_one(&buf, &directory, garbage.place()));
     let range = (garbage.bound(), garbage.bound());
@@ -210,7 +217,10 @@ fn owned(garbage: &mut Garbage, tally: &mut Tally) {
         Some(roll) => roll,
         None => return,
     };
-    tally.told(roll.find(&garbage.bytes(3, 6)));
+    let pattern = garbage.bytes(3, 6);
+    let found = roll.find(&pattern);
+    assert_eq!(roll.find_jumping(&pattern), found);
+    tally.told(found);
     tally.told(roll.read_one(garbage.place()));
     if let Some(Line { range, text }) = tally.told(roll.line_of(garbage.place())) {
         assert_eq!(tally.told(roll.text_of(range)), Some(text));

@@ -26,6 +26,8 @@ fn made_found_replaced() {
             assert_eq!(roll.table().k(), width.k());
             assert_eq!(roll.find(b"pan").unwrap(), [0, 18, 38, 60]);
             assert_eq!(roll.find(b"pan 12 ").unwrap(), [18]);
+            assert_eq!(roll.find_jumping(b"pan").unwrap(), [0, 18, 38, 60]);
+            assert_eq!(roll.find_jumping(b"pan 12 ").unwrap(), [18]);
             let mut text = MEMBERS.to_vec();
             for (range, put) in [(30..37, &b"+445550186"[..]), (0..18, b""), (0..0, b"pan 3 ABBA 5550101\n")] {
                 roll.replace(range.clone(), put).unwrap();
@@ -36,6 +38,36 @@ fn made_found_replaced() {
                 }
             }
         }
+    }
+}
+
+/// The search that jumps finds what the plain one finds, and refuses what it refuses.
+#[test]
+fn both_searches_find_the_same() {
+    let text = [&MEMBERS.repeat(20)[..], b"aaaaaaaaaaaa"].concat();
+    for width in [Width::Two, Width::Four] {
+        let roll = OwnedRoll::new(width, &text).unwrap();
+        for length in [1, 2, 3, 4, 7, 16, 33, 64] {
+            let last = text.len() - length;
+            for start in (0..last).step_by(61).chain([last]) {
+                let mut pattern = text[start..start + length].to_vec();
+                let found = roll.find_jumping(&pattern).unwrap();
+                assert!(found.contains(&start));
+                assert_eq!(found, roll.find(&pattern).unwrap());
+                // Near misses.
+                for place in [0, length / 2, length - 1] {
+                    pattern[place] = b'J';
+                    assert_eq!(roll.find_jumping(&pattern), roll.find(&pattern));
+                }
+            }
+        }
+        // More hits than are listed at first, and none.
+        assert_eq!(roll.find_jumping(b"555").unwrap().len(), 80);
+        assert_eq!(roll.find_jumping(b"aaaaaaaaaa").unwrap(), [1600, 1601, 1602]);
+        assert_eq!(roll.find_jumping(b"pan 12 Jury").unwrap(), []);
+        assert_eq!(roll.find_jumping(b"pan#").unwrap(), []);
+        assert_eq!(roll.find_jumping(b""), Err(Refusal::BadPattern { length: 0 }));
+        assert_eq!(roll.find_jumping(&[b'a'; 65]), roll.find(&[b'a'; 65]));
     }
 }
 

@@ -40,10 +40,13 @@ fn text_of(roll: &Roll, buf: &[u8]) -> Vec<u8> {
     out
 }
 
-/// All hits, and that they are as many as the total says.
+/// All hits, the same of both searches, and that they are as many as the total says.
 fn hits_of(roll: &Roll, buf: &[u8], pattern: &[u8]) -> Vec<u32> {
     let mut hits = vec![u32::MAX; roll.n() as usize];
+    let mut jumping = hits.clone();
     let total = roll.search(buf, pattern, &mut hits).unwrap() as usize;
+    assert_eq!(roll.search_jumping(buf, pattern, &mut jumping), Ok(total as u32));
+    assert_eq!(jumping, hits);
     assert!(hits[total..].iter().all(|&later| later == u32::MAX));
     hits.truncate(total);
     hits
@@ -207,6 +210,7 @@ fn p12_empty_text() {
     roll.unpack(&[], 0..0, &mut []).unwrap();
     roll.make_directory(&[], &mut []).unwrap();
     assert_eq!(roll.search(&[], b"a", &mut []), Ok(0));
+    assert_eq!(roll.search_jumping(&[], b"a", &mut []), Ok(0));
     roll.edit(&mut [], &mut [], 0..0, b"").unwrap();
     assert_eq!((roll.n(), roll.h()), (0, 0));
     assert_eq!(refused(roll.read_one(&[], &[], 0)), (10, 0));
@@ -218,6 +222,8 @@ fn p15_pattern_lengths() {
     assert_eq!(hits_of(&roll, &buf, &[b'a'; 64]), [0, 1, 2, 3, 4, 5, 6]);
     assert_eq!(refused(roll.search(&buf, &[b'a'; 65], &mut [])), (11, 0));
     assert_eq!(refused(roll.search(&buf, b"", &mut [])), (11, 0));
+    assert_eq!(refused(roll.search_jumping(&buf, &[b'a'; 65], &mut [])), (11, 0));
+    assert_eq!(refused(roll.search_jumping(&buf, b"", &mut [])), (11, 0));
 }
 
 #[test]

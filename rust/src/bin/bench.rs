@@ -13,6 +13,7 @@ use std::time::Instant;
 
 use monterculo::sys;
 use monterculo_reference::library::roll_of;
+use monterculo_reference::memory;
 use monterculo_reference::plain;
 use monterculo_reference::reference::{self, Roll, Table, LIMIT, STRIDE};
 
@@ -31,6 +32,23 @@ const PATTERNS: [usize; 4] = [4, 8, 16, 32];
 const PIECES: [(usize, &str); 2] = [(64, "64"), (1_024, "1,024")];
 /// A roll searched as it comes in, beside the whole search of the archive.
 const MARK_IN_PIECES: f64 = 1.0;
+/// Rounds of a search that jumps: more of them, as it takes little beside its check.
+const ROUNDS: usize = 401;
+/// Patterns of each length that are sought by jumping: so many stand in the text, and so many do not.
+const STANDING: usize = 6;
+const ABSENT: usize = 2;
+/// The search that jumps, beside the plain one of the archive and beside plain Rust.
+const MARK_JUMPING: f64 = 0.5;
+const MARK_JUMPING_RUST: f64 = 1.5;
+
+/// The search that jumps for a pattern of so many characters, beside the C library's memmem in the unpacked text.
+fn mark_memmem(length: usize) -> Option<f64> {
+    match length {
+        0..=7 => None,
+        8..=15 => Some(1.35),
+        _ => Some(1.0),
+    }
+}
 
 // The texts.
 
@@ -260,6 +278,22 @@ impl Case {
     /// A run of its text, at two thirds of it.
     fn pattern(&self, length: usize) -> &[u8] {
         &self.text[self.text.len() * 2 / 3..][..length]
+    }
+
+    /// Runs of its text, spread over it, the last near its end; and some that stand nowhere: the halves of a run, the
+    /// second first.
+    fn patterns(&self, length: usize) -> Vec<Vec<u8>> {
+        let last = self.text.len() - length;
+        let run = |place: usize| self.text[place..place + length].to_vec();
+        let mut patterns: Vec<Vec<u8>> = (1..=STANDING).map(|number| run(last * number / STANDING - 9)).collect();
+        let turned =
+            |place: usize| [&self.text[place + length / 2..][..length / 2], &run(place)[..length / 2]].concat();
+        let stands = |pattern: &Vec<u8>| self.text.windows(length).any(|at| at == pattern);
+        for number in 1..=ABSENT {
+            let absent = (last * number / (ABSENT + 1)..last).map(turned).find(|pattern| !stands(pattern));
+            patterns.push(absent.expect("some order of characters stands nowhere"));
+        }
+        patterns
     }
 
     fn symbols(&self, text: &[u8]) -> usize {
@@ -545,6 +579,68 @@ fn measure_in_pieces(case: &Case) -> Vec<InPieces> {
     rows
 }
 
+/// A search for a pattern by all that are compared: microseconds after the check, where there is one.
+#[derive(Clone, Copy)]
+struct Jumping {
+    jumping: f64,
+    plain: f64,
+    /// Plain Rust over the packed symbols.
+    rust: f64,
+    /// The plain search of the unpacked text, and memmem.
+    unpacked: f64,
+    memmem: f64,
+}
+
+impl Jumping {
+    /// Beside the plain search, plain Rust, and memmem.
+    fn ratios(&self) -> [f64; 3] {
+        [self.plain, self.rust, self.memmem].map(|other| self.jumping / other)
+    }
+}
+
+/// One pattern, by all in turn. What the archive's searches take after their check is the difference of a search and of a
+/// check that comes right behind it, in the same round, and the median is that of these differences: the search that jumps
+/// takes little beside its check, and a difference of two medians would have too much of the check's own wavering in it.
+fn measure_jump(case: &Case, pattern: &[u8]) -> Jumping {
+    let (roll, text, buf) = (&case.roll, &case.text, &case.buf);
+    let record = roll_of(roll);
+    let mut lists = vec![vec![9; text.len()]; 5];
+    let total = reference::search(roll, buf, pattern, &mut lists[0]).expect("a sound roll") as usize;
+    let expected = (total, sum_entries(&lists[0][..total]));
+    let after = |search: fn(sys::Roll, &[u8], &[u8], &mut [u32]) -> sys::Answer, list: &mut [u32]| {
+        let (whole, answer) = timed(|| search(record, buf, pattern, list));
+        let (check, checked) = timed(|| sys::check(record, buf));
+        assert_eq!((answer.number, checked.number), (0, 0), "a sound roll");
+        (whole - check, answer.value as usize)
+    };
+    let mut times = vec![Vec::new(); lists.len()];
+    for round in 0..WARM_UP + ROUNDS {
+        for turn in 0..lists.len() {
+            let which = (round + turn) % lists.len();
+            let list = &mut lists[which];
+            let (time, found) = match which {
+                0 => after(sys::search_jumping, list),
+                1 => after(sys::search, list),
+                2 => timed(|| plain::search_sound(roll, buf, pattern, list) as usize),
+                3 => timed(|| plain::search_text(text, pattern, list).expect("a good pattern") as usize),
+                _ => timed(|| memory::search_text(text, pattern, list) as usize),
+            };
+            assert_eq!((found, sum_entries(&list[..found])), expected, "answers differ");
+            if round >= WARM_UP {
+                times[which].push(time);
+            }
+        }
+    }
+    let medians: Vec<f64> = times.into_iter().map(median).collect();
+    Jumping { jumping: medians[0], plain: medians[1], rust: medians[2], unpacked: medians[3], memmem: medians[4] }
+}
+
+/// The patterns of each length, one by one.
+fn measure_jumping(case: &Case) -> Vec<(usize, Vec<Jumping>)> {
+    let of_length = |length| case.patterns(length).iter().map(|pattern| measure_jump(case, pattern)).collect();
+    PATTERNS.iter().map(|&length| (length, of_length(length))).collect()
+}
+
 /// Name, range and run of each edit measured.
 fn edits(case: &Case) -> Vec<(&'static str, usize, usize, Vec<u8>)> {
     let (text, table) = (&case.text, &case.roll.table);
@@ -608,6 +704,46 @@ fn table_in_pieces(rows: &[InPieces]) -> String {
                 length, size, fed[number], whole, bold, ratio, bold
             );
         }
+    }
+    lines
+}
+
+/// A row for each length: the means over its patterns, the ratios of these means, and the greatest ratio of one pattern.
+fn table_of_jumping(rows: &[(usize, Vec<Jumping>)]) -> String {
+    let mut lines = String::from(
+        "| a search that jumps | jumping µs | plain search µs | plain Rust µs | unpacked text µs | memmem µs | \
+         of plain search | greatest | of plain Rust | greatest | of memmem | greatest |\n\
+         |---|--:|--:|--:|--:|--:|--:|--:|--:|--:|--:|--:|\n",
+    );
+    for (length, patterns) in rows {
+        let mean = |time: fn(&Jumping) -> f64| patterns.iter().map(time).sum::<f64>() / patterns.len() as f64;
+        let means = Jumping {
+            jumping: mean(|one| one.jumping),
+            plain: mean(|one| one.plain),
+            rust: mean(|one| one.rust),
+            unpacked: mean(|one| one.unpacked),
+            memmem: mean(|one| one.memmem),
+        };
+        let _ = write!(
+            lines,
+            "| {} patterns of {} characters | {:.2} | {:.1} | {:.1} | {:.1} | {:.2} |",
+            patterns.len(),
+            length,
+            means.jumping,
+            means.plain,
+            means.rust,
+            means.unpacked,
+            means.memmem
+        );
+        let marks = [Some(MARK_JUMPING), Some(MARK_JUMPING_RUST), mark_memmem(*length)];
+        for (number, mark) in marks.into_iter().enumerate() {
+            let greatest = patterns.iter().map(|one| one.ratios()[number]).fold(f64::MIN, f64::max);
+            for ratio in [means.ratios()[number], greatest] {
+                let bold = if mark.map_or(false, |mark| ratio > mark) { "**" } else { "" };
+                let _ = write!(lines, " {}{:.2}{} |", bold, ratio, bold);
+            }
+        }
+        lines.push('\n');
     }
     lines
 }
@@ -751,14 +887,31 @@ fn main() {
          of buffer and directory; neither is timed. A hit list keeps the hits of the call before. Reading one is the\n\
          mean over {} places. Less the check: the median of the search less that of the check, both measured in turn.\n\
          Unpacked text: its plain search. Bold: over {}. As it comes in: started, fed and finished, in turn with the\n\
-         archive's whole search of the same roll, its check included; bold: over {:.1}.\n",
-        REPETITIONS, WARM_UP, PLACES, MARK, MARK_IN_PIECES
+         archive's whole search of the same roll, its check included; bold: over {:.1}.\n\
+         A search that jumps: means over {} patterns that stand in the text and {} that do not; of each pattern the\n\
+         median of {} rounds. Of the archive's searches that of the differences of a search and of a check right behind\n\
+         it; plain Rust searches the packed symbols without a check; memmem goes on one byte behind each hit. Ratios\n\
+         are of the means, and the greatest of one pattern is beside them. Bold: over {} of the plain search, {} of plain\n\
+         Rust, and of memmem over {:?} for 8 characters and {:?} for 16 and 32.\n",
+        REPETITIONS,
+        WARM_UP,
+        PLACES,
+        MARK,
+        MARK_IN_PIECES,
+        STANDING,
+        ABSENT,
+        ROUNDS,
+        MARK_JUMPING,
+        MARK_JUMPING_RUST,
+        mark_memmem(8).unwrap_or(0.0),
+        mark_memmem(16).unwrap_or(0.0)
     );
     let mut rows = Vec::new();
     for case in &cases {
         let measured = measure(case);
         println!("{}", table_of(case, &measured));
         println!("{}", table_in_pieces(&measure_in_pieces(case)));
+        println!("{}", table_of_jumping(&measure_jumping(case)));
         rows.push(measured);
     }
     if let Some(picture) = picture {

@@ -19,6 +19,8 @@ mod coming;
 mod faults;
 #[cfg(test)]
 mod in_pieces;
+#[cfg(test)]
+mod jumping;
 mod lent;
 mod long_rolls;
 mod operation;

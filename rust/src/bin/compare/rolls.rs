@@ -82,8 +82,7 @@ pub fn roll_of(rng: &mut Rng, table: Table, length: usize, faults: &[Fault]) -> 
 }
 
 /// A roll of so many characters, or up to the limit; sound without faults.
-pub fn packed_roll(rng: &mut Rng, mut table: Table, length: usize, full: bool, faults: &[Fault]) -> Made {
-    let has = |fault| faults.contains(&fault);
+pub fn packed_roll(rng: &mut Rng, table: Table, length: usize, full: bool, faults: &[Fault]) -> Made {
     let list = listing(table.k, table.s);
     let mut codewords: Vec<Vec<u8>> = Vec::new();
     let mut taken = 0;
@@ -99,6 +98,18 @@ pub fn packed_roll(rng: &mut Rng, mut table: Table, length: usize, full: bool, f
         taken = codewords.iter().map(Vec::len).sum();
         codewords.resize(codewords.len() + LIMIT - taken, list.codewords[0].clone());
     }
+    roll_of_codewords(rng, table, codewords, full, faults)
+}
+
+/// A roll of these codewords; sound without faults.
+pub fn roll_of_codewords(
+    rng: &mut Rng,
+    mut table: Table,
+    mut codewords: Vec<Vec<u8>>,
+    full: bool,
+    faults: &[Fault],
+) -> Made {
+    let has = |fault| faults.contains(&fault);
     let mut strange = 0;
     if has(Fault::Rank) {
         let any = rng.between(0, codewords.len());

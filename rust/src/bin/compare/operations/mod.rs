@@ -15,6 +15,7 @@ mod pack;
 mod pieces;
 mod read_one;
 mod search;
+mod search_jumping;
 mod start;
 mod unpack;
 
@@ -30,6 +31,7 @@ pub fn all() -> Vec<Listed> {
         Listed::of::<make_directory::MakeDirectory>(),
         Listed::of::<read_one::ReadOne>(),
         Listed::of::<search::Search>(),
+        Listed::of::<search_jumping::SearchJumping>(),
         Listed::of::<edit::Edit>(),
         Listed::of::<start::Start>(),
         Listed::of::<feed::Feed>(),

@@ -1,30 +1,64 @@
-//! Searching a roll for a pattern.
+//! Searching a roll for a pattern, by both engines: from codeword to codeword, and by jumping over most of the bytes.
 
 use monterculo::sys::{self, Answer, Roll};
 use monterculo_reference::library::told;
-use monterculo_reference::reference::{self, listing, symbols_of, LONGEST, PATTERN};
+use monterculo_reference::reference::{self, listing, symbols_of, LIMIT, LONGEST, PATTERN};
 
 use crate::faults::{bad_pattern, faults, Fault};
 use crate::lent::Lent;
-use crate::operation::{Cases, Corners, Operation};
+use crate::operation::{Answered, Cases, Corners, Operation};
 #[cfg(test)]
 use crate::planted::{good_if_wrapped, says};
 use crate::rng::Rng;
-use crate::rolls::roll_of;
-#[cfg(test)]
-use crate::rolls::starts;
-use crate::tables::{characters, table_to_search};
+use crate::rolls::{per_byte, roll_of, starts};
+use crate::tables::{characters, lengths, table_to_search};
 use crate::texts::pattern;
 
 #[derive(Clone, Debug, PartialEq)]
 pub struct Search {
-    roll: Roll,
-    buf: Lent<u8>,
-    pattern: Lent<u8>,
-    hits: Lent<u32>,
+    pub roll: Roll,
+    pub buf: Lent<u8>,
+    pub pattern: Lent<u8>,
+    /// What is lent to the plain search.
+    pub hits: Lent<u32>,
+    /// What is lent to the one that jumps: the same before a call.
+    pub jumping: Lent<u32>,
+}
+
+/// What the two answer. Each is held to the reference, and so to the other.
+#[derive(Clone, Copy, Debug, PartialEq)]
+pub struct Both {
+    pub plain: Answer,
+    pub jumping: Answer,
+}
+
+impl Both {
+    /// Both answer this.
+    fn of(answer: Answer) -> Both {
+        Both { plain: answer, jumping: answer }
+    }
+}
+
+impl Answered for Both {
+    fn answer(&self) -> Answer {
+        self.plain
+    }
 }
 
 impl Search {
+    pub fn new(roll: Roll, buf: Vec<u8>, pattern: Vec<u8>, hits: Vec<u32>) -> Search {
+        let hits: Lent<u32> = hits.into();
+        Search { roll, buf: buf.into(), pattern: pattern.into(), jumping: hits.clone(), hits }
+    }
+
+    /// The symbols of the pattern, if all its characters are in the table.
+    pub fn packed(&self) -> Option<Vec<u8>> {
+        let (list, characters) = (listing(self.roll.table.k, self.roll.table.s), characters(&self.roll.table));
+        let rank = |byte| characters.iter().position(|character| character == byte);
+        let ranks: Option<Vec<usize>> = self.pattern.iter().map(rank).collect();
+        ranks.map(|ranks| ranks.iter().flat_map(|&rank| list.codewords[rank].iter().copied()).collect())
+    }
+
     /// All hits of a pattern in the roll, which is sound.
     fn all_hits(&self, pattern: &[u8]) -> Vec<u32> {
         let mut all = vec![0; self.roll.n as usize];
@@ -42,12 +76,7 @@ impl Search {
         let mut all = self.all_hits(pattern);
         match error {
             "takes any match of symbols" => {
-                let list = listing(table.k, table.s);
-                let characters = characters(&table);
-                let mut packed = Vec::new();
-                for byte in pattern.iter() {
-                    packed.extend(&list.codewords[characters.iter().position(|character| character == byte)?]);
-                }
+                let packed = self.packed()?;
                 let stoppers = |end| symbols[..end].iter().filter(|&&symbol| symbol < table.s).count() as u32;
                 all = (0..symbols.len()).filter(|&at| symbols[at..].starts_with(&packed)).map(stoppers).collect();
             }
@@ -69,40 +98,98 @@ impl Search {
             }
             "compares 63 characters" => all = self.all_hits(&pattern[..pattern.len().min(63)]),
             "passes over the last place" => all.retain(|&hit| hit as usize + pattern.len() < n as usize),
+            "passes over the first place" => all.retain(|&hit| hit > 0),
+            "misses the first hit" if !all.is_empty() => drop(all.remove(0)),
+            "misses the last hit" => drop(all.pop()),
+            "lists a hit twice" if !all.is_empty() => all.insert(0, all[0]),
+            "finds a near miss at the front" => all = self.hits_without(0),
+            "finds a near miss in the middle" => all = self.hits_without(pattern.len() / 2),
+            "finds a near miss at the end" => all = self.hits_without(pattern.len() - 1),
             _ => return None,
         }
         Some(all)
+    }
+
+    /// Where the pattern stands in the roll, which is sound, but perhaps for the character at this place of it.
+    #[cfg(test)]
+    fn hits_without(&self, place: usize) -> Vec<u32> {
+        let mut text = vec![0; self.roll.n as usize];
+        reference::unpack(&self.roll.into(), &self.buf, 0, text.len(), &mut text).expect("a sound roll");
+        let same = |at: &[u8]| (0..at.len()).all(|number| number == place || at[number] == self.pattern[number]);
+        let near = text.windows(self.pattern.len()).enumerate().filter(|&(_, at)| same(at));
+        near.map(|(hit, _)| hit as u32).collect()
+    }
+
+    /// What the reference answers and lists with an error.
+    #[rustfmt::skip]
+    #[cfg(test)]
+    pub fn wrong(&self, error: &str, slice: &mut [u32]) -> Answer {
+        let Search { roll, buf, pattern, hits, .. } = self;
+        let answer = told(reference::search(&(*roll).into(), buf, pattern, slice));
+        if answer.number == 0 {
+            if let Some(all) = self.wrong_hits(error) {
+                slice.copy_from_slice(hits);
+                slice.iter_mut().zip(&all).for_each(|(entry, &hit)| *entry = hit);
+                return says(0, all.len());
+            }
+        }
+        let total = answer.value as usize;
+        let foreign = || pattern.iter().position(|byte| !characters(&roll.table).contains(byte));
+        match (error, answer.number) {
+            ("cuts the total to the list", 0) => return says(0, slice.len().min(total)),
+            ("counts one hit more", 0) if total > 0 => return says(0, total + 1),
+            ("counts one hit fewer", 0) if total > 0 => return says(0, total - 1),
+            ("clears what is behind", 0) => slice.iter_mut().skip(total).for_each(|entry| *entry = 0),
+            ("writes an entry behind the list", 0) if total < slice.len() => slice[total] = !slice[total],
+            ("lists one hit fewer", 0) if total > 0 && total <= slice.len() => slice[total - 1] = hits[total - 1],
+            ("asks 11 first", 5..=8) if pattern.is_empty() || pattern.len() > PATTERN => return says(11, 0),
+            ("asks 11 before 8", 8) if pattern.is_empty() || pattern.len() > PATTERN => return says(11, 0),
+            ("refuses a foreign character", 0) => {
+                if let Some(place) = foreign() {
+                    return says(3, place);
+                }
+            }
+            ("refuses 64 characters", 0) if pattern.len() == PATTERN => return says(11, 0),
+            ("finds the empty pattern", 11) if pattern.is_empty() => return says(0, roll.n as usize),
+            ("wraps at 32 bits", 6) if good_if_wrapped(roll, buf, total, 32) => return says(0, 0),
+            ("writes though refused", 7) if !slice.is_empty() => slice[0] = !slice[0],
+            ("passes what is refused", 6..=8) => return says(0, 0),
+            _ => {}
+        }
+        answer
     }
 }
 
 impl Operation for Search {
     const NAME: &'static str = "search";
     const LISTED: &'static [u32] = &[0, 1, 5, 6, 7, 8, 11];
-    const CASES: Cases<Self> = &[(14, make)];
-    type Answer = Answer;
+    const CASES: Cases<Self> = &[(7, make)];
+    type Answer = Both;
 
-    fn archive(&mut self) -> Answer {
-        sys::search(self.roll, &self.buf, &self.pattern, &mut self.hits)
+    fn archive(&mut self) -> Both {
+        Both {
+            plain: sys::search(self.roll, &self.buf, &self.pattern, &mut self.hits),
+            jumping: sys::search_jumping(self.roll, &self.buf, &self.pattern, &mut self.jumping),
+        }
     }
 
-    fn reference(&mut self) -> Answer {
-        told(reference::search(&self.roll.into(), &self.buf, &self.pattern, &mut self.hits))
+    fn reference(&mut self) -> Both {
+        let answer = told(reference::search(&self.roll.into(), &self.buf, &self.pattern, &mut self.hits));
+        self.jumping = self.hits.clone();
+        Both::of(answer)
     }
 
-    fn refused(&self, refusal: Answer) -> Answer {
-        refusal
+    fn refused(&self, refusal: Answer) -> Both {
+        Both::of(refusal)
     }
 
-    fn corners(&self, answer: &Answer, met: &mut Corners) {
-        if answer.number != 0 {
+    fn corners(&self, both: &Both, met: &mut Corners) {
+        if both.plain.number != 0 {
             return;
         }
-        let Search { roll, buf, pattern, hits } = self;
-        let characters = characters(&roll.table);
-        let list = listing(roll.table.k, roll.table.s);
-        let ranks: Option<Vec<usize>> =
-            pattern.iter().map(|byte| characters.iter().position(|character| character == byte)).collect();
-        met.meet(ranks.is_none(), "patterns with a character not in the table");
+        let Search { roll, buf, pattern, hits, .. } = self;
+        let packed = self.packed();
+        met.meet(packed.is_none(), "patterns with a character not in the table");
         met.meet(pattern.len() > roll.n as usize, "patterns longer than the text");
         let all = self.all_hits(pattern);
         let total = all.len();
@@ -112,14 +199,22 @@ impl Operation for Search {
         met.meet(total > 0 && total == hits.len(), "lists as long as the hits");
         met.meet(total < hits.len(), "lists longer than the hits");
         met.meet(all.windows(2).any(|two| two[1] - two[0] < pattern.len() as u32), "searches with overlapping hits");
-        if let Some(ranks) = ranks {
-            let codewords: Vec<&[u8]> = ranks.iter().map(|&rank| list.codewords[rank].as_slice()).collect();
-            let longest = codewords.iter().any(|codeword| codeword.len() == LONGEST);
+        met.meet(total > 0 && roll.h as usize == LIMIT, "searches with hits in a roll of 65,536 symbols");
+        if let Some(packed) = packed {
+            let lengths = lengths(roll.table.k, roll.table.s, characters(&roll.table));
+            let longest = pattern.iter().any(|&character| lengths[usize::from(character)] == LONGEST);
             met.meet(total > 0 && longest, "codewords of 86 symbols found");
-            let packed = codewords.concat();
             let symbols = symbols_of(roll.table.k, buf, roll.h as usize);
             let matches = symbols.windows(packed.len()).filter(|&at| at == packed).count();
             met.meet(matches > total, "searches with the symbols also where no hit is");
+            let per = per_byte(roll.table.k);
+            met.meet(total > 0 && packed.len() + 1 < 2 * per, "patterns found with too few symbols to jump by");
+            let starts = starts(roll, buf);
+            let inside = |&hit: &u32| starts[hit as usize] as usize % per != 0;
+            met.meet(all.iter().any(inside), "searches with hits from inside a byte on");
+            met.meet(all.first() == Some(&0), "searches with a hit at the roll's first symbol");
+            let ends = |&hit: &u32| hit as usize + pattern.len() == roll.n as usize;
+            met.meet(all.last().map_or(false, ends), "searches with a hit at the roll's last symbol");
         }
     }
 
@@ -141,40 +236,33 @@ impl Operation for Search {
         "finds the empty pattern",
         "wraps at 32 bits",
         "writes though refused",
+        "jumping: takes any match of symbols",
+        "jumping: counts one hit fewer",
+        "jumping: misses the last hit",
+        "jumping: writes an entry behind the list",
+        "jumping: passes what is refused",
     ];
 
-    #[rustfmt::skip]
     #[cfg(test)]
-    fn with_error(&mut self, error: &str) -> Answer {
-        let before = self.hits.to_vec();
-        let answer = self.reference();
-        if answer.number == 0 {
-            if let Some(all) = self.wrong_hits(error) {
-                self.hits.copy_from_slice(&before);
-                self.hits.iter_mut().zip(&all).for_each(|(entry, &hit)| *entry = hit);
-                return says(0, all.len());
-            }
+    fn with_error(&mut self, error: &str) -> Both {
+        let mut slice = self.hits.clone();
+        let in_jumping = error.strip_prefix("jumping: ");
+        let answer = self.wrong(in_jumping.unwrap_or(error), &mut slice);
+        let both = self.reference();
+        if in_jumping.is_some() {
+            self.jumping = slice;
+            Both { jumping: answer, ..both }
+        } else {
+            self.hits = slice;
+            Both { plain: answer, ..both }
         }
-        let Search { roll, buf, pattern, hits } = self;
-        let foreign = || pattern.iter().position(|byte| !characters(&roll.table).contains(byte));
-        match (error, answer.number) {
-            ("cuts the total to the list", 0) => return says(0, hits.len().min(answer.value as usize)),
-            ("clears what is behind", 0) => hits.iter_mut().skip(answer.value as usize).for_each(|entry| *entry = 0),
-            ("asks 11 first", 5..=8) if pattern.is_empty() || pattern.len() > PATTERN => return says(11, 0),
-            ("asks 11 before 8", 8) if pattern.is_empty() || pattern.len() > PATTERN => return says(11, 0),
-            ("refuses a foreign character", 0) => {
-                if let Some(place) = foreign() {
-                    return says(3, place);
-                }
-            }
-            ("refuses 64 characters", 0) if pattern.len() == PATTERN => return says(11, 0),
-            ("finds the empty pattern", 11) if pattern.is_empty() => return says(0, roll.n as usize),
-            ("wraps at 32 bits", 6) if good_if_wrapped(roll, buf, answer.value as usize, 32) => return says(0, 0),
-            ("writes though refused", 7) if !hits.is_empty() => hits[0] = 0,
-            _ => {}
-        }
-        answer
     }
+}
+
+/// How many entries are lent for so many hits: none, too few, as many, or more.
+pub fn entries_lent(rng: &mut Rng, total: usize) -> usize {
+    let any = rng.between(0, total);
+    rng.pick(&[0, 1, total, total, total.saturating_sub(1), total + 1, total + 9, any])
 }
 
 fn make(rng: &mut Rng) -> Search {
@@ -189,7 +277,6 @@ fn make(rng: &mut Rng) -> Search {
         pattern = bad_pattern(rng, &pattern);
     }
     let total = if pattern.is_empty() { 0 } else { text.windows(pattern.len()).filter(|&at| at == pattern).count() };
-    let any = rng.between(0, total);
-    let hits = rng.pick(&[0, 1, total, total, total.saturating_sub(1), total + 1, total + 9, any]);
-    Search { roll: made.roll(), buf: made.buf.into(), pattern: pattern.into(), hits: rng.numbers(hits).into() }
+    let entries = entries_lent(rng, total);
+    Search::new(made.roll(), made.buf, pattern, rng.numbers(entries))
 }

@@ -1,0 +1,316 @@
+//! Searching by jumping: rolls made of a pattern and of what nearly is it, at every symbol of a byte and at both ends.
+
+use monterculo::sys::{Answer, Table};
+use monterculo_reference::reference::{bytes_of, listing, LIMIT, PATTERN};
+
+use super::search::{entries_lent, Both, Search};
+use crate::faults::{bad_pattern, faults, Fault};
+#[cfg(test)]
+use crate::jumping;
+use crate::operation::{Cases, Corners, Operation};
+#[cfg(test)]
+use crate::planted::says;
+use crate::rng::Rng;
+use crate::rolls::{bytes_for, per_byte, roll_of_codewords};
+use crate::tables::{characters, ranks_up_to, table_with};
+use crate::texts::ranks;
+
+/// Answered by both engines, as every search.
+#[derive(Clone, Debug, PartialEq)]
+pub struct SearchJumping(Search);
+
+impl Operation for SearchJumping {
+    const NAME: &'static str = "search_jumping";
+    const LISTED: &'static [u32] = Search::LISTED;
+    const CASES: Cases<Self> = &[(7, make)];
+    type Answer = Both;
+
+    fn archive(&mut self) -> Both {
+        self.0.archive()
+    }
+
+    fn reference(&mut self) -> Both {
+        self.0.reference()
+    }
+
+    fn refused(&self, refusal: Answer) -> Both {
+        self.0.refused(refusal)
+    }
+
+    fn corners(&self, both: &Both, met: &mut Corners) {
+        self.0.corners(both, met);
+    }
+
+    #[cfg(test)]
+    const ERRORS: &'static [&'static str] = &[
+        "takes any match of symbols",
+        "goes on behind a hit",
+        "counts one hit more",
+        "counts one hit fewer",
+        "cuts the total to the list",
+        "misses the first hit",
+        "misses the last hit",
+        "lists a hit twice",
+        "lists one hit fewer",
+        "lists backwards",
+        "lists symbol numbers",
+        "finds a near miss at the front",
+        "finds a near miss in the middle",
+        "finds a near miss at the end",
+        "compares 63 characters",
+        "passes over the first place",
+        "passes over the last place",
+        "clears what is behind",
+        "writes an entry behind the list",
+        "asks 11 first",
+        "asks 11 before 8",
+        "refuses a foreign character",
+        "refuses 64 characters",
+        "finds the empty pattern",
+        "writes though refused",
+        "passes what is refused",
+        "by jumps: jumps a byte too far",
+        "by jumps: makes its table for the first lead alone",
+        "by jumps: leaves the last lead out of its table",
+        "by jumps: keeps the first shift of a byte",
+        "by jumps: takes every whole byte",
+        "by jumps: begins with a byte alone",
+        "by jumps: takes one lead of a window",
+        "by jumps: leaves out the first window",
+        "by jumps: passes over a match at the first symbol",
+        "by jumps: asks for a whole byte before",
+        "by jumps: leaves out the last byte",
+        "by jumps: leaves out the last symbol",
+        "by jumps: compares whole bytes alone",
+        "by jumps: compares nothing before the whole bytes",
+        "by jumps: compares nothing behind the whole bytes",
+        "by jumps: takes a match behind a continuer",
+        "by jumps: goes on a window behind a hit",
+        "by jumps: numbers by the first whole byte",
+        "by jumps: numbers by the byte before",
+        "by jumps: reads behind h",
+        "by jumps: keeps h in 16 bits",
+        "by jumps: finds nothing of too few symbols",
+    ];
+
+    /// The error is in the one that jumps; the plain search is right.
+    #[cfg(test)]
+    fn with_error(&mut self, error: &str) -> Both {
+        let mut slice = self.0.jumping.clone();
+        let by_jumps = error.strip_prefix("by jumps: ");
+        let mut jumping = self.0.wrong(error, &mut slice);
+        if let (Some(error), 0) = (by_jumps, jumping.number) {
+            let packed = self.0.packed();
+            if let Some(all) = packed.and_then(|packed| jumping::hits(&self.0.roll, &self.0.buf, &packed, error)) {
+                slice = self.0.jumping.clone();
+                slice.iter_mut().zip(&all).for_each(|(entry, &hit)| *entry = hit);
+                jumping = says(0, all.len());
+            }
+        }
+        let both = self.0.reference();
+        self.0.jumping = slice;
+        Both { jumping, ..both }
+    }
+}
+
+/// Every code; few characters, so that much is nearly the pattern, or many.
+fn table(rng: &mut Rng) -> Table {
+    let k = rng.pick(&[2, 4]);
+    let s = rng.between(1, (1 << k) - 1) as u8;
+    let sigma = match rng.below(8) {
+        0 => 1,
+        1..=3 => rng.between(2, 6),
+        4 => {
+            let length = rng.between(1, 4);
+            (ranks_up_to(k, s, length) + rng.below(2)).min(256)
+        }
+        5 => 256,
+        _ => rng.between(2, 256),
+    };
+    table_with(rng, k, s, sigma)
+}
+
+/// What is sought, by ranks: of 1, 2, 3, 64 or any number of characters; all alike, two by turns, or any.
+fn sought(rng: &mut Rng, table: &Table) -> Vec<usize> {
+    let sigma = usize::from(table.sigma);
+    let any = rng.between(1, PATTERN);
+    let few = rng.between(4, 12);
+    let length = rng.pick(&[1, 2, 3, few, few, any, any, PATTERN]);
+    let mut sought = ranks(rng, sigma, length);
+    match rng.below(6) {
+        0 => sought.fill(rng.below(sigma)),
+        1 => {
+            let pair = [rng.below(sigma), rng.below(sigma)];
+            sought = pair.iter().copied().cycle().take(length).collect();
+        }
+        // Its first codeword is the end of a longer one, so that its symbols can stand inside that.
+        2..=3 => {
+            let list = listing(table.k, table.s);
+            let codeword = &list.codewords[sigma - 1 - rng.below(sigma.min(3))];
+            sought[0] = list.rank(&codeword[rng.below(codeword.len())..]).expect("the end of a codeword is one");
+        }
+        _ => {}
+    }
+    sought
+}
+
+/// The pattern, what nearly is it, or what lies between.
+fn piece(rng: &mut Rng, table: &Table, sought: &[usize], longest: usize) -> Vec<usize> {
+    let (sigma, length) = (usize::from(table.sigma), sought.len());
+    let mut piece = sought.to_vec();
+    match rng.below(16) {
+        0..=3 => {}
+        // One character is another: at the front, in the middle, at the end.
+        4..=6 => {
+            let place = rng.pick(&[0, length / 2, length - 1]);
+            piece[place] = rng.below(sigma);
+        }
+        // Its first codeword is the end of that of another character.
+        7..=8 => {
+            let list = listing(table.k, table.s);
+            let ends = |&rank: &usize| list.codewords[rank].ends_with(&list.codewords[sought[0]]);
+            let longer: Vec<usize> = (0..sigma).filter(ends).collect();
+            piece[0] = rng.pick(&longer);
+        }
+        // It stands twice, and the second time as early as it can.
+        9..=10 => {
+            let again = (1..=length).find(|&by| sought[by..] == sought[..length - by]).unwrap_or(length);
+            piece.extend(&sought[length - again..]);
+        }
+        11 => piece.truncate(rng.between(1, length)),
+        12 => drop(piece.drain(..rng.below(length))),
+        // Rank 0 takes one symbol.
+        13 => piece = vec![0; rng.between(0, 4)],
+        _ => {
+            let length = rng.between(1, longest);
+            piece = ranks(rng, sigma, length);
+        }
+    }
+    piece
+}
+
+fn make(rng: &mut Rng) -> SearchJumping {
+    use Fault::*;
+    let table = table(rng);
+    let (k, list) = (table.k, listing(table.k, table.s));
+    let taken = |ranks: &[usize]| ranks.iter().map(|&rank| list.codewords[rank].len()).sum::<usize>();
+    let sought = sought(rng, &table);
+    // Seldom as many symbols as there may be, or one less.
+    let full = rng.one_in(30);
+    let most = match rng.below(20) {
+        _ if full => rng.pick(&[LIMIT - 1, LIMIT, LIMIT]),
+        0 => rng.between(1_000, 6_000),
+        1..=4 => rng.below(1_000),
+        _ => rng.below(120),
+    };
+
+    // At the front the pattern or one to three symbols, and then any pieces.
+    let mut text = if rng.one_in(2) { sought.clone() } else { vec![0; rng.below(4)] };
+    let mut length = taken(&text);
+    // At the end the pattern, or a beginning of it whose other symbols lie behind the roll.
+    let cut = match rng.below(8) {
+        0..=2 => sought.len(),
+        3 => rng.below(sought.len()),
+        _ => 0,
+    };
+    let end = &sought[..cut];
+    while length + taken(end) < most {
+        let piece = piece(rng, &table, &sought, if full { 2_000 } else { 40 });
+        let more = taken(&piece);
+        if length + more + taken(end) > LIMIT {
+            break;
+        }
+        length += more;
+        text.extend(piece);
+    }
+    // Filled up by rank 0: as far as was said, or to the end of a byte if something is to go on behind it.
+    let goes_on = 0 < cut && cut < sought.len();
+    let mut fill = if full { most.saturating_sub(length + taken(end)) } else { 0 };
+    if goes_on {
+        let per = per_byte(k);
+        fill += (per - (length + fill + taken(end)) % per) % per;
+    }
+    text.resize(text.len() + fill, 0);
+    text.extend(end);
+
+    #[rustfmt::skip]
+    let mut faults = faults(rng, &[Table, OtherTable, Room, Rank, Unfinished, Count, Length, Unused, Unused, Bits, Pattern, Pattern]);
+    // More of them sound than of other searches.
+    if rng.one_in(3) {
+        faults.clear();
+    }
+    let codewords = |ranks: &[usize]| ranks.iter().map(|&rank| list.codewords[rank].clone()).collect::<Vec<_>>();
+    let mut made = roll_of_codewords(rng, table, codewords(&text), false, &faults);
+    if goes_on && faults.is_empty() {
+        made.buf.truncate(bytes_for(k, made.symbols.len()));
+        made.buf.extend(bytes_of(k, &codewords(&sought[cut..]).concat()));
+    }
+
+    let mut pattern: Vec<u8> = sought.iter().map(|&rank| table.places[rank]).collect();
+    if rng.one_in(30) {
+        let absent = (0..=255).find(|byte| !characters(&table).contains(byte));
+        let any = rng.below(pattern.len());
+        let place = rng.pick(&[0, pattern.len() - 1, any]);
+        pattern[place] = absent.unwrap_or(pattern[place]);
+    }
+    if faults.contains(&Pattern) {
+        pattern = bad_pattern(rng, &pattern);
+    }
+    let total = text.windows(sought.len()).filter(|&at| at == sought).count();
+    let entries = entries_lent(rng, total);
+    SearchJumping(Search::new(made.roll(), made.buf, pattern, rng.numbers(entries)))
+}
+
+#[cfg(test)]
+mod tests {
+    use std::collections::BTreeSet;
+
+    use super::*;
+    use crate::operation::{Case, Library};
+    use crate::rolls::starts;
+
+    #[test]
+    fn by_jumps_without_an_error_it_is_the_reference() {
+        for call in 0..2_000 {
+            let case = make(&mut Rng::of_call(5, call));
+            case.compare(Library::WithError("by jumps: ")).unwrap_or_else(|text| panic!("{}: {}", call, text));
+        }
+    }
+
+    #[test]
+    fn hits_come_in_every_way() {
+        let (mut codes, mut places, mut lengths, mut ends) =
+            (BTreeSet::new(), BTreeSet::new(), BTreeSet::new(), BTreeSet::new());
+        for call in 0..3_000 {
+            let SearchJumping(mut case) = make(&mut Rng::of_call(5, call));
+            let before = case.clone();
+            let Both { plain, .. } = case.reference();
+            if plain.number != 0 || plain.value == 0 {
+                continue;
+            }
+            let (table, n, length) = (case.roll.table, case.roll.n as usize, case.pattern.len());
+            let per = per_byte(table.k);
+            let long = before.packed().map_or(false, |packed| packed.len() + 1 >= 2 * per);
+            let starts = starts(&case.roll, &case.buf);
+            let mut all = vec![0; n];
+            let found = plain.value as usize;
+            monterculo_reference::reference::search(&case.roll.into(), &case.buf, &case.pattern, &mut all).unwrap();
+            codes.insert((table.k, table.s, long));
+            lengths.insert((table.k, length));
+            for &hit in &all[..found] {
+                // The symbols of a byte at which it begins and ends.
+                let place = |character: usize| starts[character] as usize % per;
+                let (first, last) = (hit as usize, hit as usize + length);
+                if long {
+                    places.insert((table.k, place(first), place(last)));
+                    ends.insert((table.k, first == 0, last == n));
+                }
+            }
+        }
+        // Each code, with patterns to jump by and with shorter ones.
+        assert_eq!(codes.len(), 2 * 18);
+        assert_eq!(places.len(), 4 * 4 + 2 * 2);
+        assert!([2, 4].iter().all(|&k| [1, 2, 3, 63, PATTERN].iter().all(|&length| lengths.contains(&(k, length)))));
+        assert_eq!(ends.len(), 2 * 4);
+    }
+}
