@@ -64,7 +64,7 @@ fn count_bytes(code: Code, stops: &[u8], buf: &[u8], counted: Counted, end: usiz
 }
 
 // Codewords counted on up to the byte of symbol a.
-pub fn count_to(code: Code, stops: &[u8], buf: &[u8], counted: Counted, a: usize) -> Counted
+fn count_to(code: Code, stops: &[u8], buf: &[u8], counted: Counted, a: usize) -> Counted
     requires { ⌜ T (goodCode code) × (now stops ≡ stopsByByte code) × (a ≤ length (symbolsOf (code .k) (now buf))) × (a ≤ 2 ^ 24) × Counts code (now buf) a (counted .next) (counted .ended) ⌝ }
     ensures { λ r. ⌜ Counts code (now (buf .entry)) a (r .next) (r .ended) × (a < (r .next + 1) * per (code .k)) ⌝ }
 {
@@ -88,4 +88,40 @@ pub fn number_of(code: Code, buf: &[u8], counted: Counted, a: usize) -> u32
         i += 1;
     }
     number
+}
+
+// The same by the codewords that end from the byte of symbol a on: n end among the first h symbols.
+fn count_back(code: Code, stops: &[u8], buf: &[u8], h: usize, n: u32, a: usize) -> Counted
+    requires { ⌜ T (goodCode code) × (now stops ≡ stopsByByte code) × (h ≤ length (symbolsOf (code .k) (now buf))) × (h ≤ 2 ^ 24) × (n ≡ numberAt code (now buf) h) × (a ≤ h) ⌝ }
+    ensures { λ r. ⌜ Counts code (now (buf .entry)) a (r .next) (r .ended) × (a < (r .next + 1) * per (code .k)) ⌝ }
+{
+    let next = byte_of(code.k, a);
+    let end = h - next * per_byte(code.k);
+    let rest = &buf[next..];
+    let none = Counted { next: 0, ended: 0 };
+    let counted = count_to(code, stops, rest, none, end);
+    Counted {
+        next,
+        ended: n - number_of(code, rest, counted, end),
+    }
+}
+
+// The same, from where codewords are counted or from the end, whichever is nearer.
+pub fn count_near(
+    code: Code,
+    stops: &[u8],
+    buf: &[u8],
+    h: usize,
+    n: u32,
+    counted: Counted,
+    a: usize,
+) -> Counted
+    requires { ⌜ T (goodCode code) × (now stops ≡ stopsByByte code) × (h ≤ length (symbolsOf (code .k) (now buf))) × (h ≤ 2 ^ 24) × (n ≡ numberAt code (now buf) h) × (a ≤ h) × Counts code (now buf) a (counted .next) (counted .ended) ⌝ }
+    ensures { λ r. ⌜ Counts code (now (buf .entry)) a (r .next) (r .ended) × (a < (r .next + 1) * per (code .k)) ⌝ }
+{
+    let next = counted.next;
+    if h - a < a - next * per_byte(code.k) {
+        return count_back(code, stops, buf, h, n, a);
+    }
+    count_to(code, stops, buf, counted, a)
 }

@@ -20,11 +20,12 @@ ghost use Rattle.stopper.specs.Paper.Table.{goodCode};
 ghost use Rattle.symbols.specs.Paper.Symbols.{per, symbolsOf};
 ghost use Rattle.texts.specs.Paper.Hits.{hits, goodPattern, listed};
 ghost use Rattle.sound.specs.Paper.Roll.{textOf, Sound};
+ghost use Rattle.jump.specs.Helpers.Counting.{numberAt};
 ghost use Rattle.jump.specs.Helpers.Hits.{hitsBelow};
 
-// The symbols of a pattern looked for in windows among the first h of a buffer.
-fn jump(code: Code, buf: &[u8], h: usize, symbols: &[u8], slice: &mut [u32]) -> u32
-    requires { ⌜ T (goodCode code) × (h ≤ length (symbolsOf (code .k) (now buf))) × (h ≤ 2 ^ 24) × (per (code .k) ≤ length (now symbols)) × Below (2 ^ (code .k)) (now symbols) ⌝ }
+// The symbols of a pattern looked for in windows among the first h of a buffer, in which n codewords end.
+fn jump(code: Code, buf: &[u8], h: usize, n: u32, symbols: &[u8], slice: &mut [u32]) -> u32
+    requires { ⌜ T (goodCode code) × (h ≤ length (symbolsOf (code .k) (now buf))) × (h ≤ 2 ^ 24) × (per (code .k) ≤ length (now symbols)) × Below (2 ^ (code .k)) (now symbols) × (n ≡ numberAt code (now buf) h) ⌝ }
     ensures total { λ r. ⌜ r ≡ length (hitsBelow code h (now (buf .entry)) (now (symbols .entry)) h) ⌝ }
     ensures list { λ _. ⌜ now (slice .exit) ≡ listed (hitsBelow code h (now (buf .entry)) (now (symbols .entry)) h) (now (slice .entry)) ⌝ }
 {
@@ -33,7 +34,7 @@ fn jump(code: Code, buf: &[u8], h: usize, symbols: &[u8], slice: &mut [u32]) -> 
     fill_table(code.k, symbols, v, &mut t);
     let last = lasts(code.k, symbols, v);
     let stops = stops_by_byte(code);
-    scan(code, &stops, buf, h, symbols, v, &t, &last, slice)
+    scan(code, &stops, buf, h, n, symbols, v, &t, &last, slice)
 }
 
 // Searching a sound roll: the total of all hits; the first of them are listed as far as the slice goes. Too few symbols for a window are looked for one by one.
@@ -54,5 +55,5 @@ pub fn jump_sound(roll: Roll, buf: &[u8], pattern: &[u8], slice: &mut [u32]) -> 
     if long < per_byte(code.k) {
         return list_hits(roll, buf, &symbols[..long], slice);
     }
-    jump(code, buf, roll.h as usize, &symbols[..long], slice)
+    jump(code, buf, roll.h as usize, roll.n, &symbols[..long], slice)
 }

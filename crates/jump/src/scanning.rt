@@ -1,6 +1,6 @@
 // The windows of a roll, one after the other: those that the table passes over are jumped, in the others each alignment is tried.
 use crate::counting::Counted;
-use crate::counting::count_to;
+use crate::counting::count_near;
 use crate::counting::number_of;
 use crate::windows::Window;
 use crate::windows::key_at;
@@ -73,8 +73,17 @@ pub struct Found {
 }
 
 // One more hit, at symbol a. Codewords are counted only where the hit is listed.
-fn note(code: Code, stops: &[u8], buf: &[u8], a: usize, found: Found, slice: &mut [u32]) -> Found
-    requires { ⌜ T (goodCode code) × (now stops ≡ stopsByByte code) × (a ≤ length (symbolsOf (code .k) (now buf))) × (a ≤ 2 ^ 24) × Counts code (now buf) a (found .next) (found .ended) × (found .total ≤ a) ⌝ }
+fn note(
+    code: Code,
+    stops: &[u8],
+    buf: &[u8],
+    h: usize,
+    n: u32,
+    a: usize,
+    found: Found,
+    slice: &mut [u32],
+) -> Found
+    requires { ⌜ T (goodCode code) × (now stops ≡ stopsByByte code) × (h ≤ length (symbolsOf (code .k) (now buf))) × (h ≤ 2 ^ 24) × (n ≡ numberAt code (now buf) h) × (a ≤ h) × Counts code (now buf) a (found .next) (found .ended) × (found .total ≤ a) ⌝ }
     ensures { λ r. ⌜ (r .total ≡ found .total + 1) × Counts code (now (buf .entry)) a (r .next) (r .ended) × ((hits : List ℕ) → found .total ≡ length hits → Grows hits (hits ++ (numberAt code (now (buf .entry)) a ∷ [])) (now (slice .entry)) (now (slice .exit))) ⌝ }
 {
     let total = found.total;
@@ -83,7 +92,7 @@ fn note(code: Code, stops: &[u8], buf: &[u8], a: usize, found: Found, slice: &mu
         ended: found.ended,
     };
     if (total as usize) < slice.len() {
-        let counted = count_to(code, stops, buf, before, a);
+        let counted = count_near(code, stops, buf, h, n, before, a);
         slice[total as usize] = number_of(code, buf, counted, a);
         Found {
             total: total + 1,
@@ -128,6 +137,7 @@ fn try_window(
     stops: &[u8],
     buf: &[u8],
     h: usize,
+    n: u32,
     symbols: &[u8],
     v: Window,
     last: &[u8],
@@ -135,7 +145,7 @@ fn try_window(
     before: Found,
     slice: &mut [u32],
 ) -> Found
-    requires { ⌜ T (goodCode code) × (now stops ≡ stopsByByte code) × (h ≤ length (symbolsOf (code .k) (now buf))) × (h ≤ 2 ^ 24) × Fits (code .k) (length (now symbols)) v × (1 < v .wide → Lasts (code .k) v (now symbols) (now last) (per (code .k))) × (length (now last) ≡ 4) × ((f + v .wide) * per (code .k) ≤ h) × Counts code (now buf) (firstOf (code .k) (v .free) f) (before .next) (before .ended) × (before .total ≡ length (hitsBelow code h (now buf) (now symbols) (firstOf (code .k) (v .free) f))) ⌝ }
+    requires { ⌜ T (goodCode code) × (now stops ≡ stopsByByte code) × (h ≤ length (symbolsOf (code .k) (now buf))) × (h ≤ 2 ^ 24) × Fits (code .k) (length (now symbols)) v × (1 < v .wide → Lasts (code .k) v (now symbols) (now last) (per (code .k))) × (length (now last) ≡ 4) × ((f + v .wide) * per (code .k) ≤ h) × Counts code (now buf) (firstOf (code .k) (v .free) f) (before .next) (before .ended) × (before .total ≡ length (hitsBelow code h (now buf) (now symbols) (firstOf (code .k) (v .free) f))) × (n ≡ numberAt code (now buf) h) ⌝ }
     ensures { λ r. ⌜ Counts code (now (buf .entry)) (firstOf (code .k) (v .free) (f + 1)) (r .next) (r .ended) × (r .total ≡ length (hitsBelow code h (now (buf .entry)) (now (symbols .entry)) (firstOf (code .k) (v .free) (f + 1)))) × Grows (hitsBelow code h (now (buf .entry)) (now (symbols .entry)) (firstOf (code .k) (v .free) f)) (hitsBelow code h (now (buf .entry)) (now (symbols .entry)) (firstOf (code .k) (v .free) (f + 1))) (now (slice .entry)) (now (slice .exit)) ⌝ }
 {
     let per = per_byte(code.k);
@@ -147,7 +157,7 @@ fn try_window(
     let mut found = before;
     while a < end {
         if is_hit_in(code, buf, h, symbols, v, last, f, a) {
-            found = note(code, stops, buf, a, found, slice);
+            found = note(code, stops, buf, h, n, a, found, slice);
         }
         a += 1;
     }
@@ -178,13 +188,14 @@ pub fn scan(
     stops: &[u8],
     buf: &[u8],
     h: usize,
+    n: u32,
     symbols: &[u8],
     v: Window,
     t: &[u8],
     last: &[u8],
     slice: &mut [u32],
 ) -> u32
-    requires { ⌜ T (goodCode code) × (now stops ≡ stopsByByte code) × (h ≤ length (symbolsOf (code .k) (now buf))) × (h ≤ 2 ^ 24) × Fits (code .k) (length (now symbols)) v × Safe (code .k) v (now symbols) (now t) × (1 < v .wide → Lasts (code .k) v (now symbols) (now last) (per (code .k))) × (length (now last) ≡ 4) ⌝ }
+    requires { ⌜ T (goodCode code) × (now stops ≡ stopsByByte code) × (h ≤ length (symbolsOf (code .k) (now buf))) × (h ≤ 2 ^ 24) × Fits (code .k) (length (now symbols)) v × Safe (code .k) v (now symbols) (now t) × (1 < v .wide → Lasts (code .k) v (now symbols) (now last) (per (code .k))) × (length (now last) ≡ 4) × (n ≡ numberAt code (now buf) h) ⌝ }
     ensures total { λ r. ⌜ r ≡ length (hitsBelow code h (now (buf .entry)) (now (symbols .entry)) h) ⌝ }
     ensures list { λ _. ⌜ now (slice .exit) ≡ listed (hitsBelow code h (now (buf .entry)) (now (symbols .entry)) h) (now (slice .entry)) ⌝ }
 {
@@ -203,7 +214,7 @@ pub fn scan(
         if place < places {
             f += places - place;
         } else {
-            found = try_window(code, stops, buf, h, symbols, v, last, f, found, slice);
+            found = try_window(code, stops, buf, h, n, symbols, v, last, f, found, slice);
             f += 1;
         }
         f = skip(buf, v, t, full, f);

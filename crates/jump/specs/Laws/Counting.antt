@@ -1,20 +1,20 @@
 -- The laws of characters numbered by the codewords that end before them.
 use mathlib.Core.Path.{_≡_, sym, ap, _∙_}
-use mathlib.Core.List.{List, [], _∷_}
+use mathlib.Core.List.{List, [], _∷_, _++_}
 use Prim.Native.Nat.{ℕ, _+_, _*_, _/_, _^_, _≤_, _<_, zero-le}
 use native.Mathlib.Nat.{le-trans, zero-mul, add-mul, mul-le-mul-right, le-of-mul-le-mul-right, div-mul-le-self, lt-div-mul-add, le-div-iff-mul-le}
 use native.Mathlib.Numerals.{add-one}
 use native.Mathlib.Omega.{arith}
 use lib.Dec.{T}
-use lib.ListN.{length, take, getD, length-take}
-use lib.Seq.{take-suc}
+use lib.ListN.{length, take, drop, getD, length-take}
+use lib.Seq.{take-suc, take-add}
 use Rattle.stopper.specs.Paper.Table.{stoppers, goodCode}
 use Rattle.stopper.specs.Laws.Table.{code-width}
 use Rattle.stopper.specs.declared.code.Code.{Code}
 use Rattle.symbols.specs.Paper.Symbols.{per, symbolsOf}
 use Rattle.symbols.specs.Helpers.Widths.{Width}
 use Rattle.symbols.specs.Laws.Width.{per-pos}
-use Rattle.symbols.specs.Laws.Rows.{symbols-length, symbols-append, symbols-take}
+use Rattle.symbols.specs.Laws.Rows.{symbols-length, symbols-append, symbols-take, symbols-drop}
 use Rattle.sound.specs.Helpers.Ends.{stops}
 use Rattle.sound.specs.Laws.Ends.{stops-stop}
 use Rattle.sound.specs.Laws.Stops.{stops-append, stops-continuer, stops-upto}
@@ -76,6 +76,13 @@ module _ (c : Code) (g : T (goodCode c)) (buf : List ℕ) where
       ∙ symbols-append width (take q buf) (getD buf q 0 ∷ [])))
       ∙ stops-append c (symbolsOf k (take q buf)) one
       ∙ ap (λ (ys : List ℕ). stops st 0 ys + stops st 0 one) (sym (symbols-take width q buf))
+
+  -- so many symbols more, behind a whole byte
+  pub number-behind : (q x : ℕ) → numberAt c buf (q * per k + x) ≡ numberAt c buf (q * per k) + numberAt c (drop q buf) x
+  number-behind q x =
+      let st = stoppers c in
+      ap (stops st 0) (take-add (q * per k) x row ∙ ap (λ (ys : List ℕ). take (q * per k) row ++ take x ys) (symbols-drop width q buf))
+      ∙ stops-append c (take (q * per k) row) (take x (symbolsOf k (drop q buf)))
 
   -- ---- bytes counted before byte e
 

@@ -216,7 +216,8 @@ module _ {r : Roll} {buf : List ℕ} (s : Sound r buf) where
   words : upto ≡ write (base code) (stoppers code) ranks
   words = sound-row s
 
-  all-number : numberAt code buf (r .h) ≡ r .n
+  -- all its codewords end among its symbols
+  pub all-number : numberAt code buf (r .h) ≡ r .n
   unfolding stops
   all-number =
       ap (stops (stoppers code) 0) (words ∙ sym (append-nil _))

@@ -20,7 +20,7 @@ use Rattle.sound.specs.Laws.Sound.{sound-code}
 use Rattle.sound.specs.Laws.Texts.{text-below}
 use Rattle.find.specs.Helpers.Finding.{wordHits}
 use Rattle.find.specs.Laws.Finding.{pattern-known, some-known, row-none, row-hits}
-use Rattle.jump.specs.Laws.Hits.{all-hits}
+use Rattle.jump.specs.Laws.Hits.{all-number, all-hits}
 use Rattle.jump.proofs.jumping.jump_sound.Statement.{statement}
 use Rattle.jump.proofs.jumping.jump_sound.Tie as tie
 
@@ -98,6 +98,7 @@ jump-requires c κs =
       omega (arith, s .pre .0 .fits, room-limit (t .code .k) (length (a .buf .now)), limit-fits),
       omega (arith, o .if2 .left, o .before .per-byte .ensures, symbols-long p),
       subst⁻¹ (Below (2 ^ (t .code .k))) row (text-below (t .code) (sound-code (s .pre .0)) (characters t) (a .pattern .now)),
+      sym (all-number (s .pre .0)),
     )
 
 returns-3 : tie.Need-returns-3

@@ -19,7 +19,7 @@ returns c =
     let a = s .args in
     let number : ℕ = numberAt (a .code) (a .buf .now) (a .a) in (
       refl,
-      n .count-to .ensures .0,
+      n .count-near .ensures .0,
       (λ hits e first w.
           let r : length (a .slice .now) ≡ length first = ap length w ∙ listed-length hits first in
           ap₂ (λ (l : List ℕ) (x : ℕ). set l (a .found .total) x) w (c .number-of .ensures)
@@ -32,7 +32,7 @@ returns-2 c =
     let s = c .before .before .before .before in
     let a = s .args in (
       refl,
-      s .pre .4,
+      s .pre .6,
       (λ hits e first w.
           let r : length (a .slice .now) ≡ length first = ap length w ∙ listed-length hits first in
           w ∙ sym (listed-full hits first (numberAt (a .code) (a .buf .now) (a .a)) (omega (arith, c .if1 .left)))),

@@ -25,12 +25,12 @@ use Rattle.jump.proofs.scanning.scan.Statement.{statement}
 use Rattle.jump.proofs.scanning.scan.Tie as tie
 
 abbrev Inv-loop : tie.InvT-loop
-Inv-loop code stops buf h symbols v t last slice₀ wide back places full found₀ f₀ slice found f =
+Inv-loop code stops buf h n symbols v t last slice₀ wide back places full found₀ f₀ slice found f =
     (f ≤ full) × Counts code buf (firstOf (code .k) (v .free) f) (found .next) (found .ended) × (found .total ≡ length (hitsBelow code h buf symbols (firstOf (code .k) (v .free) f)))
     × (slice ≡ listed (hitsBelow code h buf symbols (firstOf (code .k) (v .free) f)) slice₀) × (length slice ≡ length slice₀)
 
 abbrev μ-loop : tie.MeasureT-loop
-μ-loop code stops buf h symbols v t last slice₀ wide back places full found₀ f₀ slice found f = full + 1 - f
+μ-loop code stops buf h n symbols v t last slice₀ wide back places full found₀ f₀ slice found f = full + 1 - f
 
 -- the ways back
 abbrev begun : tie.After-byte-of Inv-loop μ-loop → tie.Start Inv-loop μ-loop
@@ -126,7 +126,7 @@ try-window-requires c κs =
     let d = counted l in
     let s = begun d in
     let k = l .loop .inv in
-    (s .pre .0, s .pre .1, s .pre .2, s .pre .3, s .pre .4, s .pre .6, s .pre .7, within d (l .loop .f + s .args .v .wide) (c .before .before .before .before .loop-test .taken), k .1, k .2)
+    (s .pre .0, s .pre .1, s .pre .2, s .pre .3, s .pre .4, s .pre .6, s .pre .7, within d (l .loop .f + s .args .v .wide) (c .before .before .before .before .loop-test .taken), k .1, k .2, s .pre .8)
 
 -- a jump, or the window tried
 joined : (j : tie.Joined1 Inv-loop μ-loop)

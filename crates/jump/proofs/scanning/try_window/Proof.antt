@@ -23,12 +23,12 @@ use Rattle.jump.proofs.scanning.try_window.Statement.{statement}
 use Rattle.jump.proofs.scanning.try_window.Tie as tie
 
 abbrev Inv-loop : tie.InvT-loop
-Inv-loop code stops buf h symbols v last f slice₀ per′ end a₀ found₀ slice a found =
+Inv-loop code stops buf h n symbols v last f slice₀ per′ end a₀ found₀ slice a found =
     (firstOf (code .k) (v .free) f ≤ a) × (a ≤ f * per (code .k) + v .free + 1) × Counts code buf a (found .next) (found .ended) × (found .total ≡ length (hitsBelow code h buf symbols a))
     × Grows (hitsBelow code h buf symbols (firstOf (code .k) (v .free) f)) (hitsBelow code h buf symbols a) slice₀ slice × (length slice ≡ length slice₀)
 
 abbrev μ-loop : tie.MeasureT-loop
-μ-loop code stops buf h symbols v last f slice₀ per′ end a₀ found₀ slice a found = f * per (code .k) + v .free + 1 - a
+μ-loop code stops buf h n symbols v last f slice₀ per′ end a₀ found₀ slice a found = f * per (code .k) + v .free + 1 - a
 
 -- the way back from the loop
 abbrev begun : tie.At-loop Inv-loop μ-loop → tie.Start Inv-loop μ-loop
@@ -87,8 +87,10 @@ note-requires c κs =
     let a = s .args in (
       s .pre .0,
       s .pre .1,
-      omega (arith, inside (c .before .before .before), s .pre .2),
-      omega (arith, inside (c .before .before .before), s .pre .3),
+      s .pre .2,
+      s .pre .3,
+      s .pre .10,
+      omega (arith, inside (c .before .before .before)),
       l .loop .inv .2,
       omega (arith, l .loop .inv .3, hits-few (a .code) (a .buf .now) (a .h) (a .symbols .now) (s .pre .2) (l .loop .a)),
     )
