@@ -20,7 +20,7 @@ pub struct Counted {
     pub ended: u32,
 }
 
-// How many codewords end in the 48 bytes from byte i on: a sum of 8 bits, so that many bytes are counted at once; a loop over 32 is unrolled instead.
+// How many codewords end in the 48 bytes from byte i on: a sum of 8 bits, so that 16 bytes are counted at once. A loop over 32 bytes the compiler would unroll and count byte by byte.
 fn ended_in_block(code: Code, buf: &[u8], i: usize) -> u8
     requires { ⌜ T (goodCode code) × (i + 48 ≤ length (now buf)) ⌝ }
     ensures { λ r. ⌜ numberAt code (now (buf .entry)) (i * per (code .k)) + r ≡ numberAt code (now (buf .entry)) ((i + 48) * per (code .k)) ⌝ }
@@ -90,7 +90,7 @@ pub fn number_of(code: Code, buf: &[u8], counted: Counted, a: usize) -> u32
     number
 }
 
-// The same by the codewords that end from the byte of symbol a on: n end among the first h symbols.
+// Codewords counted up to the byte of symbol a by those that end from there on: n end among the first h symbols.
 fn count_back(code: Code, stops: &[u8], buf: &[u8], h: usize, n: u32, a: usize) -> Counted
     requires { ⌜ T (goodCode code) × (now stops ≡ stopsByByte code) × (h ≤ length (symbolsOf (code .k) (now buf))) × (h ≤ 2 ^ 24) × (n ≡ numberAt code (now buf) h) × (a ≤ h) ⌝ }
     ensures { λ r. ⌜ Counts code (now (buf .entry)) a (r .next) (r .ended) × (a < (r .next + 1) * per (code .k)) ⌝ }
@@ -106,7 +106,7 @@ fn count_back(code: Code, stops: &[u8], buf: &[u8], h: usize, n: u32, a: usize) 
     }
 }
 
-// The same, from where codewords are counted or from the end, whichever is nearer.
+// Codewords counted up to the byte of symbol a, on from where they are counted or back from the end, whichever is nearer.
 pub fn count_near(
     code: Code,
     stops: &[u8],

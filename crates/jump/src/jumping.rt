@@ -30,7 +30,7 @@ fn jump(code: Code, buf: &[u8], h: usize, n: u32, symbols: &[u8], slice: &mut [u
     ensures list { λ _. ⌜ now (slice .exit) ≡ listed (hitsBelow code h (now (buf .entry)) (now (symbols .entry)) h) (now (slice .entry)) ⌝ }
 {
     let v = window_of(code.k, symbols.len());
-    let mut t = [0u8; 4096];
+    let mut t = [0u8; 8192];
     fill_table(code.k, symbols, v, &mut t);
     let last = lasts(code.k, symbols, v);
     let stops = stops_by_byte(code);

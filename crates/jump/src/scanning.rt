@@ -21,13 +21,13 @@ ghost use Rattle.texts.specs.Paper.Hits.{listed};
 ghost use Rattle.sound.specs.Helpers.Ends.{stopsByByte};
 ghost use Rattle.find.specs.Laws.Hits.{AfterStopper};
 ghost use Rattle.jump.specs.Helpers.Counting.{numberAt, Counts};
-ghost use Rattle.jump.specs.Helpers.Hits.{standsAt, Hit, hitsBelow, Grows};
+ghost use Rattle.jump.specs.Helpers.Hits.{occurs, Hit, hitsBelow, Grows};
 ghost use Rattle.jump.specs.Helpers.Windows.{Fits, Safe, Lasts, firstOf, Skipped};
 
 // Whether symbols stand at symbol a, all of them among the first h.
 fn same(code: Code, buf: &[u8], h: usize, symbols: &[u8], a: usize) -> bool
     requires { ⌜ T (goodCode code) × (h ≤ length (symbolsOf (code .k) (now buf))) × (a + length (now symbols) ≤ h) ⌝ }
-    ensures { λ r. ⌜ r ≡ standsAt code h (now (buf .entry)) (now (symbols .entry)) a ⌝ }
+    ensures { λ r. ⌜ r ≡ occurs code h (now (buf .entry)) (now (symbols .entry)) a ⌝ }
 {
     let k = code.k;
     let mut j = 0;
@@ -51,7 +51,7 @@ fn after_stopper(code: Code, buf: &[u8], a: usize) -> bool
     (get(code.k, buf, a - 1) as u32) < stoppers_at(code, 0)
 }
 
-// Whether a hit starts at symbol a, for which `last` is the last byte of the window that ends with byte e.
+// Whether a hit starts at symbol a.
 fn is_hit(code: Code, buf: &[u8], h: usize, symbols: &[u8], a: usize) -> bool
     requires { ⌜ T (goodCode code) × (h ≤ length (symbolsOf (code .k) (now buf))) × (a < h) × (h ≤ 2 ^ 24) ⌝ }
     ensures { λ r. ⌜ T r ↔ Hit code h (now (buf .entry)) (now (symbols .entry)) a ⌝ }
@@ -108,7 +108,7 @@ fn note(
     }
 }
 
-// Whether a hit starts at symbol a of the window from byte f on. A window's last byte is asked first: it differs at most alignments.
+// Whether a hit starts at symbol a, one of those that the window from byte f on is for. The window's last byte is asked first: at most alignments it is another.
 fn is_hit_in(
     code: Code,
     buf: &[u8],
@@ -131,7 +131,7 @@ fn is_hit_in(
     is_hit(code, buf, h, symbols, a)
 }
 
-// The hits that start in the window from byte f on.
+// The hits at the symbols that the window from byte f on is for.
 fn try_window(
     code: Code,
     stops: &[u8],
@@ -164,15 +164,38 @@ fn try_window(
     found
 }
 
-// The first window from byte `from` on whose key stands in the pattern; or past the last window.
-fn skip(buf: &[u8], v: Window, t: &[u8], full: usize, from: usize) -> usize
-    requires { ⌜ (v .back ≤ 1) × (v .places + v .back ≡ v .wide) × (0 < v .places) × (v .wide ≤ 255) × (length (now t) ≡ 4096) × (full ≤ length (now buf)) × (full ≤ 2 ^ 24) × (from ≤ full) ⌝ }
+// Windows jumped two by two, as long as neither key stands in the pattern: one branch for both.
+fn pass(buf: &[u8], v: Window, t: &[u8], full: usize, from: usize) -> usize
+    requires { ⌜ (v .back ≤ 1) × (v .places + v .back ≡ v .wide) × (0 < v .places) × (v .wide ≤ 255) × (length (now t) ≡ 8192) × (full ≤ length (now buf)) × (full ≤ 2 ^ 24) × (from ≤ full) ⌝ }
     ensures { λ r. ⌜ (from ≤ r) × (r ≤ full) × Skipped (v .wide) (v .back) (v .places) (now (t .entry)) (now (buf .entry)) from r ⌝ }
 {
     let wide = v.wide;
     let back = v.back;
     let places = v.places;
     let mut f = from;
+    while f + places + wide <= full {
+        let first = t[key_at(back, buf, f + wide - 1)] as u32;
+        let second = t[key_at(back, buf, f + places + wide - 1)] as u32;
+        if first + second != 0 {
+            return f;
+        }
+        f += places + places;
+    }
+    f
+}
+
+// Windows jumped up to one whose key stands in the pattern, or past the last. Keys of one byte stand there too often to go two by two.
+fn skip(buf: &[u8], v: Window, t: &[u8], full: usize, from: usize) -> usize
+    requires { ⌜ (v .back ≤ 1) × (v .places + v .back ≡ v .wide) × (0 < v .places) × (v .wide ≤ 255) × (length (now t) ≡ 8192) × (full ≤ length (now buf)) × (full ≤ 2 ^ 24) × (from ≤ full) ⌝ }
+    ensures { λ r. ⌜ (from ≤ r) × (r ≤ full) × Skipped (v .wide) (v .back) (v .places) (now (t .entry)) (now (buf .entry)) from r ⌝ }
+{
+    let wide = v.wide;
+    let back = v.back;
+    let places = v.places;
+    let mut f = from;
+    if back == 1 {
+        f = pass(buf, v, t, full, from);
+    }
     while f + wide <= full {
         if t[key_at(back, buf, f + wide - 1)] != 0 {
             return f;

@@ -10,8 +10,8 @@ ghost use Rattle.symbols.specs.Paper.Symbols.{per};
 ghost use Rattle.symbols.specs.Helpers.Widths.{Width};
 ghost use Rattle.jump.specs.Helpers.Windows.{numberFrom, Fits, keyOf, Upto, Safe, Marks, Lasts};
 
-// A window is `wide` bytes. Each alignment of the pattern fills them but for `free` symbols before its first; the table has keys
-// of one byte, or of two that are `back` apart, at `places` places of the window.
+// A window is `wide` bytes. Each alignment of the pattern fills them but for at most `free` symbols before its first; the table has
+// keys of one byte, or of two that are `back` apart, at `places` places of the window.
 pub struct Window {
     pub wide: usize,
     pub back: usize,
@@ -19,6 +19,7 @@ pub struct Window {
     pub free: usize,
 }
 
+// Some number up to both, and not 0 where neither is.
 fn smaller(a: usize, b: usize) -> usize
     ensures { λ r. ⌜ (r ≤ a) × (r ≤ b) × ((0 < a) → (0 < b) → 0 < r) ⌝ }
 {
@@ -40,21 +41,22 @@ pub fn window_of(k: u8, long: usize) -> Window
     }
 }
 
+// Where the table has a byte y, or y and the byte z behind it.
 fn key(back: usize, y: u8, z: u8) -> usize
     requires { ⌜ back ≤ 1 ⌝ }
-    ensures { λ r. ⌜ (r ≡ keyOf back y z) × (r < 4096) ⌝ }
+    ensures { λ r. ⌜ (r ≡ keyOf back y z) × (r < 8192) ⌝ }
 {
     if back == 0 {
         y as usize
     } else {
-        (y as usize + 256 * z as usize) % 4096
+        (y as usize + 256 * z as usize) % 8192
     }
 }
 
 // The key of the bytes that end with byte e.
 pub fn key_at(back: usize, buf: &[u8], e: usize) -> usize
     requires { ⌜ (back ≤ 1) × (back ≤ e) × (e < length (now buf)) ⌝ }
-    ensures { λ r. ⌜ (r ≡ keyOf back (getD (now (buf .entry)) (e - back) 0) (getD (now (buf .entry)) e 0)) × (r < 4096) ⌝ }
+    ensures { λ r. ⌜ (r ≡ keyOf back (getD (now (buf .entry)) (e - back) 0) (getD (now (buf .entry)) e 0)) × (r < 8192) ⌝ }
 {
     key(back, buf[e - back], buf[e])
 }
@@ -81,7 +83,7 @@ fn number_from(k: u8, symbols: &[u8], j: usize, n: usize) -> u8
     b
 }
 
-// How many bytes differ in their last n symbols.
+// How many rows of n symbols there are: bytes that end alike are so far apart.
 fn step_of(k: u8, n: usize) -> usize
     requires { ⌜ (Width k) × (n ≤ per k) ⌝ }
     ensures { λ r. ⌜ (r ≡ 2 ^ (k * n)) × (256 / r * r ≡ 256) ⌝ }
@@ -89,9 +91,9 @@ fn step_of(k: u8, n: usize) -> usize
     1 << (k as usize * n)
 }
 
-// 1 at the keys of all bytes that end in `head`.
+// 1 at the keys of all `many` bytes that end in `head`, the byte z being behind them.
 fn mark(back: usize, z: u8, head: usize, step: usize, many: usize, t: &mut [u8])
-    requires { ⌜ (back ≤ 1) × (head < step) × (many * step ≡ 256) × (length (now t) ≡ 4096) ⌝ }
+    requires { ⌜ (back ≤ 1) × (head < step) × (many * step ≡ 256) × (length (now t) ≡ 8192) ⌝ }
     ensures { λ _. ⌜ Marks back z head step (now (t .entry)) (now (t .exit)) many ⌝ }
 {
     let mut i = 0;
@@ -119,7 +121,7 @@ fn mark_free(k: u8, symbols: &[u8], v: Window, i: usize, t: &mut [u8])
     mark(back, z, head, step, 256 / step, t);
 }
 
-// The keys at all symbols; those of later places are greater.
+// The keys at all symbols: that of a later place is written over an earlier one.
 fn fill_places(k: u8, symbols: &[u8], v: Window, t: &mut [u8])
     requires { ⌜ (Width k) × (Below (2 ^ k) (now symbols)) × Fits k (length (now symbols)) v × Upto k (v .back) (v .free) (v .places) (now symbols) (now t) (v .free) ⌝ }
     ensures { λ _. ⌜ Safe k v (now (symbols .entry)) (now (t .exit)) ⌝ }

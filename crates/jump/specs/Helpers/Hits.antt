@@ -16,12 +16,12 @@ use Rattle.find.specs.Laws.Hits.{AfterStopper}
 use Rattle.jump.specs.Helpers.Counting.{numberAt}
 
 -- whether symbols stand at symbol a of the first h of a buffer
-abbrev pub standsAt : Code → ℕ → List ℕ → List ℕ → ℕ → Bool
-standsAt c h buf symbols a = stands symbols (drop a (rowUpto c h buf))
+abbrev pub occurs : Code → ℕ → List ℕ → List ℕ → ℕ → Bool
+occurs c h buf symbols a = stands symbols (drop a (rowUpto c h buf))
 
 -- symbol a starts a hit: the symbols stand there, and it is the first or stands after a stopper
 abbrev pub Hit : Code → ℕ → List ℕ → List ℕ → ℕ → Type 0
-Hit c h buf symbols a = T (standsAt c h buf symbols a) × AfterStopper (stoppers c 0) (symbolsOf (c .k) buf) a
+Hit c h buf symbols a = T (occurs c h buf symbols a) × AfterStopper (stoppers c 0) (symbolsOf (c .k) buf) a
 
 -- how many codewords start below symbol a
 unfoldable pub startsBelow : Code → List ℕ → ℕ → ℕ

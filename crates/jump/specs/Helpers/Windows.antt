@@ -16,8 +16,8 @@ byteFrom k row j = byteAt k (drop j row) 0
 abbrev pub numberFrom : ℕ → List ℕ → ℕ → ℕ → ℕ
 numberFrom k row j n = number (2 ^ k) (λ t. getD row (j + t) 0) n
 
--- A window is `wide` bytes. Each alignment of the pattern fills them but for `free` symbols before its first; the table has keys
--- of one byte, or of two that are `back` apart, at `places` places of the window.
+-- A window is `wide` bytes. Each alignment of the pattern fills them but for at most `free` symbols before its first; the table has
+-- keys of one byte, or of two that are `back` apart, at `places` places of the window. A place and one is to fit a byte.
 pub record Fits (k long : ℕ) (v : Window) : Type 0 where
   pub sum : v .places + v .back ≡ v .wide
   pub some : 0 < v .places
@@ -29,7 +29,7 @@ pub record Fits (k long : ℕ) (v : Window) : Type 0 where
 -- where the table has a byte y, or y and the byte z behind it. Any rule would do.
 unfoldable pub keyOf : (back y z : ℕ) → ℕ
 keyOf zero y z = y
-keyOf (suc n) y z = (y + 256 * z) % 4096
+keyOf (suc n) y z = (y + 256 * z) % 8192
 
 -- the key at symbol j of a row
 abbrev pub keyFrom : ℕ → ℕ → List ℕ → ℕ → ℕ
@@ -37,11 +37,11 @@ keyFrom k back row j = keyOf back (byteFrom k row j) (byteFrom k row (j + back *
 
 -- The table has, whatever the free symbols are, each key of the symbols below j with at least its place and one; and no entry is over `most`.
 pub record Upto (k back free most : ℕ) (symbols t : List ℕ) (j : ℕ) : Type 0 where
-  pub long : length t ≡ 4096
+  pub long : length t ≡ 8192
   pub seen : (u : List ℕ) → length u ≡ free → Below (2 ^ k) u → (i : ℕ) → i < j → suc (i / per k) ≤ getD t (keyFrom k back (u ++ symbols) i) 0
   pub under : (x : ℕ) → getD t x 0 ≤ most
 
--- of all symbols at which a window's keys stand
+-- a table that may be gone by: it has the keys at all symbols at which a window's keys stand
 abbrev pub Safe : ℕ → Window → List ℕ → List ℕ → Type 0
 Safe k v symbols t = Upto k (v .back) (v .free) (v .places) symbols t (v .places * per k)
 
@@ -53,11 +53,11 @@ says wide back t buf f = getD t (keyOf back (getD buf (f + wide - 1 - back) 0) (
 abbrev pub firstOf : ℕ → ℕ → ℕ → ℕ
 firstOf k free f = f * per k + free + 1 - per k
 
--- the window's last byte, for each alignment below n
+-- a row of the window's last byte at each alignment below n, by how many symbols stand before the window
 abbrev pub Lasts : ℕ → Window → List ℕ → List ℕ → ℕ → Type 0
 Lasts k v symbols last n = (o : ℕ) → o < n → getD last o 0 ≡ byteFrom k symbols ((v .wide - 1) * per k + o - v .free)
 
--- a table with 1 at the keys of the first n bytes that end in `head`, y behind them being z; `step` is one more than the greatest end
+-- a table with 1 at the keys of the first n bytes that end in `head`, the byte z being behind them; such bytes are `step` apart
 pub record Marks (back z head step : ℕ) (old new : List ℕ) (n : ℕ) : Type 0 where
   pub long : length new ≡ length old
   pub kept : (x : ℕ) → (getD new x 0 ≡ getD old x 0) ⊎ (getD new x 0 ≡ 1)

@@ -34,7 +34,7 @@ use Rattle.find.specs.Laws.Hits.{AfterStopper, starts-after}
 use Rattle.sound.specs.declared.records.Roll.{Roll}
 use Rattle.jump.specs.Helpers.Counting.{numberAt}
 use Rattle.jump.specs.Laws.Counting.{number-upto, number-stopper, number-continuer}
-use Rattle.jump.specs.Helpers.Hits.{standsAt, Hit, startsBelow, hitsBelow}
+use Rattle.jump.specs.Helpers.Hits.{occurs, Hit, startsBelow, hitsBelow}
 
 pub listed-length : (found slice : List ℕ) → length (listed found slice) ≡ length slice
 listed-length found slice = simp (length-append, length-take, length-drop) (omega arith)
@@ -133,14 +133,14 @@ module _ (c : Code) where
       abbrev found : ℕ → List ℕ
       found a = hitsBelow c h buf symbols a
 
-      hits-start : (a : ℕ) → a ≤ h → AfterStopper (st 0) row a → found (suc a) ≡ grown (standsAt c h buf symbols a) (numberAt c buf a) (found a)
+      hits-start : (a : ℕ) → a ≤ h → AfterStopper (st 0) row a → found (suc a) ≡ grown (occurs c h buf symbols a) (numberAt c buf a) (found a)
       unfolding hitsBelow startsBelow
       hits-start a u k =
           let f : ℕ → Bool = standsBehind c buf h symbols in
           let i : ℕ = numberAt c buf a in
           ap (passing f) (sym (add-one i))
-          ∙ passing-more f i (ap (standsAt c h buf symbols) (sym (start-number a (omega arith) k)))
-          ∙ ap (λ (n : ℕ). grown (standsAt c h buf symbols a) i (passing f n)) (sym (starts-here a (omega arith) k))
+          ∙ passing-more f i (ap (occurs c h buf symbols) (sym (start-number a (omega arith) k)))
+          ∙ ap (λ (n : ℕ). grown (occurs c h buf symbols a) i (passing f n)) (sym (starts-here a (omega arith) k))
 
       hits-inside : (a : ℕ) → a < h → (AfterStopper (st 0) row a → ⊥) → found (suc a) ≡ found a
       unfolding hitsBelow
@@ -154,7 +154,7 @@ module _ (c : Code) where
       pub hit-more : (a : ℕ) → a < h → Hit c h buf symbols a → found (a + 1) ≡ found a ++ (numberAt c buf a ∷ [])
       hit-more a u t =
           rw add-one
-          (hits-start a (omega arith) (t .1) ∙ ap (λ (b : Bool). grown b (numberAt c buf a) (found a)) (yes-true (standsAt c h buf symbols a) (t .0)))
+          (hits-start a (omega arith) (t .1) ∙ ap (λ (b : Bool). grown b (numberAt c buf a) (found a)) (yes-true (occurs c h buf symbols a) (t .0)))
 
       pub hit-none : (a : ℕ) → a < h → (Hit c h buf symbols a → ⊥) → found (a + 1) ≡ found a
       hit-none a u n =
@@ -162,12 +162,12 @@ module _ (c : Code) where
           (⊎-elim
           (λ k.
           hits-start a (omega arith) k
-          ∙ ap (λ (b : Bool). grown b (numberAt c buf a) (found a)) (by-value (standsAt c h buf symbols a) (λ e. absurd (n (true-yes _ e, k))) (λ e. e)))
+          ∙ ap (λ (b : Bool). grown b (numberAt c buf a) (found a)) (by-value (occurs c h buf symbols a) (λ e. absurd (n (true-yes _ e, k))) (λ e. e)))
           (λ k. hits-inside a u k)
           (after-or a))
 
       -- no hit starts from symbol a up to symbol e
-      none-by : (a n : ℕ) → a + n ≤ h → ((q : ℕ) → a ≤ q → q < a + n → T (standsAt c h buf symbols q) → ⊥) → found (a + n) ≡ found a
+      none-by : (a n : ℕ) → a + n ≤ h → ((q : ℕ) → a ≤ q → q < a + n → T (occurs c h buf symbols q) → ⊥) → found (a + n) ≡ found a
       none-by a zero u none = rw add-zero
       none-by a (suc n) u none =
           let e : a + suc n ≡ a + n + 1 = omega arith in
@@ -175,7 +175,7 @@ module _ (c : Code) where
           ∙ hit-none (a + n) (omega arith) (λ t. none (a + n) (omega arith) (omega arith) (t .0))
           ∙ none-by a n (omega arith) (λ q x y. none q x (omega arith))
 
-      pub hits-none : (a e : ℕ) → a ≤ e → e ≤ h → ((q : ℕ) → a ≤ q → q < e → T (standsAt c h buf symbols q) → ⊥) → found e ≡ found a
+      pub hits-none : (a e : ℕ) → a ≤ e → e ≤ h → ((q : ℕ) → a ≤ q → q < e → T (occurs c h buf symbols q) → ⊥) → found e ≡ found a
       hits-none a e u v none =
           let f : a + (e - a) ≡ e = omega arith in
           ap found (sym f) ∙ none-by a (e - a) (omega arith) (λ q x y. none q x (omega arith))
@@ -186,7 +186,7 @@ module _ (c : Code) where
 
       -- ---- symbols that stand at symbol a
 
-      module _ (a : ℕ) (u : a < h) (t : T (standsAt c h buf symbols a)) where
+      module _ (a : ℕ) (u : a < h) (t : T (occurs c h buf symbols a)) where
         ahead : drop a (take h row) ≡ symbols ++ stands-front symbols (drop a (take h row)) t .0
         ahead = stands-front symbols (drop a (take h row)) t .1
 

@@ -48,7 +48,7 @@ pub key-zero : (back y z : ℕ) → back ≡ 0 → keyOf back y z ≡ y
 unfolding keyOf
 key-zero back y z e = rw e
 
-pub key-pair : (back y z : ℕ) → back ≡ 1 → keyOf back y z ≡ (y + 256 * z) % 4096
+pub key-pair : (back y z : ℕ) → back ≡ 1 → keyOf back y z ≡ (y + 256 * z) % 8192
 unfolding keyOf
 key-pair back y z e = rw e
 
@@ -134,8 +134,8 @@ div-mono : {i j q : ℕ} → 0 < q → i ≤ j → i / q ≤ j / q
 div-mono {i} {j} {q} h le = le-div-iff-mul-le h .1 (le-trans (div-mul-le-self i q) le)
 
 module _ {k back free most : ℕ} {symbols : List ℕ} where
-  pub upto-none : Upto k back free most symbols (zeros 4096) 0
-  upto-none = record { long = length-zeros 4096; seen = λ u l b i h. absurd (omega arith); under = λ x. rw (getD-zeros 4096 x) (omega arith) }
+  pub upto-none : Upto k back free most symbols (zeros 8192) 0
+  upto-none = record { long = length-zeros 8192; seen = λ u l b i h. absurd (omega arith); under = λ x. rw (getD-zeros 8192 x) (omega arith) }
 
   module _ (w : Width k) {t : List ℕ} {i : ℕ} (a : Upto k back free most symbols t i) where
     -- a free symbol's keys
@@ -169,7 +169,7 @@ module _ {k back free most : ℕ} {symbols : List ℕ} where
             let zero : j / per k ≡ 0 = div-eq-of-lt (omega arith) in
             rw same (omega (arith, at, zero, ap (λ (p : ℕ). p / per k) same))
 
-    pub upto-more : (j x v : ℕ) → Below (2 ^ k) symbols → i ≡ free + j → x ≡ keyFrom k back symbols j → x < 4096 → v ≡ i / per k + 1 → v ≤ most
+    pub upto-more : (j x v : ℕ) → Below (2 ^ k) symbols → i ≡ free + j → x ≡ keyFrom k back symbols j → x < 8192 → v ≡ i / per k + 1 → v ≤ most
         → Upto k back free most symbols (set t x v) (i + 1)
     upto-more j x v bs e ex lt ev le =
         record {

@@ -1,4 +1,4 @@
--- A jump by the table passes over no hit; and how the table comes to be.
+-- A jump by the table passes over no hit.
 use mathlib.Core.Path.{_≡_, refl, sym, ap, _∙_}
 use mathlib.Core.List.{List, _++_}
 use Prim.Native.Nat.{ℕ, suc, _+_, _-_, _*_, _/_, _%_, _^_, _≤_, _<_}
@@ -21,7 +21,7 @@ use Rattle.symbols.specs.Helpers.Widths.{Width}
 use Rattle.symbols.specs.Laws.Width.{per-pos, per-few}
 use Rattle.symbols.specs.Laws.Rows.{symbols-below}
 use Rattle.symbols.specs.Laws.Packing.{number-ext, byte-is}
-use Rattle.jump.specs.Helpers.Hits.{standsAt, hitsBelow}
+use Rattle.jump.specs.Helpers.Hits.{occurs, hitsBelow}
 use Rattle.jump.specs.Helpers.Windows.{byteFrom, Fits, Safe, says, firstOf, Skipped, none, also}
 use Rattle.jump.specs.Laws.Table.{byte-behind}
 use Rattle.jump.specs.Laws.Hits.{hits-none, stands-room, stands-symbol}
@@ -55,7 +55,7 @@ module _ (c : Code) (g : T (goodCode c)) {buf : List ℕ} (bytes : Below 256 buf
   abbrev before : ℕ → List ℕ
   before a = tab (λ x. getD row (a + x - free) 0) 0 free
 
-  module _ (a : ℕ) (u : a < h) (t : T (standsAt c h buf symbols a)) where
+  module _ (a : ℕ) (u : a < h) (t : T (occurs c h buf symbols a)) where
     -- symbol x of the pattern with the free ones before it
     known : (x : ℕ) → free ≤ a + x → x < free + length symbols → getD (before a ++ symbols) x 0 ≡ getD row (a + x - free) 0
     known x v y =
@@ -99,7 +99,7 @@ module _ (c : Code) (g : T (goodCode c)) {buf : List ℕ} (bytes : Below 256 buf
 module _ (c : Code) (g : T (goodCode c)) {buf : List ℕ} (bytes : Below 256 buf) (h : ℕ) (l : h ≤ length (symbolsOf (c .k) buf)) (symbols : List ℕ)
     (v : Window) (fits : Fits (c .k) (length symbols) v) where
   -- a hit at symbol a has the window's last byte that goes with its alignment
-  pub last-byte : (a o f : ℕ) → a < h → T (standsAt c h buf symbols a) → o < per (c .k) → a + o ≡ f * per (c .k) + v .free → 1 < v .wide
+  pub last-byte : (a o f : ℕ) → a < h → T (occurs c h buf symbols a) → o < per (c .k) → a + o ≡ f * per (c .k) + v .free → 1 < v .wide
       → getD buf (f + v .wide - 1) 0 ≡ byteFrom (c .k) symbols ((v .wide - 1) * per (c .k) + o - v .free)
   last-byte a o f u st lo e wide =
       let q : ℕ = per (c .k) in
@@ -119,7 +119,7 @@ module _ (c : Code) (g : T (goodCode c)) {buf : List ℕ} (bytes : Below 256 buf
   q = per (c .k)
 
   -- a hit d bytes on, inside the window
-  inside : (a o f d i : ℕ) → a < h → T (standsAt c h buf symbols a) → o < q → a + o ≡ (f + d) * q + v .free → i + d + 1 ≡ v .places → v .places ≤ says (v .wide) (v .back) t buf f + d
+  inside : (a o f d i : ℕ) → a < h → T (occurs c h buf symbols a) → o < q → a + o ≡ (f + d) * q + v .free → i + d + 1 ≡ v .places → v .places ≤ says (v .wide) (v .back) t buf f + d
   inside a o f d i u st lo e m =
       let w : List ℕ = before c g bytes h l symbols (v .free) a in
       let byte = full-byte c g bytes h l symbols (v .free) a u st in
@@ -134,7 +134,7 @@ module _ (c : Code) (g : T (goodCode c)) {buf : List ℕ} (bytes : Below 256 buf
       = rw (x, y) (safe .seen w (before-long c g bytes h l symbols (v .free) a) (before-below c g bytes h l symbols (v .free) a) (i * q + o) b) in
       omega (arith, digits-div i lo)
 
-  jump-past : (a o s f : ℕ) → a < h → T (standsAt c h buf symbols a) → o < q → a + o ≡ s * q + v .free → f ≤ s → f + (v .places - says (v .wide) (v .back) t buf f) ≤ s
+  jump-past : (a o s f : ℕ) → a < h → T (occurs c h buf symbols a) → o < q → a + o ≡ s * q + v .free → f ≤ s → f + (v .places - says (v .wide) (v .back) t buf f) ≤ s
   jump-past a o s f u st lo e le =
       elim (decLt (s - f) (v .places)) [
         | yes y ↦

@@ -1,5 +1,6 @@
 -- `jump::scanning::skip` meets its contract.
 use mathlib.Core.Path.{sym, ap, _∙_}
+use mathlib.Core.Logic.{⊎-elim}
 use Prim.Native.Nat.{ℕ, _+_, _-_, _≤_}
 use native.Mathlib.Omega.{arith}
 use borrow.Author.Needs.{needs}
@@ -16,14 +17,17 @@ abbrev μ-loop : tie.MeasureT-loop
 μ-loop buf t full from wide back places f₀ f = full + 1 - f
 
 loop-holds : tie.Need-loop-holds Inv-loop μ-loop
-loop-holds c = (omega arith, c .before .before .pre .7, none)
+loop-holds c =
+    let s = c .before .before .before in
+    ⊎-elim (λ w. rw (w .2) (w .1 .ensures)) (λ w. rw (w .1) (omega arith, s .pre .7, none)) (c .if1 .came)
 
 loop-again : tie.Need-loop-again Inv-loop μ-loop
 loop-again c =
-    let l = c .before .before .before .before in
-    let s = l .before .before .before in
-    let e = ap (λ (n : ℕ). getD (s .args .t .now) n 0) (sym (c .before .before .key-at .ensures .0)) ∙ c .if1 .left in
-    (omega (arith, l .loop .inv .0), omega (arith, s .pre .1, c .before .before .before .loop-test .taken), also (l .loop .inv .2) e)
+    let n = c .before .before .before .before in
+    let l = n .before in
+    let s = l .before .before .before .before in
+    let e = ap (λ (i : ℕ). getD (s .args .t .now) i 0) (sym (c .before .before .key-at .ensures .0)) ∙ c .if2 .left in
+    (omega (arith, l .loop .inv .0), omega (arith, s .pre .1, n .loop-test .taken), also (l .loop .inv .2) e)
 
 pub skip-spec : {M : Type 1} → statement M
 skip-spec =
@@ -31,6 +35,7 @@ skip-spec =
     (tie.spec
     Inv-loop
     μ-loop
+    (λ c κs. search needs)
     loop-holds
     (λ c. search needs)
     (λ c. search needs)
