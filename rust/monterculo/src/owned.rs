@@ -211,6 +211,9 @@ impl OwnedRoll {
 
     /// All places where a pattern of 1 to 64 characters stands, ascending, overlapping ones too.
     ///
+    /// This one goes from character to character. [`OwnedRoll::find_jumping`] gives the same: take that one for long rolls
+    /// and patterns of four characters or more.
+    ///
     /// Refusals: 11 (0).
     ///
     /// ```
@@ -228,7 +231,8 @@ impl OwnedRoll {
     /// The same places by another way: it answers what [`OwnedRoll::find`] does, and jumps over most of the bytes.
     ///
     /// Take it for long rolls and patterns of four characters or more, and [`OwnedRoll::find`] where stack is scarce, as
-    /// this one takes more of it.
+    /// this one takes more of it. A pattern of too few symbols to jump by, fewer than 4 with k 2 and one with k 4, is
+    /// sought by the plain search inside.
     ///
     /// Refusals: 11 (0).
     ///

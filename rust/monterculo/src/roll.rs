@@ -190,7 +190,8 @@ impl Roll {
     ///
     /// The total may be more than `hits` holds. It is 0 if a character of the pattern is not in the table.
     ///
-    /// This one goes from character to character. In long rolls [`Roll::search_jumping`] is faster for most patterns.
+    /// This one goes from character to character. [`Roll::search_jumping`] answers the same: take that one for long rolls
+    /// and patterns of four characters or more, and this one for other searches and where stack is scarce.
     ///
     /// Refusals, in their order: those of [`Roll::check`], then 11 (0).
     ///
@@ -211,7 +212,8 @@ impl Roll {
     /// It jumps over most of the bytes.
     ///
     /// Take it for long rolls and patterns of four characters or more. Take [`Roll::search`] where stack is scarce, as
-    /// this one takes more of it. Where the pattern has too few symbols to jump by, the plain search serves inside.
+    /// this one takes more of it. A pattern of too few symbols to jump by, fewer than 4 with k 2 and one with k 4, is
+    /// sought by the plain search inside.
     ///
     /// Refusals, in their order: those of [`Roll::check`], then 11 (0).
     ///
@@ -229,7 +231,10 @@ impl Roll {
         sys::search_jumping(self.record(), buf, pattern, hits).narrow(Given { text: pattern, ..self.given() })
     }
 
-    /// All places where a pattern of 1 to 64 characters stands, ascending, overlapping ones too. This one allocates.
+    /// All places where a pattern of 1 to 64 characters stands, ascending, overlapping ones too, by [`Roll::search`]. This
+    /// one allocates.
+    ///
+    /// [`Roll::find_jumping`] gives the same: take that one for long rolls and patterns of four characters or more.
     ///
     /// Refusals: those of [`Roll::search`].
     ///
@@ -244,7 +249,7 @@ impl Roll {
         all_of(|hits| self.search(buf, pattern, hits))
     }
 
-    /// What [`Roll::find`] gives, by [`Roll::search_jumping`]. This one allocates.
+    /// What [`Roll::find`] gives, by [`Roll::search_jumping`], which says when to take it. This one allocates.
     ///
     /// Refusals: those of [`Roll::search`].
     ///

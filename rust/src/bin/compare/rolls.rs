@@ -12,6 +12,11 @@ pub fn per_byte(k: u8) -> usize {
     8 / usize::from(k)
 }
 
+/// Whether the search that jumps has a window for so many symbols, one byte at least; fewer are sought by the plain one.
+pub fn fills_window(k: u8, symbols: usize) -> bool {
+    symbols >= per_byte(k)
+}
+
 pub fn bytes_for(k: u8, symbols: usize) -> usize {
     (symbols + per_byte(k) - 1) / per_byte(k)
 }

@@ -10,7 +10,7 @@ use crate::operation::{Answered, Cases, Corners, Operation};
 #[cfg(test)]
 use crate::planted::{good_if_wrapped, says};
 use crate::rng::Rng;
-use crate::rolls::{per_byte, roll_of, starts};
+use crate::rolls::{fills_window, per_byte, roll_of, starts};
 use crate::tables::{characters, lengths, table_to_search};
 use crate::texts::pattern;
 
@@ -208,7 +208,11 @@ impl Operation for Search {
             let matches = symbols.windows(packed.len()).filter(|&at| at == packed).count();
             met.meet(matches > total, "searches with the symbols also where no hit is");
             let per = per_byte(roll.table.k);
-            met.meet(total > 0 && packed.len() + 1 < 2 * per, "patterns found with too few symbols to jump by");
+            let in_window = total > 0 && fills_window(roll.table.k, packed.len());
+            met.meet(total > 0 && !in_window, "patterns found with too few symbols to jump by");
+            met.meet(in_window && packed.len() < 2 * per, "patterns found by windows of one byte");
+            met.meet(in_window && packed.len() / per == 2, "patterns found by windows of two bytes");
+            met.meet(in_window && packed.len() / per > 255, "patterns found that fill more than the widest window");
             let starts = starts(roll, buf);
             let inside = |&hit: &u32| starts[hit as usize] as usize % per != 0;
             met.meet(all.iter().any(inside), "searches with hits from inside a byte on");

@@ -70,24 +70,37 @@ impl Operation for SearchJumping {
         "writes though refused",
         "passes what is refused",
         "by jumps: jumps a byte too far",
-        "by jumps: makes its table for the first lead alone",
-        "by jumps: leaves the last lead out of its table",
-        "by jumps: keeps the first shift of a byte",
-        "by jumps: takes every whole byte",
+        "by jumps: jumps by a whole window",
+        "by jumps: makes its table for one alignment",
+        "by jumps: leaves an alignment out of its table",
+        "by jumps: leaves keys at free symbols out",
+        "by jumps: takes free symbols to be 0",
+        "by jumps: marks keys at free symbols last",
+        "by jumps: keeps the first place of a key",
+        "by jumps: makes its entries one too small",
+        "by jumps: makes an alignment's entries one too small",
+        "by jumps: counts places from the pattern's first symbol",
+        "by jumps: takes windows of over 255 bytes",
+        "by jumps: does not try the first alignment",
+        "by jumps: does not try the last alignment",
         "by jumps: begins with a byte alone",
-        "by jumps: takes one lead of a window",
+        "by jumps: takes one hit of a window",
         "by jumps: leaves out the first window",
         "by jumps: passes over a match at the first symbol",
-        "by jumps: asks for a whole byte before",
+        "by jumps: passes over a window with fewer alignments",
         "by jumps: leaves out the last byte",
         "by jumps: leaves out the last symbol",
-        "by jumps: compares whole bytes alone",
-        "by jumps: compares nothing before the whole bytes",
-        "by jumps: compares nothing behind the whole bytes",
-        "by jumps: takes a match behind a continuer",
+        "by jumps: compares a window's symbols alone",
+        "by jumps: compares nothing before a window",
+        "by jumps: compares nothing behind a window",
+        "by jumps: asks for the last byte of another alignment",
+        "by jumps: asks for the last byte where it may be free",
+        "by jumps: takes a hit behind a continuer",
         "by jumps: goes on a window behind a hit",
-        "by jumps: numbers by the first whole byte",
-        "by jumps: numbers by the byte before",
+        "by jumps: numbers by the window",
+        "by jumps: numbers by whole bytes alone",
+        "by jumps: counts whole blocks alone",
+        "by jumps: counts from the end one off",
         "by jumps: reads behind h",
         "by jumps: keeps h in 16 bits",
         "by jumps: finds nothing of too few symbols",
@@ -100,11 +113,14 @@ impl Operation for SearchJumping {
         let by_jumps = error.strip_prefix("by jumps: ");
         let mut jumping = self.0.wrong(error, &mut slice);
         if let (Some(error), 0) = (by_jumps, jumping.number) {
+            let Search { roll, buf, jumping: lent, .. } = &self.0;
             let packed = self.0.packed();
-            if let Some(all) = packed.and_then(|packed| jumping::hits(&self.0.roll, &self.0.buf, &packed, error)) {
-                slice = self.0.jumping.clone();
-                slice.iter_mut().zip(&all).for_each(|(entry, &hit)| *entry = hit);
-                jumping = says(0, all.len());
+            if let Some((listed, total)) =
+                packed.and_then(|packed| jumping::hits(roll, buf, &packed, lent.len(), error))
+            {
+                slice = lent.clone();
+                slice[..listed.len()].copy_from_slice(&listed);
+                jumping = says(0, total);
             }
         }
         let both = self.0.reference();
@@ -130,9 +146,13 @@ fn table(rng: &mut Rng) -> Table {
     table_with(rng, k, s, sigma)
 }
 
-/// What is sought, by ranks: of 1, 2, 3, 64 or any number of characters; all alike, two by turns, or any.
+/// What is sought, by ranks: of 1 to 8 symbols, or of 1, 2, 3, 64 or any number of characters; all alike, two by turns,
+/// of the longest codewords, or any.
 fn sought(rng: &mut Rng, table: &Table) -> Vec<usize> {
     let sigma = usize::from(table.sigma);
+    if rng.one_in(4) {
+        return of_few_symbols(rng, table);
+    }
     let any = rng.between(1, PATTERN);
     let few = rng.between(4, 12);
     let length = rng.pick(&[1, 2, 3, few, few, any, any, PATTERN]);
@@ -149,7 +169,23 @@ fn sought(rng: &mut Rng, table: &Table) -> Vec<usize> {
             let codeword = &list.codewords[sigma - 1 - rng.below(sigma.min(3))];
             sought[0] = list.rank(&codeword[rng.below(codeword.len())..]).expect("the end of a codeword is one");
         }
+        // The longest codewords, which may fill more than the widest window.
+        4 => sought.iter_mut().for_each(|rank| *rank = sigma - 1 - rng.below(sigma.min(3))),
         _ => {}
+    }
+    sought
+}
+
+/// Ranks of 1 to 8 symbols: too few for a window, or windows of one byte to four.
+fn of_few_symbols(rng: &mut Rng, table: &Table) -> Vec<usize> {
+    let list = listing(table.k, table.s);
+    let mut left = rng.between(1, 8);
+    let mut sought = Vec::new();
+    while left > 0 {
+        // Rank 0 takes one symbol, later ones as many or more.
+        let rank = rng.below(ranks_up_to(table.k, table.s, left).min(usize::from(table.sigma)));
+        left -= list.codewords[rank].len();
+        sought.push(rank);
     }
     sought
 }
@@ -263,11 +299,11 @@ fn make(rng: &mut Rng) -> SearchJumping {
 
 #[cfg(test)]
 mod tests {
-    use std::collections::BTreeSet;
+    use std::collections::{BTreeMap, BTreeSet};
 
     use super::*;
     use crate::operation::{Case, Library};
-    use crate::rolls::starts;
+    use crate::rolls::{fills_window, starts};
 
     #[test]
     fn by_jumps_without_an_error_it_is_the_reference() {
@@ -281,6 +317,7 @@ mod tests {
     fn hits_come_in_every_way() {
         let (mut codes, mut places, mut lengths, mut ends) =
             (BTreeSet::new(), BTreeSet::new(), BTreeSet::new(), BTreeSet::new());
+        let mut few = BTreeMap::new();
         for call in 0..3_000 {
             let SearchJumping(mut case) = make(&mut Rng::of_call(5, call));
             let before = case.clone();
@@ -290,7 +327,9 @@ mod tests {
             }
             let (table, n, length) = (case.roll.table, case.roll.n as usize, case.pattern.len());
             let per = per_byte(table.k);
-            let long = before.packed().map_or(false, |packed| packed.len() + 1 >= 2 * per);
+            let symbols = before.packed().map_or(0, |packed| packed.len());
+            let long = fills_window(table.k, symbols);
+            *few.entry((table.k, symbols)).or_insert(0) += 1;
             let starts = starts(&case.roll, &case.buf);
             let mut all = vec![0; n];
             let found = plain.value as usize;
@@ -309,6 +348,9 @@ mod tests {
         }
         // Each code, with patterns to jump by and with shorter ones.
         assert_eq!(codes.len(), 2 * 18);
+        assert!([2, 4]
+            .iter()
+            .all(|&k| (1..=8).all(|symbols| few.get(&(k, symbols)).map_or(false, |&times| times >= 20))));
         assert_eq!(places.len(), 4 * 4 + 2 * 2);
         assert!([2, 4].iter().all(|&k| [1, 2, 3, 63, PATTERN].iter().all(|&length| lengths.contains(&(k, length)))));
         assert_eq!(ends.len(), 2 * 4);
