@@ -10,6 +10,9 @@ use monterculo_reference::reference::symbols_of;
 
 use crate::rolls::{fills_window, per_byte};
 
+/// So many keys there are.
+const KEYS: usize = 8192;
+
 /// So many bytes are counted at once.
 const BLOCK: usize = 48;
 
@@ -35,7 +38,7 @@ impl Window {
     fn key(&self, y: usize, z: usize) -> usize {
         match self.back {
             0 => y,
-            _ => (y + 256 * z) % 4096,
+            _ => (y + 256 * z) % KEYS,
         }
     }
 
@@ -46,7 +49,7 @@ impl Window {
         if error == "marks keys at free symbols last" {
             order.rotate_left(free);
         }
-        let mut table = vec![0; 4096];
+        let mut table = vec![0; KEYS];
         for at in order {
             let (place, alignment) = (at / per, at % per);
             // The byte there begins with so many free symbols; behind them with this one of the pattern.
@@ -159,13 +162,28 @@ pub fn hits(roll: &Roll, buf: &[u8], packed: &[u8], entries: usize, error: &str)
 
     let (mut listed, mut total) = (Vec::new(), 0);
     let mut f = usize::from(error == "leaves out the first window");
+    let entry_at = |last: usize| table[window.key(usize::from(buf[last - back]), usize::from(buf[last]))];
+    let step = if error == "jumps by a whole window" { wide } else { places };
     while f + wide <= full {
         let last = f + wide - 1;
-        let entry = table[window.key(usize::from(buf[last - back]), usize::from(buf[last]))];
+        // Windows with keys of two bytes are jumped two by two where neither key stands in the pattern.
+        if back == 1 && last + places < full {
+            let (first, second) = (entry_at(last), entry_at(last + places));
+            let neither = match error {
+                "asks the first of two windows" => first == 0,
+                "asks the second of two windows" => second == 0,
+                _ => first + second == 0,
+            };
+            if neither {
+                f += 2 * step;
+                continue;
+            }
+        }
+        let entry = entry_at(last);
         if entry < places {
             f += match error {
                 "jumps a byte too far" => places - entry + 1,
-                "jumps by a whole window" if entry == 0 => wide,
+                _ if entry == 0 => step,
                 _ => places - entry,
             };
             continue;

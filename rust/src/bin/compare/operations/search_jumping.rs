@@ -71,6 +71,8 @@ impl Operation for SearchJumping {
         "passes what is refused",
         "by jumps: jumps a byte too far",
         "by jumps: jumps by a whole window",
+        "by jumps: asks the first of two windows",
+        "by jumps: asks the second of two windows",
         "by jumps: makes its table for one alignment",
         "by jumps: leaves an alignment out of its table",
         "by jumps: leaves keys at free symbols out",
