@@ -12,9 +12,9 @@ use symbols::symbol::get;
 ghost use mathlib.Core.Path.{_≡_};
 ghost use mathlib.Core.Logic.{_↔_};
 ghost use mathlib.Core.List.{List, [], _∷_, _++_};
-ghost use Prim.Native.Nat.{ℕ, _+_, _*_, _^_, _≤_, _<_};
+ghost use Prim.Native.Nat.{ℕ, _+_, _-_, _*_, _^_, _≤_, _<_};
 ghost use lib.Dec.{T};
-ghost use lib.ListN.{length};
+ghost use lib.ListN.{length, getD};
 ghost use Rattle.stopper.specs.Paper.Table.{stoppers, goodCode};
 ghost use Rattle.symbols.specs.Paper.Symbols.{per, symbolsOf};
 ghost use Rattle.texts.specs.Paper.Hits.{listed};
@@ -22,7 +22,7 @@ ghost use Rattle.sound.specs.Helpers.Ends.{stopsByByte};
 ghost use Rattle.find.specs.Laws.Hits.{AfterStopper};
 ghost use Rattle.jump.specs.Helpers.Counting.{numberAt, Counts};
 ghost use Rattle.jump.specs.Helpers.Hits.{occurs, Hit, hitsBelow, Grows};
-ghost use Rattle.jump.specs.Helpers.Windows.{Fits, Safe, Lasts, firstOf, Skipped};
+ghost use Rattle.jump.specs.Helpers.Windows.{Fits, Safe, Lasts, firstOf, says, Skipped};
 
 // Whether symbols stand at symbol a, all of them among the first h.
 fn same(code: Code, buf: &[u8], h: usize, symbols: &[u8], a: usize) -> bool
@@ -164,45 +164,76 @@ fn try_window(
     found
 }
 
-// Windows jumped two by two, as long as neither key stands in the pattern: one branch for both.
-fn pass(buf: &[u8], v: Window, t: &[u8], full: usize, from: usize) -> usize
-    requires { ⌜ (v .back ≤ 1) × (v .places + v .back ≡ v .wide) × (0 < v .places) × (v .wide ≤ 255) × (length (now t) ≡ 8192) × (full ≤ length (now buf)) × (full ≤ 2 ^ 24) × (from ≤ full) ⌝ }
-    ensures { λ r. ⌜ (from ≤ r) × (r ≤ full) × Skipped (v .wide) (v .back) (v .places) (now (t .entry)) (now (buf .entry)) from r ⌝ }
+// What the table says of the window that ends with byte e.
+fn place_at(back: usize, t: &[u8], buf: &[u8], e: usize) -> usize
+    requires { ⌜ (back ≤ 1) × (length (now t) ≡ 8192) × (back ≤ e) × (e < length (now buf)) ⌝ }
+    ensures { λ r. ⌜ (r ≡ says back (now (t .entry)) (now (buf .entry)) e) × (r ≤ 255) ⌝ }
 {
-    let wide = v.wide;
-    let back = v.back;
-    let places = v.places;
-    let mut f = from;
-    while f + places + wide <= full {
-        let first = t[key_at(back, buf, f + wide - 1)] as u32;
-        let second = t[key_at(back, buf, f + places + wide - 1)] as u32;
-        if first + second != 0 {
-            return f;
-        }
-        f += places + places;
-    }
-    f
+    t[key_at(back, buf, e)] as usize
 }
 
-// Windows jumped up to one whose key stands in the pattern, or past the last. Keys of one byte stand there too often to go two by two.
-fn skip(buf: &[u8], v: Window, t: &[u8], full: usize, from: usize) -> usize
-    requires { ⌜ (v .back ≤ 1) × (v .places + v .back ≡ v .wide) × (0 < v .places) × (v .wide ≤ 255) × (length (now t) ≡ 8192) × (full ≤ length (now buf)) × (full ≤ 2 ^ 24) × (from ≤ full) ⌝ }
-    ensures { λ r. ⌜ (from ≤ r) × (r ≤ full) × Skipped (v .wide) (v .back) (v .places) (now (t .entry)) (now (buf .entry)) from r ⌝ }
+// How far to go from a window whose key stands at `place` last: if it stands nowhere, past the window, and then as far as from the next on.
+fn ahead_of(places: usize, place: usize, beyond: usize) -> usize
+    requires { ⌜ (place ≤ places) × (places ≤ 255) × (beyond ≤ 765) ⌝ }
+    ensures { λ r. ⌜ ((place ≡ 0) → r ≡ places + beyond) × ((0 < place) → r ≡ places - place) × (r ≤ places + beyond) ⌝ }
 {
-    let wide = v.wide;
-    let back = v.back;
-    let places = v.places;
-    let mut f = from;
-    if back == 1 {
-        f = pass(buf, v, t, full, from);
+    if place == 0 {
+        places + beyond
+    } else {
+        places - place
     }
-    while f + wide <= full {
-        if t[key_at(back, buf, f + wide - 1)] != 0 {
-            return f;
+}
+
+// Windows with keys of two bytes, jumped from the one that ends with byte `from` on, as long as three more follow: one branch for four where no key stands in the pattern.
+fn pass(buf: &[u8], places: usize, t: &[u8], full: usize, from: usize) -> usize
+    requires { ⌜ (0 < places) × (places ≤ 255) × (length (now t) ≡ 8192) × ((x : ℕ) → getD (now t) x 0 ≤ places) × (full ≤ length (now buf)) × (full ≤ 2 ^ 24) × (0 < from) × (from ≤ full + places) ⌝ }
+    ensures { λ r. ⌜ (from ≤ r) × (r ≤ full + places) × Skipped 1 places (now (t .entry)) (now (buf .entry)) from r ⌝ }
+{
+    let mut e = from;
+    while e + 3 * places < full {
+        let second = e + places;
+        let third = second + places;
+        let fourth = third + places;
+        let at_first = place_at(1, t, buf, e);
+        let at_second = place_at(1, t, buf, second);
+        let at_third = place_at(1, t, buf, third);
+        let at_fourth = place_at(1, t, buf, fourth);
+        if at_first + at_second + at_third + at_fourth == 0 {
+            e = fourth + places;
+        } else {
+            let from_third = ahead_of(places, at_third, places - at_fourth);
+            let from_second = ahead_of(places, at_second, from_third);
+            let ahead = ahead_of(places, at_first, from_second);
+            if ahead == 0 {
+                return e;
+            }
+            e += ahead;
         }
-        f += places;
     }
-    f
+    e
+}
+
+// Windows jumped from the one that ends with byte `from` on, up to one whose last key is the pattern's last, or past the last. The usual jump is the same for all, so that it waits for no table.
+fn skip(buf: &[u8], back: usize, places: usize, t: &[u8], full: usize, from: usize) -> usize
+    requires { ⌜ (back ≤ 1) × (0 < places) × (places ≤ 255) × (length (now t) ≡ 8192) × ((x : ℕ) → getD (now t) x 0 ≤ places) × (full ≤ length (now buf)) × (full ≤ 2 ^ 24) × (back ≤ from) × (from < full + (places + back)) ⌝ }
+    ensures { λ r. ⌜ (from ≤ r) × (r < full + (places + back)) × Skipped back places (now (t .entry)) (now (buf .entry)) from r ⌝ }
+{
+    let mut e = from;
+    if back == 1 {
+        e = pass(buf, places, t, full, from);
+    }
+    while e < full {
+        let place = place_at(back, t, buf, e);
+        if place == 0 {
+            e += places;
+        } else {
+            if place == places {
+                return e;
+            }
+            e += places - place;
+        }
+    }
+    e
 }
 
 // All windows: the total of all hits; the first of them are listed as far as the slice goes.
@@ -231,16 +262,11 @@ pub fn scan(
         next: 0,
         ended: 0,
     };
-    let mut f = skip(buf, v, t, full, 0);
-    while f + wide <= full {
-        let place = t[key_at(back, buf, f + wide - 1)] as usize;
-        if place < places {
-            f += places - place;
-        } else {
-            found = try_window(code, stops, buf, h, n, symbols, v, last, f, found, slice);
-            f += 1;
-        }
-        f = skip(buf, v, t, full, f);
+    let mut e = skip(buf, back, places, t, full, wide - 1);
+    while e < full {
+        let f = e + 1 - wide;
+        found = try_window(code, stops, buf, h, n, symbols, v, last, f, found, slice);
+        e = skip(buf, back, places, t, full, e + 1);
     }
     found.total
 }

@@ -49,7 +49,7 @@ fn key(back: usize, y: u8, z: u8) -> usize
     if back == 0 {
         y as usize
     } else {
-        (y as usize + 256 * z as usize) % 8192
+        (y as usize + 256 * z as usize) * 2654435761 % 4294967296 / 524288
     }
 }
 

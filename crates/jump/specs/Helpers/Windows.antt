@@ -26,10 +26,10 @@ pub record Fits (k long : ℕ) (v : Window) : Type 0 where
   pub filled : v .wide * per k + (per k - 1) ≤ v .free + long
   pub small : v .wide ≤ 255
 
--- where the table has a byte y, or y and the byte z behind it. Any rule would do.
+-- where the table has a byte y, or y and the byte z behind it: 13 bits of a product into which all of theirs go. Any rule would do.
 unfoldable pub keyOf : (back y z : ℕ) → ℕ
 keyOf zero y z = y
-keyOf (suc n) y z = (y + 256 * z) % 8192
+keyOf (suc n) y z = (y + 256 * z) * 2654435761 % 4294967296 / 524288
 
 -- the key at symbol j of a row
 abbrev pub keyFrom : ℕ → ℕ → List ℕ → ℕ → ℕ
@@ -45,9 +45,9 @@ pub record Upto (k back free most : ℕ) (symbols t : List ℕ) (j : ℕ) : Type
 abbrev pub Safe : ℕ → Window → List ℕ → List ℕ → Type 0
 Safe k v symbols t = Upto k (v .back) (v .free) (v .places) symbols t (v .places * per k)
 
--- what the table says of the window that starts at byte f
-abbrev pub says : (wide back : ℕ) → List ℕ → List ℕ → ℕ → ℕ
-says wide back t buf f = getD t (keyOf back (getD buf (f + wide - 1 - back) 0) (getD buf (f + wide - 1) 0)) 0
+-- what the table says of the window that ends with byte e
+abbrev pub says : (back : ℕ) → List ℕ → List ℕ → ℕ → ℕ
+says back t buf e = getD t (keyOf back (getD buf (e - back) 0) (getD buf e 0)) 0
 
 -- the first symbol that a window from byte f on is for
 abbrev pub firstOf : ℕ → ℕ → ℕ → ℕ
@@ -63,7 +63,7 @@ pub record Marks (back z head step : ℕ) (old new : List ℕ) (n : ℕ) : Type 
   pub kept : (x : ℕ) → (getD new x 0 ≡ getD old x 0) ⊎ (getD new x 0 ≡ 1)
   pub seen : (i : ℕ) → i < n → getD new (keyOf back (i * step + head) z) 0 ≡ 1
 
--- windows jumped from byte `from` on, whose keys stand nowhere in the pattern
-pub data Skipped (wide back places : ℕ) (t buf : List ℕ) (from : ℕ) : ℕ → Type 0 where
-  none : Skipped wide back places t buf from from
-  also : {f : ℕ} → Skipped wide back places t buf from f → says wide back t buf f ≡ 0 → Skipped wide back places t buf from (f + places)
+-- windows jumped, each as far as the table says, from the one that ends with byte `from` on
+pub data Skipped (back places : ℕ) (t buf : List ℕ) (from : ℕ) : ℕ → Type 0 where
+  none : Skipped back places t buf from from
+  also : {e : ℕ} → Skipped back places t buf from e → (to : ℕ) → to ≡ e + (places - says back t buf e) → Skipped back places t buf from to

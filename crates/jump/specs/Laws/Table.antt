@@ -48,7 +48,7 @@ pub key-zero : (back y z : ℕ) → back ≡ 0 → keyOf back y z ≡ y
 unfolding keyOf
 key-zero back y z e = rw e
 
-pub key-pair : (back y z : ℕ) → back ≡ 1 → keyOf back y z ≡ (y + 256 * z) % 8192
+pub key-pair : (back y z : ℕ) → back ≡ 1 → keyOf back y z ≡ (y + 256 * z) * 2654435761 % 4294967296 / 524288
 unfolding keyOf
 key-pair back y z e = rw e
 

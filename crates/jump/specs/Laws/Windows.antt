@@ -1,7 +1,7 @@
 -- A jump by the table passes over no hit.
-use mathlib.Core.Path.{_≡_, refl, sym, ap, _∙_}
+use mathlib.Core.Path.{_≡_, refl, sym, ap, subst, _∙_}
 use mathlib.Core.List.{List, _++_}
-use Prim.Native.Nat.{ℕ, suc, _+_, _-_, _*_, _/_, _%_, _^_, _≤_, _<_}
+use Prim.Native.Nat.{ℕ, zero, suc, _+_, _-_, _*_, _/_, _%_, _^_, _≤_, _<_}
 use native.Mathlib.Nat.{le-refl, mul-le-mul-right, mul-le-mul, div-add-mod', mod-lt, le-div-iff-mul-le, div-lt-iff-lt-mul}
 use native.Mathlib.Decide.{decLt}
 use native.Mathlib.Omega.{arith}
@@ -38,6 +38,26 @@ module _ {k long : ℕ} (w : Width k) {v : Window} (f : Fits k long v) where
 
   pub window-small : v .wide * per k ≤ 1020
   window-small = omega (arith, mul-le-mul {n₁ = v .wide} {m₁ = per k} {n₂ = 255} {m₂ = 4} (f .small) (per-few w))
+
+-- ---- windows jumped
+
+module _ {back places : ℕ} {t buf : List ℕ} where
+  skipped-on : {from to : ℕ} → Skipped back places t buf from to → from ≤ to
+  skipped-on none = omega arith
+  skipped-on (also s to e) = omega (arith, skipped-on s, e)
+
+  -- on from where others end
+  pub skipped-then : {from e to : ℕ} → Skipped back places t buf from e → Skipped back places t buf e to → Skipped back places t buf from to
+  skipped-then p none = p
+  skipped-then p (also s to e) = also (skipped-then p s) to e
+
+  -- from a window that the table says `place` of: as far as that, or past it and on from the next
+  pub skipped-ahead : (e place beyond ahead : ℕ) → says back t buf e ≡ place → Skipped back places t buf (e + places) (e + places + beyond)
+      → (place ≡ 0 → ahead ≡ places + beyond) → (0 < place → ahead ≡ places - place) → Skipped back places t buf e (e + ahead)
+  skipped-ahead e zero beyond ahead z p past there =
+      let f : e + places + beyond ≡ e + ahead = omega (arith, past refl) in
+      subst (Skipped back places t buf e) f (skipped-then (also none (e + places) (omega (arith, z))) p)
+  skipped-ahead e (suc place) beyond ahead z p past there = also none (e + ahead) (omega (arith, z, there (omega arith)))
 
 -- ---- where a pattern stands its symbols fill the bytes of the text
 
@@ -119,7 +139,7 @@ module _ (c : Code) (g : T (goodCode c)) {buf : List ℕ} (bytes : Below 256 buf
   q = per (c .k)
 
   -- a hit d bytes on, inside the window
-  inside : (a o f d i : ℕ) → a < h → T (occurs c h buf symbols a) → o < q → a + o ≡ (f + d) * q + v .free → i + d + 1 ≡ v .places → v .places ≤ says (v .wide) (v .back) t buf f + d
+  inside : (a o f d i : ℕ) → a < h → T (occurs c h buf symbols a) → o < q → a + o ≡ (f + d) * q + v .free → i + d + 1 ≡ v .places → v .places ≤ says (v .back) t buf (f + v .wide - 1) + d
   inside a o f d i u st lo e m =
       let w : List ℕ = before c g bytes h l symbols (v .free) a in
       let byte = full-byte c g bytes h l symbols (v .free) a u st in
@@ -130,11 +150,11 @@ module _ (c : Code) (g : T (goodCode c)) {buf : List ℕ} (bytes : Below 256 buf
       let y : getD buf (f + v .wide - 1) 0 ≡ byteFrom (c .k) (w ++ symbols) (i * q + o + v .back * q)
       = ap (λ (n : ℕ). getD buf n 0) (omega (arith, fits .sum)) ∙ byte o (f + d) (i + v .back) e (omega (arith, fits .filled)) ∙ ap (byteFrom (c .k) (w ++ symbols)) p in
       let b : i * q + o < v .places * q = digits-lt (omega arith) lo in
-      let n : suc ((i * q + o) / q) ≤ says (v .wide) (v .back) t buf f
+      let n : suc ((i * q + o) / q) ≤ says (v .back) t buf (f + v .wide - 1)
       = rw (x, y) (safe .seen w (before-long c g bytes h l symbols (v .free) a) (before-below c g bytes h l symbols (v .free) a) (i * q + o) b) in
       omega (arith, digits-div i lo)
 
-  jump-past : (a o s f : ℕ) → a < h → T (occurs c h buf symbols a) → o < q → a + o ≡ s * q + v .free → f ≤ s → f + (v .places - says (v .wide) (v .back) t buf f) ≤ s
+  jump-past : (a o s f : ℕ) → a < h → T (occurs c h buf symbols a) → o < q → a + o ≡ s * q + v .free → f ≤ s → f + (v .places - says (v .back) t buf (f + v .wide - 1)) ≤ s
   jump-past a o s f u st lo e le =
       elim (decLt (s - f) (v .places)) [
         | yes y ↦
@@ -145,10 +165,10 @@ module _ (c : Code) (g : T (goodCode c)) {buf : List ℕ} (bytes : Below 256 buf
       ]
 
   -- the jump passes over no hit
-  pub jump-hits : (f : ℕ) → (f + (v .places - says (v .wide) (v .back) t buf f)) * q ≤ h
-      → hitsBelow c h buf symbols (firstOf (c .k) (v .free) (f + (v .places - says (v .wide) (v .back) t buf f))) ≡ hitsBelow c h buf symbols (firstOf (c .k) (v .free) f)
+  pub jump-hits : (f : ℕ) → (f + (v .places - says (v .back) t buf (f + v .wide - 1))) * q ≤ h
+      → hitsBelow c h buf symbols (firstOf (c .k) (v .free) (f + (v .places - says (v .back) t buf (f + v .wide - 1)))) ≡ hitsBelow c h buf symbols (firstOf (c .k) (v .free) f)
   jump-hits f in-h =
-      let e : ℕ = f + (v .places - says (v .wide) (v .back) t buf f) in
+      let e : ℕ = f + (v .places - says (v .back) t buf (f + v .wide - 1)) in
       let few : v .free < q = fits .few in
       let mo : f * q ≤ e * q = mul-le-mul-right q (omega arith) in
       hits-none c buf h symbols l (firstOf (c .k) (v .free) f) (firstOf (c .k) (v .free) e) (omega arith) (omega arith)
@@ -171,12 +191,14 @@ module _ (c : Code) (g : T (goodCode c)) {buf : List ℕ} (bytes : Below 256 buf
       let a2 : (s + v .wide) * q ≤ h = omega (arith, stands-room c buf h symbols l a hi st, fits .filled) in
       omega (arith, le-div-iff-mul-le {k = q} {x = s + v .wide} {y = h} (per-pos (code-width c g)) .1 a2))
 
-  pub skip-hits : {from to : ℕ} → Skipped (v .wide) (v .back) (v .places) t buf from to → to * q ≤ h
-      → hitsBelow c h buf symbols (firstOf (c .k) (v .free) to) ≡ hitsBelow c h buf symbols (firstOf (c .k) (v .free) from)
-  skip-hits none in-h = refl
-  skip-hits (also {f = f} s e) in-h =
-      let z : f + v .places ≡ f + (v .places - says (v .wide) (v .back) t buf f) = omega (arith, e) in
-      let le : f * q ≤ (f + v .places) * q = mul-le-mul-right q (omega arith) in
+  pub skip-hits : {from to : ℕ} → Skipped (v .back) (v .places) t buf from to → v .wide ≤ from + 1 → (to + 1 - v .wide) * q ≤ h
+      → hitsBelow c h buf symbols (firstOf (c .k) (v .free) (to + 1 - v .wide)) ≡ hitsBelow c h buf symbols (firstOf (c .k) (v .free) (from + 1 - v .wide))
+  skip-hits none some in-h = refl
+  skip-hits (also {e = e} s to p) some in-h =
+      let f : ℕ = e + 1 - v .wide in
+      let last : f + v .wide - 1 ≡ e = omega (arith, skipped-on s) in
+      let z : to + 1 - v .wide ≡ f + (v .places - says (v .back) t buf (f + v .wide - 1)) = omega (arith, skipped-on s, p, ap (says (v .back) t buf) last) in
+      let le : f * q ≤ (to + 1 - v .wide) * q = mul-le-mul-right q (omega (arith, p)) in
       ap (λ (n : ℕ). hitsBelow c h buf symbols (firstOf (c .k) (v .free) n)) z
       ∙ jump-hits f (rw (sym z) in-h)
-      ∙ skip-hits s (omega (arith, le))
+      ∙ skip-hits s some (omega (arith, le))

@@ -1,93 +1,116 @@
 -- `jump::scanning::pass` meets its contract.
-use mathlib.Core.Path.{_≡_, sym, ap, subst, _∙_}
-use Prim.Native.Nat.{ℕ, _+_, _-_, _≤_}
+use mathlib.Core.Path.{_≡_, refl, sym}
+use Prim.Native.Nat.{ℕ, _+_, _-_, _*_, _≤_}
 use native.Mathlib.Omega.{arith}
 use borrow.Author.Needs.{needs}
-use lib.ListN.{getD}
 use Rattle.jump.specs.Helpers.Windows.{says, Skipped, none, also}
+use Rattle.jump.specs.Laws.Windows.{skipped-then, skipped-ahead}
 use Rattle.jump.proofs.scanning.pass.Statement.{statement}
 use Rattle.jump.proofs.scanning.pass.Tie as tie
 
 abbrev Inv-loop : tie.InvT-loop
-Inv-loop buf t full from wide back places f₀ f = (from ≤ f) × (f ≤ full) × Skipped wide back places t buf from f
+Inv-loop buf places t full from e₀ e = (from ≤ e) × (e ≤ full + places) × Skipped 1 places t buf from e
 
 abbrev μ-loop : tie.MeasureT-loop
-μ-loop buf t full from wide back places f₀ f = full + 1 - f
+μ-loop buf places t full from e₀ e = full + places + 1 - e
 
 loop-holds : tie.Need-loop-holds Inv-loop μ-loop
 loop-holds c = (omega arith, c .before .before .pre .7, none)
 
-add-loop : tie.Need-add-loop Inv-loop μ-loop
-add-loop c = search needs
+-- the way back from what the table says of the fourth window
+abbrev test : tie.After-place-at4 Inv-loop μ-loop → tie.In-loop Inv-loop μ-loop
+test p = p .before .before .before .before
 
-add-loop-2 : tie.Need-add-loop-2 Inv-loop μ-loop
-add-loop-2 c = search needs
+abbrev begun : tie.After-place-at4 Inv-loop μ-loop → tie.Start Inv-loop μ-loop
+begun p = test p .before .before .before .before
 
-add-key-at : tie.Need-add-key-at Inv-loop μ-loop
-add-key-at c = search needs
-
-sub-key-at : tie.Need-sub-key-at Inv-loop μ-loop
-sub-key-at c = search needs
-
-key-at-requires : tie.Need-key-at-requires Inv-loop μ-loop
-key-at-requires c κs = search needs
-
-shared-slice-read-first : tie.Need-shared-slice-read-first Inv-loop μ-loop
-shared-slice-read-first c = search needs
-
-cast-first : tie.Need-cast-first Inv-loop μ-loop
-cast-first c = omega (arith, c .shared-slice-known3 .given (c .before .key-at .result) .fits)
-
-add-key-at-2 : tie.Need-add-key-at-2 Inv-loop μ-loop
-add-key-at-2 c = search needs
-
-add-key-at-3 : tie.Need-add-key-at-3 Inv-loop μ-loop
-add-key-at-3 c = search needs
-
-sub-key-at-2 : tie.Need-sub-key-at-2 Inv-loop μ-loop
-sub-key-at-2 c = search needs
-
-key-at-requires-2 : tie.Need-key-at-requires-2 Inv-loop μ-loop
-key-at-requires-2 c κs = search needs
-
-shared-slice-read-second : tie.Need-shared-slice-read-second Inv-loop μ-loop
-shared-slice-read-second c = search needs
-
-cast-second : tie.Need-cast-second Inv-loop μ-loop
-cast-second c = omega (arith, c .shared-slice-known4 .given (c .before .key-at2 .result) .fits)
-
-add-if1 : tie.Need-add-if1 Inv-loop μ-loop
-add-if1 c = omega (arith, c .shared-slice-known4 .given (c .before .key-at2 .result) .fits, c .shared-slice-known4 .given (c .before .before .before .key-at .result) .fits)
-
-returns : tie.Need-returns Inv-loop μ-loop
-returns c = search needs
-
-add-f : tie.Need-add-f Inv-loop μ-loop
-add-f c = search needs
-
-add-f-2 : tie.Need-add-f-2 Inv-loop μ-loop
-add-f-2 c = search needs
-
-loop-less : tie.Need-loop-less Inv-loop μ-loop
-loop-less c = search needs
+-- no place is over the last
+under : (s : tie.Start Inv-loop μ-loop) {place : ℕ} (e : ℕ) → place ≡ says 1 (s .args .t .now) (s .args .buf .now) e → place ≤ s .args .places
+under s e z = rw z (s .pre .3 _)
 
 loop-again : tie.Need-loop-again Inv-loop μ-loop
 loop-again c =
-    let n = c .before .before .before .before .before in
+    let p = c .before in
+    let n = test p in
     let l = n .before in
-    let s = l .before .before .before in
-    let a = s .args in
-    let f = l .loop .f in
-    let sum = c .if1 .left in
-    let first : says (a .v .wide) (a .v .back) (a .t .now) (a .buf .now) f ≡ 0
-    = ap (λ (i : ℕ). getD (a .t .now) i 0) (sym (c .before .before .before .before .key-at .ensures .0)) ∙ omega (arith, sum) in
-    let second : says (a .v .wide) (a .v .back) (a .t .now) (a .buf .now) (f + a .v .places) ≡ 0
-    = ap (λ (i : ℕ). getD (a .t .now) i 0) (sym (c .before .before .key-at2 .ensures .0)) ∙ omega (arith, sum) in
-    let e : f + a .v .places + a .v .places ≡ f + (a .v .places + a .v .places) = omega arith in
-    (omega (arith, l .loop .inv .0), omega (arith, s .pre .1, n .loop-test .taken), subst (Skipped (a .v .wide) (a .v .back) (a .v .places) (a .t .now) (a .buf .now) (a .from)) e (also (also (l .loop .inv .2) first) second))
+    let m = begun p .args .places in
+    let e = l .loop .e in
+    let none-there = c .if1 .taken in (
+      omega (arith, l .loop .inv .0),
+      omega (arith, n .loop-test .taken),
+      also
+          (also
+          (also
+          (also (l .loop .inv .2) (e + m) (omega (arith, p .before .before .before .place-at .ensures .0, none-there)))
+          (e + m + m)
+          (omega (arith, p .before .before .place-at2 .ensures .0, none-there)))
+          (e + m + m + m)
+          (omega (arith, p .before .place-at3 .ensures .0, none-there)))
+          (e + m + m + m + m)
+          (omega (arith, p .place-at4 .ensures .0, none-there)),
+    )
 
-returns-2 : tie.Need-returns-2 Inv-loop μ-loop
-returns-2 c = search needs
+sub-ahead-of : tie.Need-sub-ahead-of Inv-loop μ-loop
+sub-ahead-of c = let p = c .before in under (begun p) _ (p .place-at4 .ensures .0)
+
+ahead-of-requires : tie.Need-ahead-of-requires Inv-loop μ-loop
+ahead-of-requires c κs =
+    let p = c .before in
+    let s = begun p in
+    (under s _ (p .before .place-at3 .ensures .0), s .pre .1, omega (arith, s .pre .1))
+
+ahead-of-requires-2 : tie.Need-ahead-of-requires-2 Inv-loop μ-loop
+ahead-of-requires-2 c κs =
+    let p = c .before .before in
+    let s = begun p in
+    (under s _ (p .before .before .place-at2 .ensures .0), s .pre .1, omega (arith, s .pre .1, c .ahead-of .ensures .2))
+
+ahead-of-requires-3 : tie.Need-ahead-of-requires-3 Inv-loop μ-loop
+ahead-of-requires-3 c κs =
+    let p = c .before .before .before in
+    let s = begun p in
+    (under s _ (p .before .before .before .place-at .ensures .0), s .pre .1, omega (arith, s .pre .1, c .ahead-of2 .ensures .2, c .before .ahead-of .ensures .2))
+
+-- no further than past all four
+few : (c : tie.Else2 Inv-loop μ-loop) → let m = begun (c .before .before .before .before .before) .args .places in c .before .ahead-of3 .result ≤ m + m + m + m
+few c = let u = c .before in omega (arith, u .ahead-of3 .ensures .2, u .before .ahead-of2 .ensures .2, u .before .before .ahead-of .ensures .2)
+
+add-e-2 : tie.Need-add-e-2 Inv-loop μ-loop
+add-e-2 c =
+    let p = c .before .before .before .before .before in
+    omega (arith, few c, test p .loop-test .taken, begun p .pre .5)
+
+loop-less-2 : tie.Need-loop-less-2 Inv-loop μ-loop
+loop-less-2 c =
+    let p = c .before .before .before .before .before in
+    omega (arith, few c, c .if2 .left, test p .loop-test .taken)
+
+loop-again-2 : tie.Need-loop-again-2 Inv-loop μ-loop
+loop-again-2 c =
+    let u = c .before in
+    let p = u .before .before .before .before in
+    let n = test p in
+    let l = n .before in
+    let m = begun p .args .places in
+    let e = l .loop .e in
+    let first = u .ahead-of3 .ensures in
+    let second = u .before .ahead-of2 .ensures in
+    let third = u .before .before .ahead-of .ensures in (
+      omega (arith, l .loop .inv .0),
+      omega (arith, few c, n .loop-test .taken),
+      skipped-then
+          (l .loop .inv .2)
+          (skipped-ahead e _ _ _ (sym (p .before .before .before .place-at .ensures .0))
+          (skipped-ahead (e + m) _ _ _ (sym (p .before .before .place-at2 .ensures .0))
+          (skipped-ahead (e + m + m) _ _ _ (sym (p .before .place-at3 .ensures .0))
+          (also none (e + m + m + m + (m - p .place-at4 .result)) (omega (arith, p .place-at4 .ensures .0)))
+          (third .0)
+          (third .1))
+          (second .0)
+          (second .1))
+          (first .0)
+          (first .1)),
+    )
 
 pub pass-spec : {M : Type 1} → statement M
 pass-spec =
@@ -96,23 +119,27 @@ pass-spec =
     Inv-loop
     μ-loop
     loop-holds
-    add-loop
-    add-loop-2
-    add-key-at
-    sub-key-at
-    key-at-requires
-    shared-slice-read-first
-    cast-first
-    add-key-at-2
-    add-key-at-3
-    sub-key-at-2
-    key-at-requires-2
-    shared-slice-read-second
-    cast-second
-    add-if1
-    returns
-    add-f
-    add-f-2
-    loop-less
+    (λ c. search needs)
+    (λ c. search needs)
+    (λ c. search needs)
+    (λ c. search needs)
+    (λ c. search needs)
+    (λ c κs. search needs)
+    (λ c κs. search needs)
+    (λ c κs. search needs)
+    (λ c κs. search needs)
+    (λ c. search needs)
+    (λ c. search needs)
+    (λ c. search needs)
+    (λ c. search needs)
+    (λ c. search needs)
     loop-again
-    returns-2)
+    sub-ahead-of
+    ahead-of-requires
+    ahead-of-requires-2
+    ahead-of-requires-3
+    (λ c. search needs)
+    add-e-2
+    loop-less-2
+    loop-again-2
+    (λ c. search needs))
