@@ -6,12 +6,13 @@ use symbols::bits::byte_of;
 use symbols::bits::per_byte;
 use symbols::symbol::get;
 ghost use mathlib.Core.Path.{_≡_};
-ghost use Prim.Native.Nat.{_+_, _*_, _^_, _≤_, _<_};
+ghost use mathlib.Core.List.{[], _∷_};
+ghost use Prim.Native.Nat.{_+_, _*_, _/_, _%_, _^_, _≤_, _<_};
 ghost use lib.Dec.{T};
 ghost use lib.ListN.{length};
-ghost use Rattle.stopper.specs.Paper.Table.{goodCode};
+ghost use Rattle.stopper.specs.Paper.Table.{stoppers, goodCode};
 ghost use Rattle.symbols.specs.Paper.Symbols.{per, symbolsOf};
-ghost use Rattle.sound.specs.Helpers.Ends.{stopsByByte};
+ghost use Rattle.sound.specs.Helpers.Ends.{stops, stopsByByte};
 ghost use Rattle.jump.specs.Helpers.Counting.{Counts, numberAt};
 
 // How many bytes were counted, and how many codewords end in them.
@@ -20,11 +21,43 @@ pub struct Counted {
     pub ended: u32,
 }
 
+// The continuers among the four symbols of a byte: how many of its second and fourth, and 16 times how many of its first and third. Every other symbol has four bits to itself, and 4 - s added to it carries into the third of them if it is s or more.
+fn continuers_of(code: Code, b: u8) -> u8
+    requires { ⌜ T (goodCode code) × (code .k ≡ 2) ⌝ }
+    ensures { λ r. ⌜ (r % 16 + r / 16 + stops (stoppers code) 0 (symbolsOf (code .k) (b ∷ [])) ≡ 4) × (r % 16 ≤ 2) × (r / 16 ≤ 2) ⌝ }
+{
+    let carry = 17 * (4 - stoppers_at(code, 0) as u8);
+    let odd = b % 4 + 16 * (b / 16 % 4) + carry;
+    let even = b / 4 % 4 + 16 * (b / 64) + carry;
+    odd / 4 % 2 + 16 * (odd / 64 % 2) + (even / 4 % 2 + 16 * (even / 64 % 2))
+}
+
+// How many codewords end in the 48 bytes from byte i on, of four symbols each: 16 bytes are counted at once, three times, before the two sums of each are added up.
+fn ended_in_fours(code: Code, buf: &[u8], i: usize) -> u8
+    requires { ⌜ T (goodCode code) × (code .k ≡ 2) × (i + 48 ≤ length (now buf)) ⌝ }
+    ensures { λ r. ⌜ numberAt code (now (buf .entry)) (i * per (code .k)) + r ≡ numberAt code (now (buf .entry)) ((i + 48) * per (code .k)) ⌝ }
+{
+    let mut more: u8 = 0;
+    let mut j: usize = 0;
+    while j < 16 {
+        let first = continuers_of(code, buf[i + j]);
+        let second = continuers_of(code, buf[i + 16 + j]);
+        let third = continuers_of(code, buf[i + 32 + j]);
+        let sums = first + second + third;
+        more += sums % 16 + sums / 16;
+        j += 1;
+    }
+    192 - more
+}
+
 // How many codewords end in the 48 bytes from byte i on: a sum of 8 bits, so that 16 bytes are counted at once. A loop over 32 bytes the compiler would unroll and count byte by byte.
 fn ended_in_block(code: Code, buf: &[u8], i: usize) -> u8
     requires { ⌜ T (goodCode code) × (i + 48 ≤ length (now buf)) ⌝ }
     ensures { λ r. ⌜ numberAt code (now (buf .entry)) (i * per (code .k)) + r ≡ numberAt code (now (buf .entry)) ((i + 48) * per (code .k)) ⌝ }
 {
+    if code.k == 2 {
+        return ended_in_fours(code, buf, i);
+    }
     let s = stoppers_at(code, 0) as u8;
     let mut n: u8 = 0;
     let mut j: usize = 0;

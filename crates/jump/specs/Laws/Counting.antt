@@ -1,11 +1,15 @@
 -- The laws of characters numbered by the codewords that end before them.
 use mathlib.Core.Path.{_≡_, sym, ap, _∙_}
+use mathlib.Core.Bool.{cond}
 use mathlib.Core.List.{List, [], _∷_, _++_}
-use Prim.Native.Nat.{ℕ, _+_, _*_, _/_, _^_, _≤_, _<_, zero-le}
+use Prim.Native.Nat.{ℕ, _+_, _-_, _*_, _/_, _%_, _^_, _≤_, _<_, zero-le}
 use native.Mathlib.Nat.{le-trans, zero-mul, add-mul, mul-le-mul-right, le-of-mul-le-mul-right, div-mul-le-self, lt-div-mul-add, le-div-iff-mul-le}
 use native.Mathlib.Numerals.{add-one}
+use native.Mathlib.Decide.{decLt}
 use native.Mathlib.Omega.{arith}
-use lib.Dec.{T}
+use borrow.Author.Tests.{lt-ltb, le-ltb}
+use lib.Dec.{T, ltb}
+use lib.Arith.{digits-div, digits-mod}
 use lib.ListN.{length, take, drop, getD, length-take}
 use lib.Seq.{take-suc, take-add}
 use Rattle.stopper.specs.Paper.Table.{stoppers, goodCode}
@@ -17,7 +21,7 @@ use Rattle.symbols.specs.Laws.Width.{per-pos}
 use Rattle.symbols.specs.Laws.Rows.{symbols-length, symbols-append, symbols-take, symbols-drop}
 use Rattle.sound.specs.Helpers.Ends.{stops}
 use Rattle.sound.specs.Laws.Ends.{stops-stop}
-use Rattle.sound.specs.Laws.Stops.{stops-append, stops-continuer, stops-upto}
+use Rattle.sound.specs.Laws.Stops.{stops-append, stops-continuer, stops-upto, stops-two}
 use Rattle.jump.specs.Helpers.Counting.{numberAt, Counts}
 
 -- no more codewords end than there are symbols
@@ -52,6 +56,74 @@ module _ (c : Code) (buf : List ℕ) (i : ℕ) (h : i < length (symbolsOf (c .k)
   pub number-continuer : stoppers c 0 ≤ y → numberAt c buf (i + 1) ≡ numberAt c buf i
   unfolding stops
   number-continuer l = omega (arith, symbol-more, stops-continuer c y [] l)
+
+-- ---- the continuers of a byte of four symbols, by two sums
+
+-- two symbols, each with four bits to itself, and what is added to both
+carry-low : (d e c : ℕ) → d < 4 → c < 4 → (d + 16 * e + 17 * c) / 4 % 2 ≡ (d + c) / 4
+carry-low d e c hd hc =
+    let a : ℕ = (d + c) / 4 in
+    let f : d + 16 * e + 17 * c ≡ (2 * (e + c) * 2 + a) * 4 + (d + c) % 4 = omega arith in
+    ap (λ (n : ℕ). n / 4 % 2) f
+    ∙ ap (λ (n : ℕ). n % 2) (digits-div (2 * (e + c) * 2 + a) {m = 4} {r = (d + c) % 4} (omega arith))
+    ∙ digits-mod (2 * (e + c)) {m = 2} {r = a} (omega arith)
+
+carry-high : (d e c : ℕ) → d < 4 → e < 4 → c < 4 → (d + 16 * e + 17 * c) / 64 % 2 ≡ (e + c) / 4
+carry-high d e c hd he hc =
+    let a : ℕ = (e + c) / 4 in
+    let f : d + 16 * e + 17 * c ≡ a * 64 + (16 * ((e + c) % 4) + (d + c)) = omega arith in
+    ap (λ (n : ℕ). n / 64 % 2) f
+    ∙ ap (λ (n : ℕ). n % 2) (digits-div a {m = 64} {r = 16 * ((e + c) % 4) + (d + c)} (omega arith))
+    ∙ omega arith
+
+-- what is 1 where a test fails
+else-one : {x y : ℕ} (a b : ℕ) → x ≡ y → (a < b → y ≡ 0) → (b ≤ a → y ≡ 1) → x + cond (ltb a b) 1 0 ≡ 1
+else-one a b e f g =
+    elim (decLt a b) [
+      | yes h ↦ rw (e, lt-ltb a b h, f h)
+      | no h ↦ rw (e, le-ltb a b (omega arith), g (omega arith))
+    ]
+
+-- two sums in one
+two-sums : (p q r t f g i j : ℕ) → p + f ≡ 1 → q + g ≡ 1 → r + i ≡ 1 → t + j ≡ 1
+    → let n = p + 16 * q + (r + 16 * t) in (n % 16 + n / 16 + (j + g + i + f) ≡ 4) × (n % 16 ≤ 2) × (n / 16 ≤ 2)
+two-sums p q r t f g i j hp hq hr ht =
+    let e : p + 16 * q + (r + 16 * t) ≡ (q + t) * 16 + (p + r) = omega arith in
+    let m : (p + 16 * q + (r + 16 * t)) % 16 ≡ p + r = ap (λ (n : ℕ). n % 16) e ∙ digits-mod (q + t) {m = 16} {r = p + r} (omega arith) in
+    let d : (p + 16 * q + (r + 16 * t)) / 16 ≡ q + t = ap (λ (n : ℕ). n / 16) e ∙ digits-div (q + t) {m = 16} {r = p + r} (omega arith) in
+    rw (m, d) (omega arith, omega arith, omega arith)
+
+module _ (s b : ℕ) (h : b < 256) (low : 0 < s) (high : s < 4) where
+  -- every other symbol, and what is added to it
+  abbrev odd : ℕ
+  odd = b % 4 + 16 * (b / 16 % 4) + 17 * (4 - s)
+
+  abbrev even : ℕ
+  even = b / 4 % 4 + 16 * (b / 64) + 17 * (4 - s)
+
+  abbrev both : ℕ
+  both = odd / 4 % 2 + 16 * (odd / 64 % 2) + (even / 4 % 2 + 16 * (even / 64 % 2))
+
+  pub continuers-both : (both % 16 + both / 16 + stops (λ _. s) 0 (symbolsOf 2 (b ∷ [])) ≡ 4) × (both % 16 ≤ 2) × (both / 16 ≤ 2)
+  continuers-both =
+      let c : ℕ = 4 - s in
+      rw (← stops-two s b h)
+      (two-sums (odd / 4 % 2) (odd / 64 % 2) (even / 4 % 2) (even / 64 % 2) (cond (ltb (b % 4) s) 1 0) (cond (ltb (b % 64) (16 * s)) 1 0) (cond (ltb (b % 16) (4 * s)) 1 0) (cond (ltb b (64 * s)) 1 0)
+      (else-one (b % 4) s (carry-low (b % 4) (b / 16 % 4) c (omega arith) (omega arith)) (λ l. omega arith) (λ l. omega arith))
+      (else-one (b % 64) (16 * s) (carry-high (b % 4) (b / 16 % 4) c (omega arith) (omega arith) (omega arith)) (λ l. omega arith) (λ l. omega arith))
+      (else-one (b % 16) (4 * s) (carry-low (b / 4 % 4) (b / 64) c (omega arith) (omega arith)) (λ l. omega arith) (λ l. omega arith))
+      (else-one b (64 * s) (carry-high (b / 4 % 4) (b / 64) c (omega arith) (omega arith) (omega arith)) (λ l. omega arith) (λ l. omega arith)))
+
+-- those of three bytes
+pub three-sums : (x y z : ℕ) → x % 16 ≤ 2 → y % 16 ≤ 2 → z % 16 ≤ 2
+    → (x + y + z) % 16 + (x + y + z) / 16 ≡ x % 16 + x / 16 + (y % 16 + y / 16) + (z % 16 + z / 16)
+three-sums x y z hx hy hz =
+    let q : ℕ = x / 16 + y / 16 + z / 16 in
+    let r : ℕ = x % 16 + y % 16 + z % 16 in
+    let e : x + y + z ≡ q * 16 + r = omega arith in
+    let m : (x + y + z) % 16 ≡ r = ap (λ (n : ℕ). n % 16) e ∙ digits-mod q {m = 16} {r = r} (omega arith) in
+    let d : (x + y + z) / 16 ≡ q = ap (λ (n : ℕ). n / 16) e ∙ digits-div q {m = 16} {r = r} (omega arith) in
+    rw (m, d) (omega arith)
 
 module _ (c : Code) (g : T (goodCode c)) (buf : List ℕ) where
   abbrev k : ℕ

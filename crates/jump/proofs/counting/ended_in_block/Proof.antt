@@ -26,16 +26,16 @@ abbrev μ-loop : tie.MeasureT-loop
 
 -- the way back from a turn
 abbrev entered : tie.At-loop Inv-loop μ-loop → tie.Start Inv-loop μ-loop
-entered l = l .before .before .before
+entered l = l .before .before .before .before .before
 
-below : (c : tie.After-stoppers-at Inv-loop μ-loop) → c .stoppers-at .result < 2 ^ c .before .before .args .code .k
-below c = let s = c .before .before in omega (arith, c .stoppers-at .ensures, code-good (s .args .code) (s .pre .0) .high 0)
+below : (c : tie.After-stoppers-at Inv-loop μ-loop) → c .stoppers-at .result < 2 ^ c .before .before .before .before .args .code .k
+below c = let s = c .before .before .before .before in omega (arith, c .stoppers-at .ensures, code-good (s .args .code) (s .pre .0) .high 0)
 
 cast-s : tie.Need-cast-s Inv-loop μ-loop
-cast-s c = let s = c .before .before in omega (arith, below c, code-base (s .args .code) (s .pre .0) .1)
+cast-s c = let s = c .before .before .before .before in omega (arith, below c, code-base (s .args .code) (s .pre .0) .1)
 
 loop-holds : tie.Need-loop-holds Inv-loop μ-loop
-loop-holds c = let a = c .before .before .args in (omega arith, omega arith, rw (add-zero (a .i)) (add-zero _))
+loop-holds c = let a = c .before .before .before .before .args in (omega arith, omega arith, rw (add-zero (a .i)) (add-zero _))
 
 stops-of-requires : tie.Need-stops-of-requires Inv-loop μ-loop
 stops-of-requires c κs = let l = c .before .before in let s = entered l in (code-width (s .args .code) (s .pre .0), below (l .before))
@@ -62,8 +62,8 @@ loop-again c =
     let l = c .before .before .before in
     (omega arith, omega (arith, few c, l .loop .inv .1), omega (arith, byte-more c, l .loop .inv .2))
 
-returns : tie.Need-returns Inv-loop μ-loop
-returns c =
+returns-2 : tie.Need-returns-2 Inv-loop μ-loop
+returns-2 c =
     let l = c .before in
     let a = entered l .args in
     let e : l .loop .j ≡ 48 = omega arith in
@@ -75,6 +75,8 @@ ended-in-block-spec =
     (tie.spec
     Inv-loop
     μ-loop
+    (λ c κs. (c .before .before .before .pre .0, c .if1 .taken, c .before .before .before .pre .1))
+    (λ c. search needs)
     (λ c κs. search needs)
     cast-s
     loop-holds
@@ -85,4 +87,4 @@ ended-in-block-spec =
     (λ c. omega arith)
     (λ c. omega arith)
     loop-again
-    returns)
+    returns-2)
