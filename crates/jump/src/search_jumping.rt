@@ -2,20 +2,16 @@
 use crate::jumping::jump_sound;
 use ground::answers::Done;
 use ground::answers::Total;
-use roll::check::check;
+use roll::search::check_pattern;
 use sound::records::Roll;
-use texts::pattern::good_pattern;
 ghost use Rattle.roll.specs.Paper.Operations.{Searching};
 
 pub fn search_jumping(roll: Roll, buf: &[u8], pattern: &[u8], slice: &mut [u32]) -> Total
     ensures { λ r. ⌜ Searching roll (now (buf .entry)) (now (pattern .entry)) (now (slice .entry)) r (now (slice .exit)) ⌝ }
 {
-    let checked = check(roll, buf);
+    let checked = check_pattern(roll, buf, pattern);
     if let Done::Refused(number, value) = checked {
         return Total::Refused(number, value);
-    }
-    if !good_pattern(pattern) {
-        return Total::Refused(11, 0);
     }
     Total::Of(jump_sound(roll, buf, pattern, slice))
 }

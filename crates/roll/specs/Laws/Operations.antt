@@ -1,19 +1,20 @@
 -- The promises: a law for a refused call and one for an accepted call.
 use mathlib.Core.Path.{_≡_, refl, sym}
-use mathlib.Core.Logic.{_≢_}
+use mathlib.Core.Logic.{_≢_, ⊎-elim}
 use mathlib.Core.Bool.{true, false, not}
 use mathlib.Core.List.{List, [], _∷_, _++_}
 use Prim.Native.Nat.{ℕ, _-_, _≤_, _<_}
 use native.Mathlib.Nat.{le-of-eq}
 use native.Mathlib.Omega.{arith}
-use borrow.Author.Tests.{lt-ltb, le-ltb, eq-eqb, ne-eqb}
+use borrow.Author.Tests.{lt-ltb, le-ltb, eq-eqb, ne-eqb, not-false}
 use lib.Dec.{T, ltb}
 use lib.ListN.{length, drop}
 use Rattle.ground.specs.Paper.Refusals.{refuse, refused, judged}
 use Rattle.ground.specs.Paper.Runs.{run}
 use Rattle.ground.specs.Paper.Rows.{allZero}
 use Rattle.ground.specs.Laws.Answers.{says-as}
-use Rattle.ground.specs.Laws.Refusals.{Accepted}
+use Rattle.ground.specs.Laws.Refusals.{Accepted, accepted-none, accepted-parts, refused-row, refused-parts}
+use Rattle.ground.specs.Laws.Tests.{true-yes}
 use Rattle.ground.specs.declared.answers.Done.{Done}
 use Rattle.ground.specs.declared.answers.Done.the-variants.{Yes, Refused}
 use Rattle.ground.specs.declared.answers.Total.the-variants.{Of, Refused as total-refused}
@@ -34,8 +35,8 @@ use Rattle.sound.specs.Laws.Sound.{table-reads}
 use Rattle.sound.specs.declared.records.Roll.{Roll}
 use Rattle.store.specs.Paper.Fitting.{firstOver}
 use Rattle.store.specs.Paper.Stored.{packedInto, bytesAfter, directoryAfter}
-use Rattle.roll.specs.Paper.Operations.{packSays, Packing, fitSays, checkSays, Checking, unpackSays, Unpacking, makeSays, Making, searchSays, Searching, editSays, Editing}
-use Rattle.roll.specs.Helpers.Refused.{DirectoryChecked, refusedPack, refusedEdit}
+use Rattle.roll.specs.Paper.Operations.{packSays, Packing, fitSays, checkSays, Checking, unpackSays, Unpacking, makeSays, Making, searchRows, searchSays, Searching, editSays, Editing}
+use Rattle.roll.specs.Helpers.Refused.{PatternChecked, DirectoryChecked, refusedPack, refusedEdit}
 use Rattle.roll.specs.Laws.Accepting.{fits-is, accepted-sound, Packs, packs-accepted, Unpacks, unpacks-accepted, makes-is, searches-is, right-accepted, accepted-right}
 use Rattle.roll.specs.declared.pack.Packed.{Packed}
 use Rattle.roll.specs.declared.edit.Edited.{Edited}
@@ -107,9 +108,22 @@ module _ {r : Roll} {buf dir : List ℕ} where
 
 -- ---- search
 
+pub pattern-sound : {r : Roll} {buf pattern : List ℕ} {a : Done} → PatternChecked r buf pattern a → a ≡ Yes → Sound r buf × T (goodPattern pattern)
+pattern-sound {r} {buf} {pattern} c e =
+    let (a, b) = accepted-parts (checkSays r buf) (says-as (c .says) e) in
+    (accepted-sound r buf a, true-yes _ (not-false (goodPattern pattern) (accepted-none (searchRows pattern) tt b .0)))
+
 module _ {r : Roll} {buf pattern slice : List ℕ} where
-  pub search-refused : {n v : ℕ} → searchSays r buf pattern ≡ refused n v → Searching r buf pattern slice (total-refused n v) slice
-  search-refused e = record { says = sym e; leaves = rw e }
+  -- what is refused there is refused with a total too
+  pub search-refused : {a : Done} {n v : ℕ} → PatternChecked r buf pattern a → a ≡ Refused n v → Searching r buf pattern slice (total-refused n v) slice
+  unfolding searchSays
+  search-refused {n = n} {v = v} c e =
+      let z : searchSays r buf pattern ≡ refused n v
+      = ⊎-elim
+      (λ x. rw x)
+      (λ x. ⊎-elim (λ y. rw (x .0, y .0, y .1, y .2)) (λ y. absurd (y .1)) (refused-row (searchRows pattern) tt (x .1)))
+      (refused-parts (checkSays r buf) (says-as (c .says) e)) in
+      record { says = sym z; leaves = rw z }
 
   pub search-yes : {n : ℕ} {after : List ℕ} → Sound r buf → T (goodPattern pattern) → n ≡ length (hits pattern (textOf r buf))
       → after ≡ listed (hits pattern (textOf r buf)) slice → Searching r buf pattern slice (Of n) after
