@@ -38,7 +38,7 @@ impl Window {
     fn key(&self, y: usize, z: usize) -> usize {
         match self.back {
             0 => y,
-            _ => (y + 256 * z) % KEYS,
+            _ => (((y + 256 * z) as u32).wrapping_mul(2_654_435_761) >> 19) as usize,
         }
     }
 
@@ -118,7 +118,14 @@ impl Counting<'_> {
         let counted = if error == "counts whole blocks alone" { whole / BLOCK * BLOCK } else { whole };
         let stoppers = |symbols: &[u8]| symbols.iter().filter(|&&symbol| symbol < self.s).count() as u32;
         let rest = (byte + whole) * self.per;
+        let last_third =
+            |block: usize| &self.symbols[(byte + block * BLOCK + BLOCK * 2 / 3) * self.per..][..BLOCK / 3 * self.per];
+        let lost: u32 = match error {
+            "leaves out the last third of a block" => (0..whole / BLOCK).map(|block| stoppers(last_third(block))).sum(),
+            _ => 0,
+        };
         stoppers(&self.symbols[byte * self.per..][..counted * self.per]) + stoppers(&self.symbols[rest..end.max(rest)])
+            - lost
     }
 
     /// The number of the character that starts at symbol a: from the last one numbered, or from the end if that is nearer.
@@ -166,16 +173,16 @@ pub fn hits(roll: &Roll, buf: &[u8], packed: &[u8], entries: usize, error: &str)
     let step = if error == "jumps by a whole window" { wide } else { places };
     while f + wide <= full {
         let last = f + wide - 1;
-        // Windows with keys of two bytes are jumped two by two where neither key stands in the pattern.
-        if back == 1 && last + places < full {
-            let (first, second) = (entry_at(last), entry_at(last + places));
-            let neither = match error {
-                "asks the first of two windows" => first == 0,
-                "asks the second of two windows" => second == 0,
-                _ => first + second == 0,
+        // Windows with keys of two bytes are jumped four at a time where none of the keys stands in the pattern.
+        if back == 1 && last + 3 * places < full {
+            let mut asked = match error {
+                "asks the first of four windows" => 0..1,
+                "asks three of four windows" => 0..3,
+                "asks the last of four windows" => 3..4,
+                _ => 0..4,
             };
-            if neither {
-                f += 2 * step;
+            if asked.all(|window| entry_at(last + window * places) == 0) {
+                f += 4 * step;
                 continue;
             }
         }
