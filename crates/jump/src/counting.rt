@@ -1,5 +1,5 @@
 // Characters numbered by the codewords that end before them.
-use sound::ends::stops_of;
+use sound::ends::stops_of_four;
 use stopper::code::Code;
 use stopper::code::stoppers_at;
 use symbols::bits::byte_of;
@@ -21,36 +21,36 @@ pub struct Counted {
     pub ended: u32,
 }
 
-// The continuers among the four symbols of a byte: how many of its second and fourth, and 16 times how many of its first and third. Every other symbol has four bits to itself, and 4 - s added to it carries into the third of them if it is s or more.
+// The continuers among the four symbols of a byte: how many of its third and fourth, and 16 times how many of its first and second. Every other symbol has four bits to itself, and what the stoppers lack of 4, added to it, carries into the third of them if it is a continuer.
 fn continuers_of(code: Code, b: u8) -> u8
     requires { ⌜ T (goodCode code) × (code .k ≡ 2) ⌝ }
     ensures { λ r. ⌜ (r % 16 + r / 16 + stops (stoppers code) 0 (symbolsOf (code .k) (b ∷ [])) ≡ 4) × (r % 16 ≤ 2) × (r / 16 ≤ 2) ⌝ }
 {
-    let carry = 17 * (4 - stoppers_at(code, 0) as u8);
-    let odd = b % 4 + 16 * (b / 16 % 4) + carry;
-    let even = b / 4 % 4 + 16 * (b / 64) + carry;
+    let added = 17 * (4 - stoppers_at(code, 0) as u8);
+    let odd = b / 4 % 4 + 16 * (b / 64) + added;
+    let even = b % 4 + 16 * (b / 16 % 4) + added;
     odd / 4 % 2 + 16 * (odd / 64 % 2) + (even / 4 % 2 + 16 * (even / 64 % 2))
 }
 
-// How many codewords end in the 48 bytes from byte i on, of four symbols each: 16 bytes are counted at once, three times, before the two sums of each are added up.
+// How many codewords end in the 48 bytes from byte i on, of four symbols each. A turn takes a byte of each third, and adds up the two sums once for the three; the compiler takes the 16 turns side by side.
 fn ended_in_fours(code: Code, buf: &[u8], i: usize) -> u8
     requires { ⌜ T (goodCode code) × (code .k ≡ 2) × (i + 48 ≤ length (now buf)) ⌝ }
     ensures { λ r. ⌜ numberAt code (now (buf .entry)) (i * per (code .k)) + r ≡ numberAt code (now (buf .entry)) ((i + 48) * per (code .k)) ⌝ }
 {
-    let mut more: u8 = 0;
+    let mut continuers: u8 = 0;
     let mut j: usize = 0;
     while j < 16 {
         let first = continuers_of(code, buf[i + j]);
         let second = continuers_of(code, buf[i + 16 + j]);
         let third = continuers_of(code, buf[i + 32 + j]);
         let sums = first + second + third;
-        more += sums % 16 + sums / 16;
+        continuers += sums % 16 + sums / 16;
         j += 1;
     }
-    192 - more
+    192 - continuers
 }
 
-// How many codewords end in the 48 bytes from byte i on: a sum of 8 bits, so that 16 bytes are counted at once. A loop over 32 bytes the compiler would unroll and count byte by byte.
+// How many codewords end in the 48 bytes from byte i on. Of two symbols each, they are counted by a sum of 8 bits, so that the compiler takes 16 at once; a loop over 32 it would unroll and count byte by byte.
 fn ended_in_block(code: Code, buf: &[u8], i: usize) -> u8
     requires { ⌜ T (goodCode code) × (i + 48 ≤ length (now buf)) ⌝ }
     ensures { λ r. ⌜ numberAt code (now (buf .entry)) (i * per (code .k)) + r ≡ numberAt code (now (buf .entry)) ((i + 48) * per (code .k)) ⌝ }
@@ -58,11 +58,10 @@ fn ended_in_block(code: Code, buf: &[u8], i: usize) -> u8
     if code.k == 2 {
         return ended_in_fours(code, buf, i);
     }
-    let s = stoppers_at(code, 0) as u8;
     let mut n: u8 = 0;
     let mut j: usize = 0;
     while j < 48 {
-        n += stops_of(code.k, s, buf[i + j]);
+        n += stops_of_four(code, buf[i + j]);
         j += 1;
     }
     n

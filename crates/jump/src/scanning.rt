@@ -3,7 +3,7 @@ use crate::counting::Counted;
 use crate::counting::count_near;
 use crate::counting::number_of;
 use crate::windows::Window;
-use crate::windows::key_at;
+use crate::windows::place_at;
 use stopper::code::Code;
 use stopper::code::stoppers_at;
 use symbols::bits::byte_of;
@@ -22,7 +22,7 @@ ghost use Rattle.sound.specs.Helpers.Ends.{stopsByByte};
 ghost use Rattle.find.specs.Laws.Hits.{AfterStopper};
 ghost use Rattle.jump.specs.Helpers.Counting.{numberAt, Counts};
 ghost use Rattle.jump.specs.Helpers.Hits.{occurs, Hit, hitsBelow, Grows};
-ghost use Rattle.jump.specs.Helpers.Windows.{Fits, Safe, Lasts, firstOf, says, Skipped};
+ghost use Rattle.jump.specs.Helpers.Windows.{Fits, Safe, Lasts, firstOf, Skipped};
 
 // Whether symbols stand at symbol a, all of them among the first h.
 fn same(code: Code, buf: &[u8], h: usize, symbols: &[u8], a: usize) -> bool
@@ -164,15 +164,7 @@ fn try_window(
     found
 }
 
-// What the table says of the window that ends with byte e.
-fn place_at(back: usize, t: &[u8], buf: &[u8], e: usize) -> usize
-    requires { ⌜ (back ≤ 1) × (length (now t) ≡ 8192) × (back ≤ e) × (e < length (now buf)) ⌝ }
-    ensures { λ r. ⌜ (r ≡ says back (now (t .entry)) (now (buf .entry)) e) × (r ≤ 255) ⌝ }
-{
-    t[key_at(back, buf, e)] as usize
-}
-
-// How far to go from a window whose key stands at `place` last: if it stands nowhere, past the window, and then as far as from the next on.
+// How far to go from a window of which the table says `place`: on to there, or if it is 0 by all places, and then `beyond`, as far as from the next.
 fn ahead_of(places: usize, place: usize, beyond: usize) -> usize
     requires { ⌜ (place ≤ places) × (places ≤ 255) × (beyond ≤ 765) ⌝ }
     ensures { λ r. ⌜ ((place ≡ 0) → r ≡ places + beyond) × ((0 < place) → r ≡ places - place) × (r ≤ places + beyond) ⌝ }
@@ -184,7 +176,7 @@ fn ahead_of(places: usize, place: usize, beyond: usize) -> usize
     }
 }
 
-// Windows with keys of two bytes, jumped from the one that ends with byte `from` on, as long as three more follow: one branch for four where no key stands in the pattern.
+// Windows with keys of two bytes, jumped from the one that ends with byte `from` on, up to one to be tried, or as long as three more follow: one branch for four where no key stands in the pattern.
 fn pass(buf: &[u8], places: usize, t: &[u8], full: usize, from: usize) -> usize
     requires { ⌜ (0 < places) × (places ≤ 255) × (length (now t) ≡ 8192) × ((x : ℕ) → getD (now t) x 0 ≤ places) × (full ≤ length (now buf)) × (full ≤ 2 ^ 24) × (0 < from) × (from ≤ full + places) ⌝ }
     ensures { λ r. ⌜ (from ≤ r) × (r ≤ full + places) × Skipped 1 places (now (t .entry)) (now (buf .entry)) from r ⌝ }
@@ -213,7 +205,7 @@ fn pass(buf: &[u8], places: usize, t: &[u8], full: usize, from: usize) -> usize
     e
 }
 
-// Windows jumped from the one that ends with byte `from` on, up to one whose last key is the pattern's last, or past the last. The usual jump is the same for all, so that it waits for no table.
+// Windows jumped from the one that ends with byte `from` on, up to one whose last key the table has at the last place, or past the last. A key that stands nowhere has a branch of its own: foreseen, that jump does not wait for the table.
 fn skip(buf: &[u8], back: usize, places: usize, t: &[u8], full: usize, from: usize) -> usize
     requires { ⌜ (back ≤ 1) × (0 < places) × (places ≤ 255) × (length (now t) ≡ 8192) × ((x : ℕ) → getD (now t) x 0 ≤ places) × (full ≤ length (now buf)) × (full ≤ 2 ^ 24) × (back ≤ from) × (from < full + (places + back)) ⌝ }
     ensures { λ r. ⌜ (from ≤ r) × (r < full + (places + back)) × Skipped back places (now (t .entry)) (now (buf .entry)) from r ⌝ }

@@ -3,12 +3,12 @@ use symbols::bits::byte_of;
 use symbols::bits::per_byte;
 use symbols::bits::place_in_byte;
 ghost use mathlib.Core.Path.{_≡_};
-ghost use Prim.Native.Nat.{_+_, _-_, _*_, _/_, _%_, _^_, _≤_, _<_};
-ghost use lib.ListN.{length, getD};
+ghost use Prim.Native.Nat.{_+_, _*_, _/_, _%_, _^_, _≤_, _<_};
+ghost use lib.ListN.{length};
 ghost use Rattle.ground.specs.Helpers.Below.{Below};
 ghost use Rattle.symbols.specs.Paper.Symbols.{per};
 ghost use Rattle.symbols.specs.Helpers.Widths.{Width};
-ghost use Rattle.jump.specs.Helpers.Windows.{numberFrom, Fits, keyOf, Upto, Safe, Marks, Lasts};
+ghost use Rattle.jump.specs.Helpers.Windows.{numberFrom, Fits, keyOf, says, Upto, Safe, Marks, Lasts};
 
 // A window is `wide` bytes. Each alignment of the pattern fills them but for at most `free` symbols before its first; the table has
 // keys of one byte, or of two that are `back` apart, at `places` places of the window.
@@ -41,7 +41,7 @@ pub fn window_of(k: u8, long: usize) -> Window
     }
 }
 
-// Where the table has a byte y, or y and the byte z behind it.
+// Where the table has a byte y, or y and the byte z behind it: of two bytes the upper 13 of the low 32 bits of a product, into which all their bits go.
 fn key(back: usize, y: u8, z: u8) -> usize
     requires { ⌜ back ≤ 1 ⌝ }
     ensures { λ r. ⌜ (r ≡ keyOf back y z) × (r < 8192) ⌝ }
@@ -53,12 +53,12 @@ fn key(back: usize, y: u8, z: u8) -> usize
     }
 }
 
-// The key of the bytes that end with byte e.
-pub fn key_at(back: usize, buf: &[u8], e: usize) -> usize
-    requires { ⌜ (back ≤ 1) × (back ≤ e) × (e < length (now buf)) ⌝ }
-    ensures { λ r. ⌜ (r ≡ keyOf back (getD (now (buf .entry)) (e - back) 0) (getD (now (buf .entry)) e 0)) × (r < 8192) ⌝ }
+// What the table says of the window that ends with byte e.
+pub fn place_at(back: usize, t: &[u8], buf: &[u8], e: usize) -> usize
+    requires { ⌜ (back ≤ 1) × (length (now t) ≡ 8192) × (back ≤ e) × (e < length (now buf)) ⌝ }
+    ensures { λ r. ⌜ (r ≡ says back (now (t .entry)) (now (buf .entry)) e) × (r ≤ 255) ⌝ }
 {
-    key(back, buf[e - back], buf[e])
+    t[key(back, buf[e - back], buf[e])] as usize
 }
 
 // A symbol behind those of a byte, whose first is lost.

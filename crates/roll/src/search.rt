@@ -8,7 +8,7 @@ use texts::pattern::good_pattern;
 ghost use Rattle.roll.specs.Paper.Operations.{Searching};
 ghost use Rattle.roll.specs.Helpers.Refused.{PatternChecked};
 
-// That a roll is sound and a pattern good, which every search asks; refused as check does, or with 11.
+// That a roll is sound and a pattern good, which both searches of a whole roll ask first; refused as check does, or with 11.
 pub fn check_pattern(roll: Roll, buf: &[u8], pattern: &[u8]) -> Done
     ensures { λ r. ⌜ PatternChecked roll (now (buf .entry)) (now (pattern .entry)) r ⌝ }
 {

@@ -9,12 +9,11 @@ use symbols::symbol::get;
 ghost use mathlib.Core.Path.{_≡_};
 ghost use mathlib.Core.Bool.{cond};
 ghost use mathlib.Core.List.{[], _∷_};
-ghost use Prim.Native.Nat.{_*_, _/_, _^_, _≤_, _<_};
+ghost use Prim.Native.Nat.{_*_, _/_, _≤_, _<_};
 ghost use lib.Dec.{T};
 ghost use Rattle.ground.specs.Paper.Rows.{tab};
-ghost use Rattle.stopper.specs.Paper.Table.{goodCode};
+ghost use Rattle.stopper.specs.Paper.Table.{stoppers, goodCode};
 ghost use Rattle.symbols.specs.Paper.Symbols.{per, symbolsOf};
-ghost use Rattle.symbols.specs.Helpers.Widths.{Width};
 ghost use Rattle.sound.specs.Helpers.Ends.{Ending, Passing, endFrom, stops, stopsOfTwo, stopsByByte};
 
 // The symbol after the codeword that starts at symbol p.
@@ -38,19 +37,16 @@ fn flag(b: bool) -> u8
     if b { 1 } else { 0 }
 }
 
-// How many of the k-bit symbols of a byte are below s, by no branch: a loop over bytes counts many at once.
-pub fn stops_of(k: u8, s: u8, b: u8) -> u8
-    requires { ⌜ Width k × (s < 2 ^ k) ⌝ }
-    ensures { λ r. ⌜ (r ≡ stops (λ _. s) 0 (symbolsOf k (b ∷ []))) × (r ≤ per k) ⌝ }
+// How many of the two symbols of a byte are stoppers, each of four bits, by no branch: a loop over bytes counts many at once.
+pub fn stops_of_four(code: Code, b: u8) -> u8
+    requires { ⌜ T (goodCode code) × (code .k ≡ 4) ⌝ }
+    ensures { λ r. ⌜ (r ≡ stops (stoppers code) 0 (symbolsOf (code .k) (b ∷ []))) × (r ≤ 2) ⌝ }
 {
-    if k == 2 {
-        flag(b < 64 * s) + flag(b % 64 < 16 * s) + flag(b % 16 < 4 * s) + flag(b % 4 < s)
-    } else {
-        flag(b < 16 * s) + flag(b % 16 < s)
-    }
+    let s = stoppers_at(code, 0) as u8;
+    flag(b < 16 * s) + flag(b % 16 < s)
 }
 
-// The same of width 2, at 256 * (s - 1) + b, for s of 1, 2 and 3.
+// How many of the four symbols of byte b are below s, each of two bits, at 256 * (s - 1) + b, for s of 1, 2 and 3.
 const STOPS: [u8; 768] = *b"\
     \x04\x03\x03\x03\x03\x02\x02\x02\x03\x02\x02\x02\x03\x02\x02\x02\x03\x02\x02\x02\x02\x01\x01\x01\x02\x01\x01\x01\x02\x01\x01\x01\
     \x03\x02\x02\x02\x02\x01\x01\x01\x02\x01\x01\x01\x02\x01\x01\x01\x03\x02\x02\x02\x02\x01\x01\x01\x02\x01\x01\x01\x02\x01\x01\x01\
@@ -100,15 +96,15 @@ fn stops_listed(s: u8) -> [u8; 256]
     row
 }
 
-// How many symbols of k bits are below s, for each byte value.
-fn stops_counted(k: u8, s: u8) -> [u8; 256]
-    requires { ⌜ Width k × (s < 2 ^ k) ⌝ }
-    ensures { λ r. ⌜ r ≡ tab (λ b. stops (λ _. s) 0 (symbolsOf k (b ∷ []))) 0 256 ⌝ }
+// How many symbols of four bits are stoppers, for each byte value.
+fn stops_counted(code: Code) -> [u8; 256]
+    requires { ⌜ T (goodCode code) × (code .k ≡ 4) ⌝ }
+    ensures { λ r. ⌜ r ≡ stopsByByte code ⌝ }
 {
     let mut row = [0u8; 256];
     let mut b: usize = 0;
     while b < 256 {
-        row[b] = stops_of(k, s, b as u8);
+        row[b] = stops_of_four(code, b as u8);
         b += 1;
     }
     row
@@ -119,12 +115,10 @@ pub fn stops_by_byte(code: Code) -> [u8; 256]
     requires { ⌜ T (goodCode code) ⌝ }
     ensures { λ r. ⌜ r ≡ stopsByByte code ⌝ }
 {
-    let k = code.k;
-    let s = stoppers_at(code, 0) as u8;
-    if k == 2 {
-        stops_listed(s)
+    if code.k == 2 {
+        stops_listed(stoppers_at(code, 0) as u8)
     } else {
-        stops_counted(k, s)
+        stops_counted(code)
     }
 }
 

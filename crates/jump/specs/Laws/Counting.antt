@@ -85,21 +85,16 @@ else-one a b e f g =
     ]
 
 -- two sums in one
-two-sums : (p q r t f g i j : ℕ) → p + f ≡ 1 → q + g ≡ 1 → r + i ≡ 1 → t + j ≡ 1
-    → let n = p + 16 * q + (r + 16 * t) in (n % 16 + n / 16 + (j + g + i + f) ≡ 4) × (n % 16 ≤ 2) × (n / 16 ≤ 2)
-two-sums p q r t f g i j hp hq hr ht =
-    let e : p + 16 * q + (r + 16 * t) ≡ (q + t) * 16 + (p + r) = omega arith in
-    let m : (p + 16 * q + (r + 16 * t)) % 16 ≡ p + r = ap (λ (n : ℕ). n % 16) e ∙ digits-mod (q + t) {m = 16} {r = p + r} (omega arith) in
-    let d : (p + 16 * q + (r + 16 * t)) / 16 ≡ q + t = ap (λ (n : ℕ). n / 16) e ∙ digits-div (q + t) {m = 16} {r = p + r} (omega arith) in
-    rw (m, d) (omega arith, omega arith, omega arith)
+parts : (n q r : ℕ) → n ≡ q * 16 + r → r < 16 → (n % 16 ≡ r) × (n / 16 ≡ q)
+parts n q r e h = (ap (λ (x : ℕ). x % 16) e ∙ digits-mod q h, ap (λ (x : ℕ). x / 16) e ∙ digits-div q h)
 
 module _ (s b : ℕ) (h : b < 256) (low : 0 < s) (high : s < 4) where
   -- every other symbol, and what is added to it
   abbrev odd : ℕ
-  odd = b % 4 + 16 * (b / 16 % 4) + 17 * (4 - s)
+  odd = b / 4 % 4 + 16 * (b / 64) + 17 * (4 - s)
 
   abbrev even : ℕ
-  even = b / 4 % 4 + 16 * (b / 64) + 17 * (4 - s)
+  even = b % 4 + 16 * (b / 16 % 4) + 17 * (4 - s)
 
   abbrev both : ℕ
   both = odd / 4 % 2 + 16 * (odd / 64 % 2) + (even / 4 % 2 + 16 * (even / 64 % 2))
@@ -108,22 +103,25 @@ module _ (s b : ℕ) (h : b < 256) (low : 0 < s) (high : s < 4) where
   continuers-both =
       let c : ℕ = 4 - s in
       rw (← stops-two s b h)
-      (two-sums (odd / 4 % 2) (odd / 64 % 2) (even / 4 % 2) (even / 64 % 2) (cond (ltb (b % 4) s) 1 0) (cond (ltb (b % 64) (16 * s)) 1 0) (cond (ltb (b % 16) (4 * s)) 1 0) (cond (ltb b (64 * s)) 1 0)
-      (else-one (b % 4) s (carry-low (b % 4) (b / 16 % 4) c (omega arith) (omega arith)) (λ l. omega arith) (λ l. omega arith))
+      (sums (odd / 64 % 2) (even / 64 % 2) (odd / 4 % 2) (even / 4 % 2)
+      (cond (ltb b (64 * s)) 1 0) (cond (ltb (b % 64) (16 * s)) 1 0) (cond (ltb (b % 16) (4 * s)) 1 0) (cond (ltb (b % 4) s) 1 0)
+      (else-one b (64 * s) (carry-high (b / 4 % 4) (b / 64) c (omega arith) (omega arith) (omega arith)) (λ l. omega arith) (λ l. omega arith))
       (else-one (b % 64) (16 * s) (carry-high (b % 4) (b / 16 % 4) c (omega arith) (omega arith) (omega arith)) (λ l. omega arith) (λ l. omega arith))
       (else-one (b % 16) (4 * s) (carry-low (b / 4 % 4) (b / 64) c (omega arith) (omega arith)) (λ l. omega arith) (λ l. omega arith))
-      (else-one b (64 * s) (carry-high (b / 4 % 4) (b / 64) c (omega arith) (omega arith) (omega arith)) (λ l. omega arith) (λ l. omega arith)))
+      (else-one (b % 4) s (carry-low (b % 4) (b / 16 % 4) c (omega arith) (omega arith)) (λ l. omega arith) (λ l. omega arith)))
+    where
+      sums : (w x y z p q r t : ℕ) → w + p ≡ 1 → x + q ≡ 1 → y + r ≡ 1 → z + t ≡ 1
+          → let n = y + 16 * w + (z + 16 * x) in (n % 16 + n / 16 + (p + q + r + t) ≡ 4) × (n % 16 ≤ 2) × (n / 16 ≤ 2)
+      sums w x y z p q r t hw hx hy hz =
+          let m = parts (y + 16 * w + (z + 16 * x)) (w + x) (y + z) (omega arith) (omega arith) in
+          rw (m .0, m .1) (omega arith, omega arith, omega arith)
 
 -- those of three bytes
 pub three-sums : (x y z : ℕ) → x % 16 ≤ 2 → y % 16 ≤ 2 → z % 16 ≤ 2
     → (x + y + z) % 16 + (x + y + z) / 16 ≡ x % 16 + x / 16 + (y % 16 + y / 16) + (z % 16 + z / 16)
 three-sums x y z hx hy hz =
-    let q : ℕ = x / 16 + y / 16 + z / 16 in
-    let r : ℕ = x % 16 + y % 16 + z % 16 in
-    let e : x + y + z ≡ q * 16 + r = omega arith in
-    let m : (x + y + z) % 16 ≡ r = ap (λ (n : ℕ). n % 16) e ∙ digits-mod q {m = 16} {r = r} (omega arith) in
-    let d : (x + y + z) / 16 ≡ q = ap (λ (n : ℕ). n / 16) e ∙ digits-div q {m = 16} {r = r} (omega arith) in
-    rw (m, d) (omega arith)
+    let m = parts (x + y + z) (x / 16 + y / 16 + z / 16) (x % 16 + y % 16 + z % 16) (omega arith) (omega arith) in
+    rw (m .0, m .1) (omega arith)
 
 module _ (c : Code) (g : T (goodCode c)) (buf : List ℕ) where
   abbrev k : ℕ

@@ -114,7 +114,7 @@ pattern-sound {r} {buf} {pattern} c e =
     (accepted-sound r buf a, true-yes _ (not-false (goodPattern pattern) (accepted-none (searchRows pattern) tt b .0)))
 
 module _ {r : Roll} {buf pattern slice : List ℕ} where
-  -- what is refused there is refused with a total too
+  -- what check_pattern refuses, a search refuses alike
   pub search-refused : {a : Done} {n v : ℕ} → PatternChecked r buf pattern a → a ≡ Refused n v → Searching r buf pattern slice (total-refused n v) slice
   unfolding searchSays
   search-refused {n = n} {v = v} c e =

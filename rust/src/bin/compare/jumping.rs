@@ -175,13 +175,13 @@ pub fn hits(roll: &Roll, buf: &[u8], packed: &[u8], entries: usize, error: &str)
         let last = f + wide - 1;
         // Windows with keys of two bytes are jumped four at a time where none of the keys stands in the pattern.
         if back == 1 && last + 3 * places < full {
-            let mut asked = match error {
+            let mut windows = match error {
                 "asks the first of four windows" => 0..1,
                 "asks three of four windows" => 0..3,
                 "asks the last of four windows" => 3..4,
                 _ => 0..4,
             };
-            if asked.all(|window| entry_at(last + window * places) == 0) {
+            if windows.all(|ahead| entry_at(last + ahead * places) == 0) {
                 f += 4 * step;
                 continue;
             }

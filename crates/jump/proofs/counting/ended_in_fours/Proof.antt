@@ -15,14 +15,14 @@ use Rattle.jump.proofs.counting.ended_in_fours.Statement.{statement}
 use Rattle.jump.proofs.counting.ended_in_fours.Tie as tie
 
 abbrev Inv-loop : tie.InvT-loop
-Inv-loop code buf i more₀ j₀ more j =
+Inv-loop code buf i continuers₀ j₀ continuers j =
     let before : ℕ → ℕ = λ q. numberAt code buf (q * per (code .k)) in
     (j ≤ 16)
-    × (more ≤ 12 * j)
-    × (more + (before (i + j) + before (i + 16 + j) + before (i + 32 + j)) ≡ 12 * j + (before i + before (i + 16) + before (i + 32)))
+    × (continuers ≤ 12 * j)
+    × (continuers + (before (i + j) + before (i + 16 + j) + before (i + 32 + j)) ≡ 12 * j + (before i + before (i + 16) + before (i + 32)))
 
 abbrev μ-loop : tie.MeasureT-loop
-μ-loop code buf i more₀ j₀ more j = 16 - j
+μ-loop code buf i continuers₀ j₀ continuers j = 16 - j
 
 -- the way back from a turn
 abbrev begun : tie.At-loop Inv-loop μ-loop → tie.Start Inv-loop μ-loop

@@ -1,6 +1,5 @@
 -- `jump::windows::key` meets its contract.
 use mathlib.Core.Path.{sym}
-use native.Mathlib.Nat.{mod-lt, div-lt-iff-lt-mul}
 use native.Mathlib.Omega.{arith}
 use borrow.Author.Needs.{needs}
 use Rattle.jump.specs.Laws.Table.{key-zero, key-pair}
