@@ -51,7 +51,7 @@ module _ {back places : ℕ} {t buf : List ℕ} where
   skipped-then p none = p
   skipped-then p (also s to e) = also (skipped-then p s) to e
 
-  -- from a window that the table says `place` of: as far as that, or past it and on from the next
+  -- from a window that the table says `place` of: on to there, or if it is 0 by all places, and then as far as from the next
   pub skipped-ahead : (e place beyond ahead : ℕ) → says back t buf e ≡ place → Skipped back places t buf (e + places) (e + places + beyond)
       → (place ≡ 0 → ahead ≡ places + beyond) → (0 < place → ahead ≡ places - place) → Skipped back places t buf e (e + ahead)
   skipped-ahead e zero beyond ahead z p past there =
