@@ -2,7 +2,7 @@
 // Each operation is its refusals, in the paper's order, and then a helper of the crates below: `reading`, `moves`, `sound`, `find` or `store`.
 pub mod check;
 pub mod edit;
-mod fits;
+pub mod fits;
 pub mod make_directory;
 pub mod pack;
 pub mod read_one;

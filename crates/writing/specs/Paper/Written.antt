@@ -20,6 +20,11 @@ decimal n = decimalIn 20 n
 abbrev pub hexOf : ℕ → List ℕ
 hexOf b = glyph (b / 16) ∷ glyph (b % 16) ∷ []
 
+-- bytes in hexadecimal
+unfoldable pub hexRow : List ℕ → List ℕ
+hexRow [] = []
+hexRow (b ∷ bytes) = hexOf b ++ hexRow bytes
+
 -- bytes in hexadecimal, 32 a line; `i` stand on the line already
 unfoldable pub hexFrom : ℕ → List ℕ → List ℕ
 hexFrom zero [] = []

@@ -1,0 +1,3 @@
+-- What only helpers' contracts speak of.
+pub mod Digits
+pub mod Refused
