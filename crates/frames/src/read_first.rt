@@ -16,7 +16,7 @@ ghost use Rattle.frames.specs.Paper.Operations.{ReadingFirst};
 ghost use Rattle.frames.specs.Helpers.Refused.{refusedRead};
 
 // The bytes before the characters.
-const HEAD: usize = 13;
+pub const HEAD: usize = 13;
 
 // A record that was read, or beside a refusal one that is all 0.
 pub struct RollRead {

@@ -4,6 +4,7 @@ use crate::read_first::RollRead;
 use crate::read_first::read_first;
 use crate::read_first::refused;
 use crate::read_frame::MOST_BYTES;
+use crate::read_frame::bytes_next;
 use crate::read_frame::is_later;
 use crate::read_frame::take_packed;
 use ground::answers::Done;
@@ -15,27 +16,16 @@ use sound::records::Roll;
 use symbols::size::bytes_for;
 ghost use mathlib.Core.Path.{_≡_};
 ghost use mathlib.Core.List.{_++_};
-ghost use Prim.Native.Nat.{_^_, _≤_, _<_};
+ghost use Prim.Native.Nat.{_≤_, _<_};
 ghost use lib.Dec.{T};
 ghost use lib.ListN.{length, drop};
 ghost use Rattle.ground.specs.Paper.Answers.{doneSays};
 ghost use Rattle.stopper.specs.Paper.Table.{goodTable};
 ghost use Rattle.symbols.specs.Helpers.Widths.{Width};
 ghost use Rattle.judge.specs.Paper.Judge.{judgeFor, judgeAfter, verdictSays};
-ghost use Rattle.frames.specs.Paper.Frames.{laterFor, bytesNext, allRight, packedFrom};
+ghost use Rattle.frames.specs.Paper.Frames.{laterFor, allRight, packedFrom};
 ghost use Rattle.frames.specs.Paper.Operations.{linesSay, ReadingFrames};
 ghost use Rattle.frames.specs.Helpers.Refused.{ReadingRest};
-
-// Of so many packed bytes, those in the next line.
-fn bytes_next(bytes: usize) -> usize
-    ensures { λ r. ⌜ r ≡ bytesNext bytes ⌝ }
-{
-    if bytes <= MOST_BYTES {
-        bytes
-    } else {
-        MOST_BYTES
-    }
-}
 
 // Whether the lines after the first are all there, and none too many: each has the length that the packed bytes ask for.
 fn check_lines(rest: &[u8], bytes: usize) -> Done

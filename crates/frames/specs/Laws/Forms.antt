@@ -1,16 +1,16 @@
 -- A first line and a later one: their forms, asked part by part.
-use mathlib.Core.Path.{_≡_, refl, sym, ap, subst, _∙_}
+use mathlib.Core.Path.{_≡_, refl}
 use mathlib.Core.Logic.{_≢_}
 use mathlib.Core.Bool.{Bool, true, false, _&&_}
-use mathlib.Core.List.{List, _++_}
+use mathlib.Core.List.{List}
 use Prim.Native.Nat.{ℕ, _+_, _-_, _*_, _≤_, _<_}
 use native.Mathlib.Omega.{arith}
 use borrow.Author.Tests.{le-leb, lt-leb, eq-eqb, ne-eqb}
 use mir.Facts.{and-yes, eqb-yes}
 use lib.Dec.{T, leb, eqb, leb→le}
-use lib.ListN.{length, take, drop, getD, length-drop}
-use lib.Seq.{getD-drop, length-take-le}
-use Rattle.ground.specs.Laws.Tests.{by-value, same-test, true-yes, yes-true}
+use lib.ListN.{length, drop, getD, length-drop}
+use lib.Seq.{getD-drop}
+use Rattle.ground.specs.Laws.Tests.{same-test, true-yes, yes-true}
 use Rattle.frames.specs.Paper.Frames.{isLine, bytesIn, twoAt, firstHead, isFirst, mostBytes, isLater, packedIn}
 use Rattle.frames.specs.Laws.Lines.{line-long}
 

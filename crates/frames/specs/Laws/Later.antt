@@ -1,8 +1,8 @@
 -- The later lines of a text, one after the other: where each ends, and what is left behind it.
 use mathlib.Core.Path.{_≡_, refl, sym, ap, subst, _∙_}
-use mathlib.Core.Bool.{Bool, true, false, cond, _&&_}
-use mathlib.Core.List.{List, [], _∷_, _++_}
-use Prim.Native.Nat.{ℕ, zero, suc, _+_, _-_, _*_, _/_, _≤_, _<_}
+use mathlib.Core.Bool.{true, false, _&&_}
+use mathlib.Core.List.{List, [], _++_}
+use Prim.Native.Nat.{ℕ, zero, suc, _+_, _-_, _*_, _≤_, _<_}
 use native.Mathlib.Decide.{ℕ-discrete, decLe}
 use native.Mathlib.Omega.{arith}
 use borrow.Author.Tests.{le-leb, lt-leb, eq-eqb}
@@ -12,7 +12,7 @@ use lib.ListN.{length, take, drop, length-append, length-drop, take-append-drop}
 use lib.Seq.{length-take-le, take-at, drop-drop}
 use Rattle.ground.specs.Laws.Tests.{same-test, true-yes, yes-true, by-value}
 use Rattle.ground.specs.Paper.Rows.{firstWhere}
-use Rattle.frames.specs.Paper.Frames.{endsLine, laterFor, mostBytes, bytesNext, lineOf, restOf, isLine, isLater, packedIn, rightLine, allRight, rightBefore, packedFrom}
+use Rattle.frames.specs.Paper.Frames.{endsLine, laterFor, mostBytes, bytesNext, lineOf, restOf, isLater, packedIn, rightLine, allRight, rightBefore, packedFrom}
 use Rattle.frames.specs.Laws.Lines.{line-first}
 use Rattle.frames.specs.Laws.Forms.{later-parts, later-long}
 
@@ -41,7 +41,8 @@ longNext bytes = 2 * bytesNext bytes + 3
 
 -- ---- the next line
 
-whole : (text : List ℕ) → lineOf text ++ restOf text ≡ text
+-- a text is its first line and the rest
+pub whole : (text : List ℕ) → lineOf text ++ restOf text ≡ text
 unfolding lineOf restOf
 whole text = take-append-drop (suc (firstWhere endsLine text)) text
 

@@ -1,27 +1,27 @@
 -- A line: its bytes and its digits one by one, and where it ends in a text.
-use mathlib.Core.Path.{_≡_, refl, sym, ap, ap₂, subst, _∙_}
+use mathlib.Core.Path.{_≡_, refl, sym, ap, _∙_}
 use mathlib.Core.Logic.{_≢_}
-use mathlib.Core.Bool.{Bool, true, false, not, cond, _&&_, _||_}
+use mathlib.Core.Bool.{Bool, true, false, not, _&&_, _||_}
 use mathlib.Core.List.{List, [], _∷_, _++_}
 use Prim.Native.Nat.{ℕ, zero, suc, _+_, _-_, _*_, _/_, _%_, _≤_, _<_}
 use native.Mathlib.Nat.{le-of-suc-le-suc, not-suc-le-zero}
 use native.Mathlib.Numerals.{add-one}
 use native.Mathlib.Omega.{arith}
-use borrow.Author.Tests.{le-leb, lt-leb, leb-true, leb-false, eq-eqb, ne-eqb, eqb-true}
+use borrow.Author.Tests.{le-leb, lt-leb, eq-eqb, ne-eqb}
 use mir.Facts.{and-yes, eqb-yes}
 use lib.Dec.{T, leb, eqb, leb→le}
 use lib.ListN.{length, take, drop, getD, drop-of-length-le}
 use lib.Seq.{take-all}
 use Rattle.ground.specs.Paper.Rows.{firstWhere}
-use Rattle.ground.specs.Laws.Rows.{first-here, first-later, first-at, first-past, first-end}
-use Rattle.ground.specs.Laws.Tests.{by-test, by-value}
+use Rattle.ground.specs.Laws.Rows.{first-here, first-later, first-at, first-past}
+use Rattle.ground.specs.Laws.Tests.{by-test}
 use Rattle.frames.specs.Paper.Frames.{endsLine, lineOf, restOf, isDigit, digit, isLine, bytesIn}
 use Rattle.frames.specs.Helpers.Digits.{allDigits, LineEnds}
 
 -- ---- a digit
 
--- one that is none of both kinds is no digit; and no digit is byte 10
-digit-kinds : (c : ℕ) → T (isDigit c) → {X : Type 0} → (48 ≤ c → c ≤ 57 → X) → (97 ≤ c → c ≤ 102 → X) → X
+-- of one kind or the other; and none is byte 10
+pub digit-kinds : (c : ℕ) → T (isDigit c) → {X : Type 0} → (48 ≤ c → c ≤ 57 → X) → (97 ≤ c → c ≤ 102 → X) → X
 unfolding isDigit
 digit-kinds c t {X} low high =
     by-test (leb 48 c && leb c 57)

@@ -18,15 +18,17 @@ frame bytes = hexRow bytes ++ (10 ∷ [])
 
 -- a number in two bytes, and in four, the high byte first
 abbrev pub inTwo : ℕ → List ℕ
-inTwo x = x / 256 % 256 ∷ x % 256 ∷ []
+inTwo x = x / 256 ∷ x % 256 ∷ []
 
 abbrev pub inFour : ℕ → List ℕ
-inFour x = x / 16777216 % 256 ∷ x / 65536 % 256 ∷ x / 256 % 256 ∷ x % 256 ∷ []
+inFour x = inTwo (x / 65536) ++ inTwo (x % 65536)
 
 -- the first frame of a roll: 01, k, s, σ, n, h, and the σ characters
+abbrev pub headBytes : Roll → List ℕ
+headBytes r = (1 ∷ r .table .code .k ∷ r .table .code .s ∷ []) ++ (inTwo (r .table .sigma) ++ (inFour (r .n) ++ inFour (r .h)))
+
 unfoldable pub firstBytes : Roll → List ℕ
-firstBytes r =
-    (1 ∷ r .table .code .k ∷ r .table .code .s ∷ []) ++ (inTwo (r .table .sigma) ++ (inFour (r .n) ++ (inFour (r .h) ++ characters (r .table))))
+firstBytes r = headBytes r ++ characters (r .table)
 
 -- a later frame has at most so many packed bytes
 abbrev pub mostBytes : ℕ

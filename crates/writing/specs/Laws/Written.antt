@@ -14,7 +14,7 @@ use lib.Seq.{drop-cons}
 use Rattle.ground.specs.Paper.Runs.{over}
 use Rattle.ground.specs.Helpers.Below.{Below, none, also}
 use Rattle.ground.specs.Laws.Runs.{over-none, over-after, over-length, set-over}
-use Rattle.writing.specs.Paper.Written.{glyph, decimalIn, decimal, hexOf, hexFrom, hexLines, numberLines}
+use Rattle.writing.specs.Paper.Written.{glyph, decimalIn, decimal, hexOf, hexRow, hexFrom, hexLines, numberLines}
 
 -- ---- a number's digits
 
@@ -131,6 +131,26 @@ pub numbers-more : (numbers : List ℕ) (i : ℕ) → i < length numbers
     → numberLines (drop i numbers) ≡ decimal (getD numbers i 0) ++ (10 ∷ numberLines (drop (i + 1) numbers))
 unfolding numberLines
 numbers-more numbers i h = rw (drop-more numbers i h)
+
+-- bytes in a row, and two rows
+
+pub row-done : (bytes : List ℕ) (i : ℕ) → length bytes ≤ i → hexRow (drop i bytes) ≡ []
+unfolding hexRow
+row-done bytes i h = rw (drop-of-length-le bytes h)
+
+pub row-more : (bytes : List ℕ) (i : ℕ) → i < length bytes → hexRow (drop i bytes) ≡ hexOf (getD bytes i 0) ++ hexRow (drop (i + 1) bytes)
+unfolding hexRow
+row-more bytes i h = rw (drop-more bytes i h)
+
+pub row-append : (a b : List ℕ) → hexRow (a ++ b) ≡ hexRow a ++ hexRow b
+unfolding hexRow
+row-append [] b = refl
+row-append (x ∷ a) b = ap (λ (l : List ℕ). hexOf x ++ l) (row-append a b)
+
+pub row-length : (bytes : List ℕ) → length (hexRow bytes) ≡ 2 * length bytes
+unfolding hexRow
+row-length [] = refl
+row-length (b ∷ bytes) = omega (arith, row-length bytes)
 
 hex-cons : (i b : ℕ) (bytes : List ℕ) → hexFrom i (b ∷ bytes) ≡ hexOf b ++ cond (eqb i 31) (10 ∷ hexFrom 0 bytes) (hexFrom (suc i) bytes)
 unfolding hexFrom

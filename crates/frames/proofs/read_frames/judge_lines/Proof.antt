@@ -1,7 +1,7 @@
 -- `frames::read_frames::judge_lines` meets its contract: the judge heard the lines before place p, and the others it has still to hear.
 use mathlib.Core.Path.{_≡_, refl, sym, ap, subst, _∙_}
 use mathlib.Core.List.{List, _++_}
-use Prim.Native.Nat.{ℕ, _+_, _-_, _*_, _≤_, _<_}
+use Prim.Native.Nat.{ℕ, _+_, _-_, _*_, _≤_}
 use native.Mathlib.Nat.{mul-le-mul}
 use native.Mathlib.Omega.{arith}
 use lib.Dec.{T}
@@ -12,11 +12,11 @@ use Rattle.stopper.specs.Laws.Table.{code-width, table-code}
 use Rattle.symbols.specs.Paper.Symbols.{per}
 use Rattle.symbols.specs.Laws.Width.{per-few}
 use Rattle.sound.specs.declared.records.Roll.{Roll}
-use Rattle.judge.specs.Paper.Judge.{judgeFor, judgeAfter, verdictSays}
-use Rattle.judge.specs.Helpers.Steady.{Steady, Judges}
+use Rattle.judge.specs.Paper.Judge.{judgeAfter, verdictSays}
+use Rattle.judge.specs.Helpers.Steady.{Steady}
 use Rattle.judge.specs.Laws.Judged.{judge-append, judge-none, judge-roll, judge-begins, judge-steady}
 use Rattle.judge.specs.declared.records.Judge.{Judge}
-use Rattle.frames.specs.Paper.Frames.{laterFor, mostBytes, bytesNext, allRight, packedIn, packedFrom}
+use Rattle.frames.specs.Paper.Frames.{laterFor, mostBytes, allRight, packedIn, packedFrom}
 use Rattle.frames.specs.Laws.Later.{packed-none, Next, next-line}
 use Rattle.frames.proofs.read_frames.judge_lines.Statement.{statement}
 use Rattle.frames.proofs.read_frames.judge_lines.Tie as tie

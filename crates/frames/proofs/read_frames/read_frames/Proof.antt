@@ -1,18 +1,16 @@
 -- `frames::read_frames::read_frames` meets its contract: the first line, and then the others.
-use mathlib.Core.Path.{_≡_, sym, ap, ap₂, subst, _∙_}
+use mathlib.Core.Path.{_≡_, sym, subst, _∙_}
 use mathlib.Core.List.{List}
-use Prim.Native.Nat.{ℕ, _-_, _≤_}
+use Prim.Native.Nat.{ℕ, _-_}
 use native.Mathlib.Nat.{le-of-eq}
-use native.Mathlib.Omega.{arith}
 use borrow.Author.Needs.{needs}
 use lib.ListN.{length, take, drop, length-drop}
 use lib.Seq.{length-take-le, take-all}
-use Rattle.ground.specs.Paper.Answers.{doneSays}
 use Rattle.ground.specs.Laws.Answers.{says-as}
 use Rattle.ground.specs.Laws.Refusals.{Accepted, accepted-leaves}
 use Rattle.symbols.specs.Helpers.Widths.{Width}
 use Rattle.sound.specs.declared.records.Roll.{Roll}
-use Rattle.frames.specs.Paper.Frames.{lineOf, restOf, recordIn}
+use Rattle.frames.specs.Paper.Frames.{lineOf, restOf}
 use Rattle.frames.specs.Paper.Operations.{firstSays, ReadingFirst, recordOfText}
 use Rattle.frames.specs.Helpers.Refused.{ReadingRest}
 use Rattle.frames.specs.Laws.Operations.{first-width, read-refused, read-rest, read-yes}
