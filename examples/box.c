@@ -1,6 +1,6 @@
 /* A notice box. The office packs a small members' file and sends it. The box names the members' lines while the roll is
- * still coming in, finds a pan where the roll lies, reads that member's line, corrects the telephone number in it and
- * saves the roll. Everything lies in fixed buffers, and every answer is looked at. */
+ * still coming in, finds a pan where the roll lies, reads that member's line, corrects the telephone number in it, saves
+ * the roll and sends it on as lines of text. Everything lies in fixed buffers, and every answer is looked at. */
 #include <inttypes.h>
 #include <stdio.h>
 #include <stdlib.h>
@@ -124,6 +124,26 @@ static int load(FILE *file)
             fread(&kept, sizeof kept, 1, file) == 4 && kept == sum_of_box();
 }
 
+/* The next box: what came on the line, and the buffer for the roll in it. */
+static uint8_t frames[MONTERCULO_FRAMES(MONTERCULO_PLACES, sizeof buf * 8 / WIDTH, WIDTH)], next[sizeof buf];
+
+/* Writes the roll as a frame text, which the next box reads; at first its last line has lost its end. */
+static void send_on(void)
+{
+    struct monterculo_rolled came;
+    size_t length = expect(0, monterculo_write_frames(roll, buf, sizeof buf, frames, sizeof frames), "write frames");
+
+    fwrite(frames, 1, length, stdout);
+    came = monterculo_read_frames(frames, length - 1, next, sizeof next);
+    printf("without its last byte line %" PRIu64 " is refused, %s\n",
+           expect(MONTERCULO_BAD_LINE, came.answer, "read frames"), monterculo_text(came.answer.number));
+    came = monterculo_read_frames(frames, length, next, sizeof next);
+    expect(0, came.answer, "read frames");
+    if (came.roll.h != roll.h || memcmp(next, buf, MONTERCULO_BYTES(roll.h, roll.table.k)) != 0)
+        exit(EXIT_FAILURE);
+    printf("whole, its %zu bytes are the same roll in the next box\n", length);
+}
+
 int main(void)
 {
     static uint32_t counts[256];
@@ -187,5 +207,6 @@ int main(void)
     expect(0, monterculo_check(roll, buf, sizeof buf), "check");
     printf("saved and read back, its checksum and its check right\n");
     print_roll();
+    send_on();
     return EXIT_SUCCESS;
 }

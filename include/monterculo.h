@@ -1,4 +1,5 @@
-/* Monterculo: a text packed in a stopper code, searched and edited where it lies, and searched while it still comes in.
+/* Monterculo: a text packed in a stopper code, searched and edited where it lies, searched while it still comes in, and
+ * sent as lines of text.
  * For C99 and C++ on x86-64; a program links libmonterculo.a, which needs the C library and nothing else.
  *
  * A text is bytes; one byte is one character. A roll is a text packed as base symbols of k bits, k = 2 or 4.
@@ -40,6 +41,9 @@
  *   a directory           n/32 entries of 32 bits, rounded up: MONTERCULO_ENTRIES(n)
  *   a buffer              h*k/8 bytes, rounded up, for h symbols: MONTERCULO_BYTES(h, k)
  *   hits of a piece       8/k entries of 32 bits for each of its bytes: MONTERCULO_HITS(piece_len, k)
+ *   a frame text          27 + 2*sigma + 2*b + 3*f bytes for b packed bytes in b/32 frames, rounded up, which are f:
+ *                         MONTERCULO_FRAMES(sigma, h, k), at most 69,147
+ *   bytes of a frame      32 at most: MONTERCULO_FRAME
  * No roll has more than 65,536 symbols. The room of a buffer is the smaller of 65,536 and its bytes times 8/k, in
  * symbols. For an edit, lend what the roll needs before it and what it needs after it, whichever is more. */
 #ifndef MONTERCULO_H
@@ -55,17 +59,21 @@ extern "C" {
 /* Of this header: the first number changes where the form of a struct or a function does, the second where one is added
  * or answers otherwise. */
 #define MONTERCULO_VERSION_MAJOR 1
-#define MONTERCULO_VERSION_MINOR 3
-#define MONTERCULO_VERSION "1.3"
+#define MONTERCULO_VERSION_MINOR 4
+#define MONTERCULO_VERSION "1.4"
 
 #define MONTERCULO_PLACES 256
 #define MONTERCULO_CODEWORD 86
 #define MONTERCULO_PATTERN 64
 #define MONTERCULO_SEARCHER 384 /* sizeof(struct monterculo_searcher) */
 #define MONTERCULO_SYMBOLS 65536
+#define MONTERCULO_FRAME 32
 #define MONTERCULO_ENTRIES(n) ((size_t)(n) / 32 + ((n) % 32 != 0))
 #define MONTERCULO_BYTES(h, k) (((size_t)(h) * (k) + 7) / 8)
 #define MONTERCULO_HITS(piece_len, k) ((size_t)(piece_len) * ((k) == 4 ? 2 : 4))
+#define MONTERCULO_FRAMES(sigma, h, k) \
+    (27 + 2 * (size_t)(sigma) + 2 * MONTERCULO_BYTES(h, k) + \
+     3 * ((MONTERCULO_BYTES(h, k) + MONTERCULO_FRAME - 1) / MONTERCULO_FRAME))
 
 enum monterculo_number {
     MONTERCULO_ACCEPTED = 0,
@@ -97,10 +105,12 @@ enum monterculo_number {
     MONTERCULO_BAD_PATTERN = 11,
     /* Directory shorter than the result needs. Value: entries needed. */
     MONTERCULO_SHORT_DIRECTORY = 12,
-    /* Output shorter than the range. Value: range length. */
+    /* Output shorter than the range, the frame text or the frame's bytes. Value: bytes needed. */
     MONTERCULO_SHORT_OUTPUT = 13,
     /* Hit slice shorter than 8/k entries for each byte of the piece. Value: entries needed. */
-    MONTERCULO_SHORT_HITS = 14
+    MONTERCULO_SHORT_HITS = 14,
+    /* A line of a frame text wrong, missing or too many. Value: its number, from 0. */
+    MONTERCULO_BAD_LINE = 15
 };
 
 /* The words for an answer's number. */
@@ -120,8 +130,9 @@ static inline const char *monterculo_text(uint32_t number)
     case MONTERCULO_BAD_RANGE: return "a range or a place that the text does not have";
     case MONTERCULO_BAD_PATTERN: return "pattern empty or over 64";
     case MONTERCULO_SHORT_DIRECTORY: return "directory shorter than the result needs";
-    case MONTERCULO_SHORT_OUTPUT: return "output shorter than the range";
+    case MONTERCULO_SHORT_OUTPUT: return "output shorter than the range, the frame text or the frame's bytes";
     case MONTERCULO_SHORT_HITS: return "the hit slice has fewer entries than the piece has symbols";
+    case MONTERCULO_BAD_LINE: return "a line of a frame text wrong, missing or too many";
     default: return "no number of this library";
     }
 }
@@ -333,6 +344,40 @@ static inline struct monterculo_answer monterculo_feed_into(struct monterculo_se
     *hits = fed.hits;
     return fed.answer;
 }
+
+/* A roll as a frame text: lines of lower-case hexadecimal digits, one frame a line, each ended by byte 10. Each frame is
+ * bytes, two digits a byte. The first: 1, k, s, sigma (2 bytes), n (4), h (4), the high byte first, and the sigma
+ * characters. Each later one: 2 and up to 32 packed bytes; all but the last have 32, and with h 0 there is none.
+ * A line runs up to its byte 10, which belongs to it. Capitals, blanks, byte 13, an odd number of digits, an empty line and
+ * a line without byte 10 are wrong. A first line has 27 + 2*sigma bytes, a later one at most 67. */
+
+/* Writes a roll as a frame text.
+ * Refused: check's 1, 5, 6, 7, 8, then 13 (bytes of the frame text, bytes 10 counted).
+ * Writes: the text, from the first byte of out on; later bytes unchanged.
+ * Value: the bytes written: MONTERCULO_FRAMES(sigma, h, k). */
+struct monterculo_answer monterculo_write_frames(struct monterculo_roll roll, const uint8_t *buf, size_t buf_len,
+                                                 uint8_t *out, size_t out_len);
+
+/* Reads a frame text, and checks the roll. What was said of faults that pass check holds of changed digits too.
+ * Refused: 15 (0; the first line), 1 (0; the width only), 15 (number of the first line that is wrong, missing or too many;
+ * any byte behind the last line is a line too many), then check's: 1 (0), 5 (h; of the room of buf), 6 (the bad codeword's
+ * first symbol), 7 (codewords read), 8 (0); the roll is then all 0.
+ * Writes: the packed bytes, later bytes unchanged. The answered roll's places past sigma are 0. */
+struct monterculo_rolled monterculo_read_frames(const uint8_t *text, size_t text_len, uint8_t *buf, size_t buf_len);
+
+/* Reads the first line of a frame text, its byte 10 included, for a box that searches or keeps the roll while it comes in.
+ * Of the table the width alone is asked here. With sigma over 256 the first 256 characters are kept, and whoever is given
+ * the roll refuses its table.
+ * Refused: 15 (0), 1 (0; the width only); the roll is then all 0.
+ * The answered roll's places past sigma are 0. */
+struct monterculo_rolled monterculo_read_first(const uint8_t *line, size_t line_len);
+
+/* Reads a later line of a frame text, its byte 10 included: the next piece of the roll, of 1 to 32 bytes. Whether all came,
+ * and in their order, it does not say.
+ * Refused: 15 (0), 13 (packed bytes of the line).
+ * Writes: the packed bytes, from the first byte of out on; later bytes unchanged.
+ * Value: how many they are. */
+struct monterculo_answer monterculo_read_frame(const uint8_t *line, size_t line_len, uint8_t *out, size_t out_len);
 
 #ifdef __cplusplus
 }

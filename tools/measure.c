@@ -18,12 +18,13 @@
 enum { STACK = 1 << 18, PAINT = 0xA5 };
 
 static uint8_t stack[STACK], text[20000], buf[32768], out[65536];
+static uint8_t frames[MONTERCULO_FRAMES(256, MONTERCULO_SYMBOLS, 4)], next[32768];
 static uint32_t counts[256], dir[2048], hits[65536];
 static struct monterculo_table table;
 static struct monterculo_roll roll;
 static struct monterculo_codeword word;
 static struct monterculo_searcher fresh, whole;
-static size_t length;
+static size_t length, framed;
 static ucontext_t back, there;
 static uint8_t *top;
 
@@ -49,6 +50,10 @@ CALL(search_jumping, monterculo_search_jumping(roll, buf, sizeof buf, text + len
 CALL(start, monterculo_start(roll, text + length - 64, 64).answer)
 CALL(feed, monterculo_feed(fresh, buf, MONTERCULO_BYTES(roll.h, 2), hits, ROOM(hits)).answer)
 CALL(finish, monterculo_finish(whole))
+CALL(write_frames, monterculo_write_frames(roll, buf, sizeof buf, frames, sizeof frames))
+CALL(read_frames, monterculo_read_frames(frames, framed, next, sizeof next).answer)
+CALL(read_first, monterculo_read_first(frames, MONTERCULO_FRAMES(256, 0, 2)).answer)
+CALL(read_frame, monterculo_read_frame(frames + MONTERCULO_FRAMES(256, 0, 2), 67, out, sizeof out))
 CALL(edit, monterculo_edit(roll, buf, sizeof buf, dir, ROOM(dir), 3, 60, text + length - 80, 80).answer)
 
 static void measure(const char *name, void (*call)(void))
@@ -105,6 +110,7 @@ int main(void)
     roll = monterculo_pack(table, text, length, buf, sizeof buf).roll;
     fresh = monterculo_start(roll, text + length - 64, 64).searcher;
     whole = monterculo_feed(fresh, buf, MONTERCULO_BYTES(roll.h, 2), hits, ROOM(hits)).searcher;
+    framed = (size_t)monterculo_write_frames(roll, buf, sizeof buf, frames, sizeof frames).value;
 #define MEASURE(name) measure(#name, name)
     MEASURE(count);
     MEASURE(choose);
@@ -120,6 +126,10 @@ int main(void)
     MEASURE(start);
     MEASURE(feed);
     MEASURE(finish);
+    MEASURE(write_frames);
+    MEASURE(read_frames);
+    MEASURE(read_first);
+    MEASURE(read_frame);
     MEASURE(edit);
     faults(2);
     faults(4);

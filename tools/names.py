@@ -50,7 +50,7 @@ for p in tree:
     if p.suffix in (".rt", ".antt", ".rs", ".c", ".h", ".py", ".edit", ".toml", "") and p.stat().st_size < 400000:
         words.update(WORD.findall(p.read_text(encoding="utf-8", errors="ignore")))
 cases = (ROOT / "tools" / "vectors.py").read_text(encoding="utf-8")
-listing = "".join((ROOT / "crates" / crate / "stdin").read_text(encoding="utf-8") for crate in ("vectors", "vectors_radio"))
+listing = "".join((ROOT / "crates" / crate / "stdin").read_text(encoding="utf-8") for crate in ("vectors", "vectors_radio", "vectors_frames"))
 
 
 def miss(page, line, what):

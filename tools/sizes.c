@@ -4,7 +4,7 @@
  *
  * Each roll takes whole lines until one more does not fit into 65,536 symbols under the table chosen for just these.
  * The symbols are those of packing: the total that choosing answers may be more. A file is what examples/members.c
- * saves: 24 bytes, the characters of the table, the packed bytes and the directory. */
+ * saves: 24 bytes, the characters of the table, the packed bytes and the directory. Frames are the text that sends a roll. */
 #include <stdio.h>
 
 #include "monterculo.h"
@@ -38,7 +38,7 @@ int main(void)
     if (length == sizeof text || ends[lines] != length)
         return 1;
     for (k = 2; k <= 4; k += 2) {
-        size_t from = 0, first = 0, rolls = 0, symbols = 0, bytes = 0, entries = 0, file = 0;
+        size_t from = 0, first = 0, rolls = 0, symbols = 0, bytes = 0, entries = 0, file = 0, frames = 0;
         while (from < lines) {
             size_t fits = from, over = lines + 1;
             struct monterculo_roll roll;
@@ -58,6 +58,7 @@ int main(void)
             bytes += MONTERCULO_BYTES(roll.h, k);
             entries += MONTERCULO_ENTRIES(roll.n);
             file += 24 + roll.table.sigma;
+            frames += MONTERCULO_FRAMES(roll.table.sigma, roll.h, k);
             printf("k %d: roll %zu has %zu lines; %d characters in the table, %d stoppers\n", k, ++rolls, fits - from,
                    roll.table.sigma, roll.table.s);
             if (from == 0)
@@ -65,8 +66,8 @@ int main(void)
             from = fits;
         }
         file += bytes + 4 * entries;
-        printf("k %d: %zu roll%s, %zu lines in the first; %zu symbols, %zu bytes packed, %zu of directory, %zu in files\n",
-               k, rolls, rolls == 1 ? "" : "s", first, symbols, bytes, 4 * entries, file);
+        printf("k %d: %zu roll%s, %zu lines in the first; %zu symbols, %zu bytes packed, %zu of directory, %zu in files, "
+               "%zu as frames\n", k, rolls, rolls == 1 ? "" : "s", first, symbols, bytes, 4 * entries, file, frames);
     }
     return 0;
 }

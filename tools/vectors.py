@@ -1,5 +1,5 @@
 #!/usr/bin/env python3
-"""Writes stdin, the cases, and stdout, what they should print, of crates/vectors and of crates/vectors_radio.
+"""Writes stdin, the cases, and stdout, what they should print, of crates/vectors, crates/vectors_radio and crates/vectors_frames.
 
 What should be printed is worked out here from the paper alone: codewords are listed in rank order by the paper's rule, a roll is read by
 looking each codeword up in that list, and every refusal is asked in the paper's order. Of a roll that comes in, all bytes that came are read
@@ -9,7 +9,7 @@ bounds of its numbers: these are the library's own choice, and stand in docs/PAP
 import pathlib
 
 LIMIT = 65536
-PART = 262144  # as crates/vectors reads them
+PART = 262144  # as each of them reads its cases
 CRATES = pathlib.Path(__file__).resolve().parent.parent / "crates"
 
 
@@ -370,6 +370,100 @@ def finish(s):
     return None
 
 
+# Frames. A record is a table, n and h.
+
+NOTHING = (0, 0, 0, [0] * 256), 0, 0
+
+
+def line_of(frame):
+    return list(bytes(frame).hex().encode()) + [10]
+
+
+def frame_text(t, n, h, buf):
+    k, s, sigma, places = t
+    used = buf[:-(-h * k // 8)]
+    first = [1, k, s, *sigma.to_bytes(2, "big"), *n.to_bytes(4, "big"), *h.to_bytes(4, "big")] + places[:sigma]
+    return line_of(first) + [c for i in range(0, len(used), 32) for c in line_of([2] + used[i:i + 32])]
+
+
+def lines_of(text):
+    """The lines, each with its byte 10; the last may have none."""
+    lines = [[]]
+    for c in text:
+        lines[-1].append(c)
+        if c == 10:
+            lines.append([])
+    return lines if lines[-1] else lines[:-1]
+
+
+def frame_in(line):
+    """The bytes on a line, or None."""
+    digits = bytes(line[:-1])
+    if line[-1:] != [10] or not digits or len(digits) % 2 or any(c not in b"0123456789abcdef" for c in digits):
+        return None
+    return [int(digits[i:i + 2], 16) for i in range(0, len(digits), 2)]
+
+
+def write_frames(t, n, h, buf, out):
+    """The refusal, or None and the bytes written; the output afterwards."""
+    refusal = check(t, n, h, buf)
+    if refusal:
+        return refusal, None, out
+    text = frame_text(t, n, h, buf)
+    if len(out) < len(text):
+        return (13, len(text)), None, out
+    return None, len(text), text + out[len(text):]
+
+
+def read_first(line):
+    """The refusal or None, the record."""
+    frame = frame_in(line)
+    if frame is None or frame[0] != 1 or len(frame) < 13:
+        return (15, 0), NOTHING
+    k, s, sigma, characters = frame[1], frame[2], 256 * frame[3] + frame[4], frame[13:]
+    if len(characters) != sigma:
+        return (15, 0), NOTHING
+    if k not in (2, 4):
+        return (1, 0), NOTHING
+    places = (characters + [0] * 256)[:256]
+    return None, ((k, s, sigma, places), int.from_bytes(bytes(frame[5:9]), "big"), int.from_bytes(bytes(frame[9:13]), "big"))
+
+
+def read_frame(line, out):
+    """The refusal, or None and how many packed bytes; the output afterwards."""
+    frame = frame_in(line)
+    if frame is None or frame[0] != 2 or not 2 <= len(frame) <= 33:
+        return (15, 0), None, out
+    came = frame[1:]
+    if len(out) < len(came):
+        return (13, len(came)), None, out
+    return None, len(came), came + out[len(came):]
+
+
+def read_frames(text, buf):
+    """The refusal or None, the record, the buffer afterwards."""
+    lines = lines_of(text)
+    refusal, (t, n, h) = read_first(lines[0] if lines else [])
+    if refusal:
+        return refusal, NOTHING, buf
+    left, came, number = -(-h * t[0] // 8), [], 1
+    while left > 0 or number < len(lines):
+        frame = frame_in(lines[number]) if number < len(lines) else None
+        if left == 0 or frame is None or frame[0] != 2 or len(frame) != 1 + min(32, left):
+            return (15, number), NOTHING, buf
+        came += frame[1:]
+        left -= len(frame) - 1
+        number += 1
+    if not good_table(t):
+        return (1, 0), NOTHING, buf
+    if h > room(t[0], buf):
+        return (5, h), NOTHING, buf
+    refusal = check(t, n, h, came)
+    if refusal:
+        return refusal, NOTHING, buf
+    return None, (t, n, h), came + buf[len(came):]
+
+
 # ---- the cases
 
 given, said = [], []
@@ -387,7 +481,7 @@ def write(crate, most=1):
                 parts.append("")
             parts[-1] += case
             case = ""
-    assert len(parts) <= most
+    assert len(parts) <= most and all(len(part) <= PART for part in parts)
     (CRATES / crate / "stdin").write_text("".join(parts))
     (CRATES / crate / "stdout").write_text("\n".join(said) + "\n")
     print(f"{crate}: {len(said)} cases, {(CRATES / crate / 'stdin').stat().st_size} bytes of input")
@@ -594,6 +688,70 @@ def given_case(words, s, pieces, expect=..., last=...):
     given.append(f"2 {searcher_in(s)} {ins}")
     said.append("given finish" + answer(finish(s)) + "\n" + outs)
     return after
+
+
+def record_out(t, n, h):
+    return f" n {n} h {h} k {t[0]} s {t[1]} sigma {t[2]}" + row_out(t[3])
+
+
+def frames_said(text, buf):
+    r, record, after = read_frames(text, buf)
+    return r, "frames" + answer(r) + record_out(*record) + row_out(after)
+
+
+def first_said(line, _):
+    r, record = read_first(line)
+    return r, "first" + answer(r) + record_out(*record)
+
+
+def frame_said(line, out):
+    r, many, after = read_frame(line, out)
+    return r, "frame" + (answer(r) if r else f" {many}") + row_out(after)
+
+
+def write_case(words, t, n, h, buf, out, other, expect=..., back=...):
+    """A roll written, and then the whole output read into the other buffer."""
+    r, many, after = write_frames(t, n, h, buf, out)
+    assert expect is ... or r == expect, (words, r, expect)
+    again, line = frames_said(after, other)
+    assert back is ... or again == back, (words, again, back)
+    assert max(len(buf), len(other)) <= 32800 and len(out) <= 69200, words
+    note(words)
+    given.append(f"1 {table_in(t)} {n} {h} {row_in(buf)} {row_in(out)} {row_in(other)}")
+    said.append("write" + (answer(r) if r else f" {many}") + row_out(after))
+    said.append(line)
+
+
+def instead(start, stop, row=(), expect=..., words=""):
+    """An edit: the bytes of start..stop make way for these; what should be answered then."""
+    return start, stop, list(row), expect, words
+
+
+def edits_case(words, kind, lent, text, expect, edits):
+    """A text read, and the text with each edit."""
+    say = {2: frames_said, 3: first_said, 4: frame_said}[kind]
+    text, ins = list(text), []
+    for start, stop, row, wanted, name in [(0, 0, [], expect, ""), *edits]:
+        after = text[:start] + row + text[stop:]
+        r, line = say(after, lent)
+        assert wanted is ... or r == wanted, (words, name, start, stop, row, r, wanted)
+        assert len(row) <= 1100 and len(after) <= 131200 and len(lent) <= 32800, words
+        ins += ["# " + name] * (name != "") + [f"{start} {stop} {row_in(row)}"]
+        said.append(line)
+    note(words)
+    given.append("\n".join([f"{kind} {row_in(lent)} {row_in(text)} {len(edits)}"] + ins[1:]))
+
+
+def frames_case(words, buf, text, expect=..., edits=()):
+    edits_case(words, 2, buf, text, expect, list(edits))
+
+
+def first_case(words, line, expect=..., edits=()):
+    edits_case(words, 3, [], line, expect, list(edits))
+
+
+def frame_case(words, out, line, expect=..., edits=()):
+    edits_case(words, 4, out, line, expect, list(edits))
 
 
 def table(k, s, characters, sigma=None, rest=0):
@@ -1503,3 +1661,337 @@ for k, s in ((2, 2), (4, 3)):
     given_case(w + "what stands past the length is not looked at", dict(searcher(t, h, h, list(b"aa"), packed(k, [0] * half)), pattern=[97] * 64),
                [packed(k, [0] * half)], [None], None)
 write("vectors_radio")
+
+# rolls as frames
+
+def fields(k, s, sigma, n, h, characters):
+    """A first line by its fields, whatever they are."""
+    return line_of([1, k, s, *sigma.to_bytes(2, "big"), *n.to_bytes(4, "big"), *h.to_bytes(4, "big"), *characters])
+
+
+def number_of(text, i):
+    """The number of the line in which place i is."""
+    return text[:i].count(10)
+
+
+def sound_row(k, s, sigma, h):
+    """h symbols that are codewords of ranks below sigma, of many kinds: how many codewords, and the symbols."""
+    words, row, n = codewords(k, s)[:sigma], [], 0
+    while len(row) < h:
+        word = words[(n * n + 3 * n + n // 7) % sigma]
+        row += word if len(row) + len(word) <= h else words[n % min(s, sigma)]
+        n += 1
+    return n, row
+
+
+def named(words, edits):
+    """These words stand before the first of them."""
+    edits = list(edits)
+    return [edits[0][:4] + (words,)] + edits[1:]
+
+
+def towards(text, wanted, expect, words):
+    """The shortest edit that makes one text of another."""
+    start = next((i for i, (a, b) in enumerate(zip(text, wanted)) if a != b), min(len(text), len(wanted)))
+    same = 0
+    while same < min(len(text), len(wanted)) - start and text[-same - 1] == wanted[-same - 1]:
+        same += 1
+    return instead(start, len(text) - same, wanted[start:len(wanted) - same], expect, words)
+
+
+# the paper's P2 and P5, and the empty roll
+P2 = frame_text(ABRA, 11, 13, BYTES)
+P5 = frame_text(BANANA, 6, 6, [0x20, 0x10, 0x10])
+assert bytes(P2) == b"01020300050000000b0000000d6162726364\n0218c34600\n"
+assert bytes(P5) == b"01040300030000000600000006616e62\n02201010\n"
+for name, t, n, h, buf in (("P2", ABRA, 11, 13, BYTES), ("P5", BANANA, 6, 6, [0x20, 0x10, 0x10])):
+    text = frame_text(t, n, h, buf)
+    many = len(text)
+    out, other = [0xEE] * many, [0xFF] * len(buf)
+    write_case(f"{name}: written and read", t, n, h, buf, out, other, None, None)
+    write_case(f"{name}: bytes behind it in its buffer are not written, and in the other one stay", t, n, h, buf + [0xAA] * 3, out, other + [0xFF] * 40,
+               None, None)
+    for more in (1, 2, 67):
+        write_case(f"{name}: bytes behind it in the output stay, here {more}: a line too many", t, n, h, buf, out + [0xEE] * more, other, None, (15, 2))
+    write_case(f"{name}: 13, one byte too few", t, n, h, buf, out[1:], other, (13, many), (15, 0))
+    write_case(f"{name}: 13, no output", t, n, h, buf, [], other, (13, many), (15, 0))
+    write_case(f"{name}: 13, all is there but the last byte 10", t, n, h, buf, text[:-1], other, (13, many), (15, 1))
+    for less in range(1, len(buf) + 1):
+        write_case(f"{name}: read into a buffer with {less} bytes too few", t, n, h, buf, out, other[less:], None, (5, h))
+    write_case(f"{name}: places past sigma are not written", t[:3] + (t[3][:t[2]] + [7] * (256 - t[2]),), n, h, buf, out, other, None, None)
+write_case("P12: the empty roll", ABRA, 0, 0, [], [0xEE] * 37, [], None, None)
+write_case("P12: the empty roll, whatever lies in the buffers", ABRA, 0, 0, [0xFF] * 2, [0xEE] * 37, [0xFF] * 2, None, None)
+write_case("P12: 13", ABRA, 0, 0, [], [0xEE] * 36, [], (13, 37), (15, 0))
+write_case("no character and no symbol", table(4, 1, []), 0, 0, [], [0xEE] * 27, [9], None, None)
+write_case("no character and no symbol, a place past sigma", table(2, 3, b"a", 0), 0, 0, [], [0xEE] * 27, [9], None, None)
+
+# written: check's refusals, then 13
+for k, s in ((2, 3), (4, 14)):
+    t, per, good = table(k, s, LETTERS), 8 // k, [0] * 5
+    for out in ([0xEE] * 200, []):
+        w = f"width {k}: " + ("" if out else "no output, ")
+
+        def refused_case(words, t, n, h, buf, expect):
+            write_case(w + words, t, n, h, buf, out, [0xFF], expect, (15, 0))
+
+        for bad in (0, 1, 3, 6, 8, 255):
+            refused_case(f"1, k {bad}", (bad, *t[1:]), 5, 5, good, (1, 0))
+        for bad in (0, 2 ** k, 255):
+            refused_case(f"1, s {bad}", (k, bad, *t[2:]), 5, 5, good, (1, 0))
+        refused_case("1, sigma 257", (k, s, 257, ALL), 5, 5, good, (1, 0))
+        refused_case("1, sigma 65535", (k, s, 65535, ALL), 5, 5, good, (1, 0))
+        refused_case("1, a character twice", (k, s, 4, [7, 8, 9, 7] + [0] * 252), 5, 5, good, (1, 0))
+        refused_case("1 before 5", (3, *t[1:]), 5, 99, good, (1, 0))
+        refused_case("5, one symbol too many", t, 5 * per + 1, 5 * per + 1, good, (5, 5 * per + 1))
+        refused_case("5, the greatest h", t, 5, 2 ** 32 - 1, good, (5, 2 ** 32 - 1))
+        refused_case("6, an open codeword", t, 5, per, packed(k, [0] * (per - 1) + [s]), (6, per - 1))
+        refused_case("6 before 7 and 8", t, 99, per + 1, packed(k, [0] * per + [s] * per), (6, per))
+        refused_case("7, n one too few", t, per - 1, per, good, (7, per))
+        refused_case("7 before 8", t, per + 2, per + 1, packed(k, [0] * (2 * per - 1) + [1]), (7, per + 1))
+        refused_case("8", t, per + 1, per + 1, packed(k, [0] * (2 * per - 1) + [1]), (8, 0))
+
+# packed bytes that nearly fill frames, fill them and go over; the last byte full, or with unused symbols
+for k, s, sigma, most in ((2, 3, 5, 96), (2, 1, 20, 33), (4, 15, 20, 65), (4, 3, 20, 33)):
+    t, per = table(k, s, LETTERS, sigma), 8 // k
+    for used in (1, 31, 32, 33, 63, 64, 65, 96):
+        for unused in (0, per - 1) if used <= most else ():
+            h = used * per - unused
+            n, row = sound_row(k, s, sigma, h)
+            buf = packed(k, row)
+            many = len(frame_text(t, n, h, buf))
+            assert len(buf) == used and many == 27 + 2 * sigma + 2 * used + 3 * -(-used // 32)
+            w = f"width {k}, s {s}: {used} packed bytes, {unused} unused symbols"
+            write_case(w, t, n, h, buf, [0xEE] * many, [0xFF] * (used + 1), None, None)
+            if used in (32, 33) and unused:
+                write_case(w + ", 13", t, n, h, buf, [0xEE] * (many - 1), [], (13, many), (15, 0))
+
+# every character, the longest codewords among them
+for k in (2, 4):
+    t, text = table(k, 2 ** k - 1, ALL), [255, 0, 254, 128, 255]
+    _, n, h, buf = pack(t, text, [0] * 500)
+    buf = buf[:-(-h * k // 8)]
+    write_case(f"width {k}: 256 characters", t, n, h, buf, [0xEE] * len(frame_text(t, n, h, buf)), [0xFF] * len(buf), None, None)
+
+# the longest rolls
+for k in (2, 4):
+    t, used = table(k, 3, b"abc"), LIMIT * k // 8
+    buf, many = [1] + [0] * (used - 2) + [2], 33 + 67 * (used // 32)
+    write_case(f"width {k}: 65,536 symbols", t, LIMIT, LIMIT, buf, [0xEE] * many, [0xFF] * used, None, None)
+    write_case(f"width {k}: 65,536 symbols, 13", t, LIMIT, LIMIT, buf, [0xEE] * (many - 1), [], (13, many), (15, 0))
+    write_case(f"width {k}: 65,537 symbols, 5", t, LIMIT + 1, LIMIT + 1, [0] * (used + 1), [0xEE] * (many + 5), [], (5, LIMIT + 1), (15, 0))
+text = frame_text(table(2, 3, b"abc"), LIMIT + 1, LIMIT + 1, [0] * 16385)
+end = len(text)
+frames_case("width 2: 65,537 symbols, and all their bytes came", [0xFF] * 32800, text, (5, LIMIT + 1), [
+    instead(end - 5, end, [], (15, 513), "the last line missing"), instead(end - 1, end, [], (15, 513), "its byte 10 missing"),
+    instead(end, end, [10], (15, 514), "a byte 10 more"), instead(4, 6, b"04", (1, 0), "1 before 5"),
+    instead(18, 26, b"00010000", (15, 513), "h 65,536: a line too many"), instead(18, 26, b"00010005", (15, 513), "h 65,541: a byte too few")])
+
+# one byte another, at every place
+DIGITS = list(b"0123456789abcdef")
+OTHERS = [10, 13, 32, 65, 70, 103, 71, 0, 47, 58, 64, 96, 255]  # no digits: byte 10, byte 13, blank, A, F, g, and more
+EACH = [b"%02x" % b for b in range(256)]
+
+
+def another(text, bytes_, expect):
+    """At every place each of these bytes but the one that stands there; what should be answered, by place and byte."""
+    return [instead(i, i + 1, [b], expect(i, b)) for i, old in enumerate(text) for b in bytes_ if b != old]
+
+
+for name, text, lent, others in (("P2", P2, [0xFF] * 6, OTHERS), ("P5", P5, [0xFF] * 3, OTHERS[:6])):
+    def line_wrong(i, b=0):
+        return 15, number_of(text, i)
+
+    places, last = range(len(text)), len(text) - 3
+    frames_case(f"{name}: another digit at every place", lent, text, None, another(text, DIGITS, lambda i, b: line_wrong(i) if text[i] == 10 else ...))
+    frames_case(f"{name}: a byte that is no digit at every place", lent, text, None, another(text, others, line_wrong))
+    frames_case(f"{name} in other ways", lent, text, None, [
+        *named("every byte left out", (instead(i, i + 1, [], line_wrong(i)) for i in places)),
+        *named("every byte twice", (instead(i, i, text[i:i + 1], (15, number_of(text, i + 1))) for i in places)),
+        *named("a blank before every byte, and at the end", (instead(i, i, [32], line_wrong(i)) for i in range(len(text) + 1))),
+        *named("cut off at every place", (instead(i, len(text), [], line_wrong(i)) for i in places)),
+        *named("begun at every place", (instead(0, i + 1, [], (15, 0)) for i in places)),
+        *named("every byte value as the last digit of the last packed byte but one",
+               (instead(last - 1, last, [b], ... if b in DIGITS else line_wrong(last)) for b in ALL)),
+        *named("a letter as a capital", (instead(i, i + 1, [c - 32], line_wrong(i)) for i, c in enumerate(text) if c >= 97)),
+        instead(0, len(text), bytes(text).upper(), (15, 0), "all letters as capitals")])
+frames_case("the empty text", [0xFF] * 2, [], (15, 0), named("and others that are hardly any", (
+    instead(0, 0, row, (15, 0)) for row in (
+        b"\n", b"\n\n", b"0", b"01", b"01\n", b"02\n", b"0\n", b"1\n", b"01\n02\n", b"0200\n", b"\0", b"\r\n", b" \n", b"\xff" * 40))))
+
+# a text of four lines: 32, 32 and 7 packed bytes
+for k, s, sigma in ((2, 3, 5), (4, 14, 20)):
+    t, per = table(k, s, LETTERS, sigma), 8 // k
+    h = 71 * per - 1
+    n, row = sound_row(k, s, sigma, h)
+    buf = packed(k, row)
+    text = frame_text(t, n, h, buf)
+    lines, end = lines_of(text), len(text)
+    at = [sum(len(line) for line in lines[:i]) for i in range(5)]
+    assert [len(line) for line in lines] == [27 + 2 * sigma, 67, 67, 17] and at[4] == end
+    w, lent = f"width {k}, four lines", [0xFF] * 73
+    stained = end - 3, end - 1, b"%02x" % (buf[-1] + 1)
+    frames_case(w, lent, text, None, [
+        *named("a line dropped", (instead(at[i], at[i + 1], [], (15, r)) for i, r in enumerate((0, 2, 2, 3)))),
+        *named("a line doubled", (instead(at[i], at[i], lines[i], (15, r)) for i, r in enumerate((1, 3, 3, 4)))),
+        instead(at[0], at[2], lines[1] + lines[0], (15, 0), "lines 0 and 1 exchanged"),
+        instead(at[1], at[3], lines[2] + lines[1], ..., "1 and 2, both full"),
+        instead(at[2], at[4], lines[3] + lines[2], (15, 2), "2 and 3"),
+        *named("the first line behind each", (instead(at[i], at[i], lines[0], (15, i)) for i in (1, 2, 3, 4))),
+        *named("a line that ends otherwise", (instead(at[i + 1] - 1, at[i + 1], ending, (15, i + ending.startswith(b"\n"))) for i in range(4) for ending in (
+            b"", b"\r\n", b" \n", b"\n\n", b"0\n", b"00\n", b"\n0", b"\n ", b"\n\0", b"\r", b"\0"))),
+        *named("a line with one digit too few, and with two", (instead(at[i + 1] - 1 - less, at[i + 1] - 1, [], (15, i)) for i in range(4) for less in (1, 2))),
+        *named("a line that begins otherwise", (instead(at[i], at[i] + 2, b, (15, i)) for i in range(4) for b in (
+            b"01" if i else b"02", b"00", b"03", b"12", b"11", b"20", b"10", b"82", b"81", b"ff", b"2", b"1", b"", b" 02", b" 01", b"0x", b"0X", b"+2"))),
+        *named("a line empty, and with its first byte alone", (
+            instead(at[i], at[i + 1], row, (15, i)) for i in range(4) for row in (b"\n", b"02\n" if i else b"01\n"))),
+        *named("an empty line before each, and at the end", (instead(at[i], at[i], b"\n", (15, i)) for i in range(5))),
+        *named("a line 02 before each, and at the end", (instead(at[i], at[i], b"02\n", (15, i)) for i in range(5))),
+        *named("one byte behind the end", (instead(end, end, [b], (15, 4)) for b in (10, 13, 32, 48, 97, 65, 0, 255))),
+        *named("a line behind the end", (instead(end, end, row, (15, 4)) for row in (b"0200\n", b"00\n", b"0200", lines[1], lines[3])))])
+    shapes = []
+    for shape, r in (((31, 32, 8), 1), ((31, 33, 7), 1), ((33, 31, 7), 1), ((33, 32, 6), 1), ((32, 31, 8), 2), ((32, 33, 6), 2), ((32, 32, 6), 3),
+                     ((32, 32, 8), 3), ((32, 32, 6, 1), 3), ((32, 32, 3, 4), 3), ((32, 16, 16, 7), 2), ((1, 31, 32, 7), 1), ((64, 7), 1), ((32, 39), 2),
+                     ((71,), 1), ((32, 7, 32), 2), ((32, 32, 32), 3)):
+        starts = [sum(shape[:i]) for i in range(len(shape) + 1)]
+        wanted = lines[0] + [c for i, j in zip(starts, starts[1:]) for c in line_of([2] + (buf + [0] * 32)[i:j])]
+        shapes.append(towards(text, wanted, (15, r), ", ".join(str(many) for many in shape)))
+    frames_case(w + ": the packed bytes otherwise on lines", lent, text, None, shapes)
+    # what check asks of the bytes that came
+    frames_case(w + ": n, unused symbols, codewords", lent, text, None, [
+        *named("7, n another", (instead(10, 18, b"%08x" % x, (7, n)) for x in (n - 1, n + 1, 0, n + 256, n + 65536, n + 2 ** 24, 2 ** 32 - 1))),
+        *named("8, unused symbols not 0", (instead(end - 3, end - 1, b"%02x" % (buf[-1] + x), (8, 0)) for x in range(1, 2 ** k))),
+        *named("a packed byte of continuers", (
+            instead(at[i] + 2 + 2 * j, at[i] + 4 + 2 * j, b"ff") for i, most in ((1, 32), (2, 32), (3, 7)) for j in (0, 1, most - 2, most - 1))),
+        *named("s another", (instead(4, 6, b"%02x" % x, ... if 1 <= x < 2 ** k else (1, 0)) for x in (0, 1, 2, 3, 4, 15, 16, 255)))])
+    frames_case(w + ", n one too many", lent, text[:10] + list(b"%08x" % (n + 1)) + text[18:], (7, n), [
+        instead(*stained, (7, n), "7 before 8"), instead(end, end, b"\n", (15, 4), "15 before 7"), instead(4, 6, b"00", (1, 0), "1 before 7")])
+    frames_case(w + ", into a buffer one byte too short", lent[:70], text, (5, h), [
+        instead(4, 6, b"00", (1, 0), "s: 1 before 5"), instead(28, 30, text[26:28], (1, 0), "a character twice: 1 before 5"),
+        instead(10, 18, b"%08x" % (n + 1), (5, h), "5 before 7"),
+        instead(*stained, (5, h), "5 before 8"), instead(end - 1, end, b"", (15, 3), "15 before 5"), instead(2, 4, b"03", (1, 0), "k 3")])
+    for first in (0, 32 * per - 1, 32 * per, 64 * per - 1, 64 * per, h - 2, h - 1):
+        # one codeword of rank sigma or more, or open at the end; all others of rank 0
+        word = (list(codewords(k, s)[sigma]) + [0] * h)[:h - first]
+        damaged = frame_text(t, h, h, packed(k, [0] * first + word))
+        frames_case(w + f": 6 at {first}", lent, damaged, (6, first), [
+            instead(10, 18, b"00000000", (6, first), "6 before 7"), instead(end, end, b"\n", (15, 4), "15 before 6"),
+            instead(4, 6, b"00", (1, 0), "1 before 6")])
+    frames_case(w + ": 5 before 6", lent[:70], damaged, (5, h))
+    frames_case(w + ": into a buffer of as many bytes", lent[:71], text, None)
+
+# a codeword over the border of two frames
+for k, s, sigma in ((2, 3, 20), (4, 3, 20)):
+    per, word = 8 // k, list(codewords(k, s)[sigma - 1])
+    t = table(k, s, LETTERS)
+    for first in range(32 * per - len(word) + 1, 32 * per):
+        n, h, buf = first + 2, first + len(word) + 1, packed(k, [0] * first + word + [0])
+        out = [0xEE] * len(frame_text(t, n, h, buf))
+        write_case(f"width {k}: a codeword from symbol {first} on, over a border", t, n, h, buf, out, [0xFF] * len(buf), None, None)
+
+# k: every value, and before it the first line
+FEW = (b"00", b"01", b"03", b"05", b"06", b"08", b"12", b"20", b"ff")
+frames_case("P2: every k", [0xFF] * 8, P2, None, (instead(2, 4, k, {2: None, 4: (15, 1)}.get(int(k, 16), (1, 0))) for k in EACH))
+frames_case("P5: k", [0xFF] * 8, P5, None, (instead(2, 4, k, {2: (15, 1), 4: None}.get(int(k, 16), (1, 0))) for k in EACH[:20]))
+first_case("P2's first line: every k", P2[:37], None, (instead(2, 4, k, None if int(k, 16) in (2, 4) else (1, 0)) for k in EACH))
+for words, wrong, r in (("its second line short", P2[:37] + list(b"0218c346\n"), 1), ("its second line in capitals", P2[:37] + list(b"0218C34600\n"), 1),
+                        ("a line too many", P2 + [10], 2), ("its last byte 10 missing", P2[:-1], 1), ("its second line missing", P2[:37], 1),
+                        ("s 0", P2[:5] + [48] + P2[6:], None)):
+    frames_case(f"P2, {words}: k", [], wrong, (15, r) if r else (1, 0), (instead(2, 4, k, (1, 0)) for k in FEW))
+for words, wrong in (("sigma 6", P2[:9] + [54] + P2[10:]), ("a capital", P2[:35] + [65] + P2[36:]), ("byte 13", P2[:36] + [13] + P2[36:]),
+                     ("odd", P2[:35] + P2[36:]), ("no byte 10", P2[:36]), ("02 for 01", [48, 50] + P2[2:])):
+    frames_case(f"P2, its first line wrong, {words}: k", [0xFF] * 4, wrong, (15, 0), (instead(2, 4, k, (15, 0)) for k in FEW))
+    first_case(f"P2's first line wrong, {words}: k", lines_of(wrong)[0], (15, 0), (instead(2, 4, k, (15, 0)) for k in FEW))
+
+# s, the characters, sigma, h, the buffer
+for name, text, k, h in (("P2", P2, 2, 13), ("P5", P5, 4, 6)):
+    end = text.index(10)
+    sigma, lent = (end - 26) // 2, [0xFF] * 8
+    frames_case(f"{name}: its record", lent, text, None, [
+        *named("s another", (instead(4, 6, b"%02x" % s, ... if 1 <= s < 2 ** k else (1, 0)) for s in (*range(20), 34, 64, 128, 130, 254, 255))),
+        *named("a character twice", (
+            instead(26 + 2 * i, 28 + 2 * i, text[26 + 2 * j:28 + 2 * j], (1, 0)) for i in range(sigma) for j in range(sigma) if i != j)),
+        *named("sigma another, the characters as they are", (
+            instead(6, 10, b"%04x" % x, (15, 0)) for x in (*range(9), 255, 256, 256 + sigma, 512, 65535) if x != sigma)),
+        *named("sigma another, and as many characters", (
+            instead(6, end, b"%04x" % x + bytes(text[10:26]) + bytes(ALL[97:97 + x]).hex().encode()) for x in (0, 1, 2, 3, 4, 20))),
+        *named("h another", (instead(18, 26, b"%08x" % x) for x in (
+            *range(h + 8), 2 ** 8 + h, 2 ** 16 + h, 2 ** 24 + h, 2 ** 29, 2 ** 29 + h, 2 ** 30, 2 ** 30 + h, 2 ** 31, 2 ** 31 + h, 2 ** 32 - 1)))])
+    frames_case(f"{name}: a line too many", lent, text + [10], (15, 2), [
+        *named("15 before 1 for s", (instead(4, 6, b"%02x" % s, (15, 2)) for s in (0, 2 ** k, 255))),
+        instead(28, 30, text[26:28], (15, 2), "15 before 1 for a character twice")])
+    frames_case(f"{name}: its first line alone", lent, text[:end + 1], (15, 1), named("h another", (
+        instead(18, 26, b"%08x" % x, (15, 1) if x else (7, 0)) for x in (
+            0, 1, LIMIT, LIMIT + 1, 2 ** 24, 2 ** 28, 2 ** 29, 2 ** 30, 2 ** 30 + 1, 2 ** 31, 2 ** 31 + 1, 2 ** 32 - 1))))
+    for many in range(6):
+        frames_case(f"{name}: into {many} bytes", [0xFF] * many, text, None if many * 8 // k >= h else (5, h))
+for k, sigma in ((2, 0), (2, 1), (2, 256), (2, 257), (4, 0), (4, 256), (4, 300)):
+    line = fields(k, 2, sigma, 0, 0, (ALL + ALL)[:sigma])
+    good = sigma <= 256
+    frames_case(f"width {k}: sigma {sigma} and no symbol", [7], line, None if good else (1, 0), [
+        instead(len(line), len(line), b"\n", (15, 1), "a line too many"), instead(0, 1, b"1", (15, 0), "its first digit 1"),
+        instead(4, 6, b"00", (1, 0), "s 0"),
+        instead(10, 18, b"00000001", (7, 0) if good else (1, 0), "n 1"), instead(18, 26, b"00000001", (15, 1), "h 1, and no line"),
+        instead(2, 4, b"03", (1, 0), "k 3"),
+        instead(6, 10, b"%04x" % (sigma ^ 256), (15, 0), "sigma 256 more or less"), instead(len(line) - 1, len(line), b"00\n", (15, 0), "a character more"),
+        *[instead(26 + 2 * i, 28 + 2 * i, b"%02x" % j, (1, 0), f"character {j} at {i} too")
+          for i, j in ((0, 255), (255, 0), (0, 1), (127, 128), (255, 254)) if sigma == 256]])
+for k, sigma in ((2, 0), (2, 256), (2, 300), (4, 257)):
+    first_case(f"width {k}, a first line: sigma {sigma}", fields(k, 2, sigma, 0, 0, (ALL + ALL)[:sigma]), None)
+line = fields(2, 2, 65535, 0, 0, [0] * 65535)
+first_case("a first line: sigma 65,535", line, None, [
+    instead(6, 10, b"fffe", (15, 0), "sigma one fewer"), instead(28, 30, b"", (15, 0), "a character fewer"),
+    instead(536, 538, b"7f", None, "character 255 another"), instead(538, 540, b"7f", None, "character 256 another")])
+frames_case("sigma 65,535", [7], line, (1, 0), [instead(6, 10, b"fffe", (15, 0), "sigma one fewer"), instead(18, 26, b"00000001", (15, 1), "h 1, and no line")])
+for k in (2, 4):
+    frames_case(f"width {k}: sigma 0 and a symbol", [7], fields(k, 2, 0, 1, 1, []) + line_of([2, 0]), (6, 0))
+
+# a first line alone: of what it says only k is asked
+line = P2[:37]
+first_case("P2's first line", line, None, [
+    instead(37, 37, P2[37:], (15, 0), "the second behind it"), instead(37, 37, b"\n", (15, 0), "a byte 10 more"),
+    instead(0, 0, b"\n", (15, 0), "a byte 10 before it"),
+    instead(0, 37, P2[37:], (15, 0), "the second"), instead(0, 37, b"", (15, 0), "nothing"), instead(0, 37, b"\n", (15, 0), "a byte 10"),
+    instead(36, 37, b"", (15, 0), "no byte 10"),
+    instead(36, 37, b"\r\n", (15, 0), "byte 13 before its byte 10"), instead(36, 37, b"00\n", (15, 0), "a character more"),
+    instead(34, 36, b"", (15, 0), "a character fewer"),
+    instead(4, 6, b"00", None, "s 0"), instead(4, 6, b"ff", None, "s 255"), instead(10, 26, b"f" * 16, None, "n and h the greatest"),
+    instead(10, 26, DIGITS, None, "n and h of all digits"),
+    instead(18, 26, b"00010001", None, "h over the limit"), instead(28, 30, b"61", None, "a character twice"),
+    instead(6, 36, b"0000" + bytes(line[10:26]), None, "no characters"),
+    instead(6, 36, b"0000", (15, 0), "sigma 0, and nothing behind it"), instead(24, 36, b"", (15, 0), "12 bytes"),
+    instead(6, 36, b"0000" + bytes(line[10:24]), (15, 0), "sigma 0, and 12 bytes")])
+first_case("P2's first line: another digit at every place", line, None, another(
+    line, DIGITS, lambda i, b: (15, 0) if i < 2 or 6 <= i < 10 or i == 36 else (1, 0) if i == 2 or i == 3 and b != 52 else None))
+first_case("P2's first line: a byte that is no digit at every place", line, None, another(line, OTHERS, lambda i, b: (15, 0)))
+first_case("P2's first line: cut off at every place, with its byte 10 and without", line, None,
+           (instead(i, stop, [], (15, 0)) for i in range(36) for stop in (36, 37)))
+first_case("P5's first line: another first byte", P5[:33], None,
+           (instead(0, 2, b, None if b == b"01" else (15, 0)) for b in (*EACH[:5], b"11", b"21", b"81", b"f1", b"ff")))
+
+# a later line alone
+line = P2[37:]
+frame_case("P2's second line", [0xEE] * 6, line, None, [
+    instead(0, 11, P2[:37], (15, 0), "the first"), instead(0, 11, b"", (15, 0), "nothing"), instead(0, 11, b"\n", (15, 0), "a byte 10"),
+    instead(0, 0, P2[:37], (15, 0), "the first before it"),
+    instead(10, 11, b"", (15, 0), "no byte 10"), instead(10, 11, b"\n\n", (15, 0), "a byte 10 more"),
+    instead(10, 11, b"\r\n", (15, 0), "byte 13 before its byte 10"),
+    instead(11, 11, line, (15, 0), "twice"), instead(2, 10, b"", (15, 0), "no packed byte"), instead(10, 10, b"0", (15, 0), "odd"),
+    instead(0, 2, b"01", (15, 0), "01 for 02"),
+    instead(4, 10, b"", None, "one packed byte"), instead(4, 4, b"ffff", None, "six"), instead(4, 4, b"ffffff", (13, 7), "seven")])
+frame_case("P2's second line: another digit at every place", [0xEE] * 5, line, None, another(line, DIGITS, lambda i, b: (15, 0) if i < 2 or i == 10 else None))
+frame_case("P2's second line: a byte that is no digit at every place", [0xEE] * 5, line, None, another(line, OTHERS, lambda i, b: (15, 0)))
+frame_case("P2's second line: cut off at every place, with its byte 10", [0xEE] * 5, line, None,
+           (instead(i, 10, [], None if i in (4, 6, 8) else (15, 0)) for i in range(10)))
+frame_case("one packed byte", [0xEE] * 2, b"0277\n", None, [
+    *named("every first byte", (instead(0, 2, b, None if b == b"02" else (15, 0)) for b in EACH)),
+    *named("every packed byte", (instead(2, 4, b, None) for b in EACH)),
+    *named("every byte value as its first digit", (instead(2, 3, [b], None if b in DIGITS else (15, 0)) for b in ALL)),
+    *named("every byte value as its second digit", (instead(3, 4, [b], None if b in DIGITS else (15, 0)) for b in ALL))])
+for many, rooms in ((0, (0, 1)), (1, (0, 1, 2)), (2, (1, 2)), (31, (30, 31, 32)), (32, (0, 31, 32, 33, 40)), (33, (32, 33, 40)), (34, (32, 40)),
+                    (64, (64,)), (255, (256,)), (256, (256,))):
+    for lent in rooms:
+        r = (15, 0) if not 1 <= many <= 32 else (13, many) if lent < many else None
+        frame_case(f"{many} packed bytes, {lent} lent", [0xEE] * lent, line_of([2] + [(i * 37 + many) % 256 if many < 64 else 0 for i in range(many)]), r)
+frame_case("15 before 13", [], b"02AA\n", (15, 0), [
+    instead(2, 4, b"aa", (13, 1)), instead(0, 2, b"01", (15, 0)), instead(4, 5, b"", (15, 0)), instead(2, 4, b"", (15, 0))])
+write("vectors_frames")

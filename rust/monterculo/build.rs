@@ -38,6 +38,6 @@ fn main() {
         Ok(dir) => println!("cargo:rustc-link-search=native={}", dir.display()),
         Err(missing) => println!("cargo:warning={missing}; without the archive nothing can be built, only checked"),
     }
-    // Where the archive is not found, rustc names it here, and no linker its fifteen functions.
+    // Where the archive is not found, rustc names it here, and no linker its nineteen functions.
     println!("cargo:rustc-link-lib=static=monterculo");
 }

@@ -1,13 +1,14 @@
 //! The roll's operations as ordinary safe Rust for speed, to measure the archive against.
 //!
-//! Nothing is allocated: all memory is lent, but for tables of a few kilobytes on the stack.
+//! Nothing is allocated: all memory is lent, but for tables of a few kilobytes on the stack, and for the packed bytes that
+//! reading frames keeps aside until they are checked.
 //!
 //! Ranks come from one recurrence: x starts at 0, a continuer makes it x·c + (symbol − s) + 1,
 //! and a stopper ends the codeword of rank x·s + symbol.
 
 #![forbid(unsafe_code)]
 
-use crate::reference::{Answer, Refused, Roll, Table, LIMIT, LONGEST, PATTERN, STRIDE};
+use crate::reference::{Answer, Refused, Roll, Table, FRAME, HEAD, LIMIT, LONGEST, PATTERN, STRIDE};
 
 fn refuse<T>(number: u32, value: usize) -> Answer<T> {
     Err(Refused { number, value: value as u64 })
@@ -594,6 +595,138 @@ fn mend<const K: usize>(
     }
 }
 
+// Frames.
+
+const DIGITS: &[u8; 16] = b"0123456789abcdef";
+/// In the table of digits, for a byte that is none.
+const NO_DIGIT: u8 = 0xFF;
+
+const fn values() -> [u8; 256] {
+    let mut values = [NO_DIGIT; 256];
+    let mut value = 0;
+    while value < 16 {
+        values[DIGITS[value] as usize] = value as u8;
+        value += 1;
+    }
+    values
+}
+
+/// What each byte is worth as a digit.
+const VALUES: [u8; 256] = values();
+
+/// Writes the digits of these bytes, and gives what is left of the output.
+#[inline]
+fn put<'a>(out: &'a mut [u8], bytes: &[u8]) -> &'a mut [u8] {
+    let (digits, rest) = out.split_at_mut(2 * bytes.len());
+    for (pair, &byte) in digits.chunks_exact_mut(2).zip(bytes) {
+        pair[0] = DIGITS[usize::from(byte >> 4)];
+        pair[1] = DIGITS[usize::from(byte & 15)];
+    }
+    rest
+}
+
+/// Ends a line.
+fn end_line(out: &mut [u8]) -> &mut [u8] {
+    out[0] = b'\n';
+    &mut out[1..]
+}
+
+/// The bytes written.
+pub fn write_frames(roll: &Roll, buf: &[u8], out: &mut [u8]) -> Answer<u64> {
+    check(roll, buf)?;
+    let table = &roll.table;
+    let characters = &table.places[..usize::from(table.sigma)];
+    let packed = &buf[..bytes_for(usize::from(table.k), roll.h as usize)];
+    let needed = 2 * (HEAD + characters.len()) + 1 + 2 * packed.len() + 3 * ((packed.len() + FRAME - 1) / FRAME);
+    if out.len() < needed {
+        return refuse(13, needed);
+    }
+    let mut out = put(out, &[1, table.k, table.s]);
+    out = put(out, &table.sigma.to_be_bytes());
+    out = put(out, &roll.n.to_be_bytes());
+    out = put(out, &roll.h.to_be_bytes());
+    out = end_line(put(out, characters));
+    for frame in packed.chunks(FRAME) {
+        out = put(out, &[2]);
+        out = end_line(put(out, frame));
+    }
+    Ok(needed as u64)
+}
+
+/// The first line of a text and what follows it, or nothing if it has no end.
+fn first_line(text: &[u8]) -> Option<(&[u8], &[u8])> {
+    let end = text.iter().position(|&byte| byte == b'\n')?;
+    Some((&text[..end], &text[end + 1..]))
+}
+
+/// Puts the bytes of a line's digits behind those of the lines before; or says that they are no digits, or an odd number.
+#[inline]
+fn decode(digits: &[u8], bytes: &mut Vec<u8>) -> bool {
+    let mut wrong = digits.len() % 2 != 0;
+    bytes.extend(digits.chunks_exact(2).map(|pair| {
+        let (high, low) = (VALUES[usize::from(pair[0])], VALUES[usize::from(pair[1])]);
+        wrong |= (high | low) == NO_DIGIT;
+        high << 4 | low
+    }));
+    !wrong
+}
+
+/// The record of a first line's digits.
+fn record(digits: &[u8]) -> Option<Roll> {
+    let mut frame = Vec::with_capacity(HEAD + 256);
+    if !decode(digits, &mut frame) || frame.len() < HEAD || frame[0] != 1 {
+        return None;
+    }
+    let number =
+        |place: usize| u32::from_be_bytes([frame[place], frame[place + 1], frame[place + 2], frame[place + 3]]);
+    let sigma = u16::from_be_bytes([frame[3], frame[4]]);
+    let characters = &frame[HEAD..];
+    if characters.len() != usize::from(sigma) {
+        return None;
+    }
+    let mut places = [0; 256];
+    for (place, &character) in places.iter_mut().zip(characters) {
+        *place = character;
+    }
+    Some(Roll { table: Table { k: frame[1], s: frame[2], sigma, places }, n: number(5), h: number(9) })
+}
+
+pub fn read_frames(text: &[u8], buf: &mut [u8]) -> Answer<Roll> {
+    let (roll, mut rest) = match first_line(text).and_then(|(line, rest)| Some((record(line)?, rest))) {
+        Some(read) => read,
+        None => return refuse(15, 0),
+    };
+    if roll.table.k != 2 && roll.table.k != 4 {
+        return refuse(1, 0);
+    }
+    let (k, h) = (usize::from(roll.table.k), roll.h as usize);
+    let due = bytes_for(k, h);
+    let mut packed = Vec::with_capacity(due.min(rest.len() / 2));
+    let mut number = 1;
+    while packed.len() < due {
+        let left = FRAME.min(due - packed.len());
+        rest = match first_line(rest) {
+            Some((line, rest))
+                if line.len() == 2 + 2 * left && line.starts_with(b"02") && decode(&line[2..], &mut packed) =>
+            {
+                rest
+            }
+            _ => return refuse(15, number),
+        };
+        number += 1;
+    }
+    if !rest.is_empty() {
+        return refuse(15, number);
+    }
+    check_table(&roll.table)?;
+    if h > room(k, buf.len()) {
+        return refuse(5, h);
+    }
+    check(&roll, &packed)?;
+    buf[..due].copy_from_slice(&packed);
+    Ok(roll)
+}
+
 // Three of them once more, tuned further than most would: no branch on each symbol, no second pass.
 
 /// What a symbol does to x: x·times + plus, if x is at most `most`.
@@ -850,6 +983,51 @@ mod tests {
             assert_eq!(made, expected);
         }
         assert!([0, 1, 5, 6, 7, 8, 9, 10, 12, 13].iter().all(|&number| numbers[number] > 5), "{:?}", numbers);
+    }
+
+    #[test]
+    fn frames_are_the_reference() {
+        let mut dice = Dice(6);
+        let mut numbers = [0; 16];
+        for _ in 0..1_500 {
+            let (mut roll, mut buf, mut directory) = rolled(&mut dice);
+            let mut text = vec![7; 20_000];
+            let length = reference::write_frames(&roll, &buf, &mut text).unwrap() as usize;
+            text.truncate(length);
+            if dice.one_in(3) {
+                spoil(&mut dice, &mut roll, &mut buf, &mut directory);
+            }
+            let mut out = vec![7; if dice.one_in(4) { dice.below(length) } else { length + dice.below(5) }];
+            let mut expected = out.clone();
+            let answer = reference::write_frames(&roll, &buf, &mut expected);
+            numbers[answer.err().map_or(0, |refused| refused.number as usize)] += 1;
+            assert_eq!(write_frames(&roll, &buf, &mut out), answer);
+            assert_eq!(out, expected);
+
+            for _ in 0..dice.below(3) {
+                let place = dice.below(text.len());
+                match dice.below(8) {
+                    0 => text.truncate(place),
+                    1 => text.insert(place, b"0\n"[dice.below(2)]),
+                    2 => drop(text.remove(place)),
+                    3 => text.push(b'\n'),
+                    // In the head.
+                    4 => text[dice.below(place.min(26) + 1)] = DIGITS[dice.below(16)],
+                    5 => text[place] = b"AFg \r\n:`"[dice.below(8)],
+                    _ => text[place] = DIGITS[dice.below(16)],
+                }
+                if text.is_empty() {
+                    break;
+                }
+            }
+            let mut back = vec![0xAA; if dice.one_in(8) { dice.below(40) } else { buf.len() + 100 }];
+            let mut expected = back.clone();
+            let (answer, after) = reference::read_frames(&text, &mut expected);
+            numbers[answer.err().map_or(0, |refused| refused.number as usize)] += 1;
+            assert_eq!(read_frames(&text, &mut back), answer.map(|()| after));
+            assert_eq!(back, expected);
+        }
+        assert!([0, 1, 5, 6, 7, 8, 13, 15].iter().all(|&number| numbers[number] > 5), "{:?}", numbers);
     }
 
     #[test]

@@ -14,6 +14,10 @@ pub const LONGEST: usize = 86;
 pub const STRIDE: usize = 32;
 /// Characters of the longest pattern.
 pub const PATTERN: usize = 64;
+/// Packed bytes of a frame that is full.
+pub const FRAME: usize = 32;
+/// Bytes of a first frame before its characters: kind, k, s, σ, n and h.
+pub const HEAD: usize = 13;
 /// Bytes of the program's buffer, and of its longest text.
 pub const PROGRAM: usize = 16_384;
 /// Characters that count as at least 1 in choosing: those of telephone numbers, and the end of a line.
@@ -825,6 +829,189 @@ impl Searcher {
     }
 }
 
+// Frames.
+
+/// The record beside a refused reading.
+const NO_ROLL: Roll = Roll { table: Table { k: 0, s: 0, sigma: 0, places: [0; 256] }, n: 0, h: 0 };
+
+const DIGITS: [u8; 16] = *b"0123456789abcdef";
+
+/// A frame as a line: two digits a byte, and byte 10.
+fn line_of(frame: &[u8]) -> Vec<u8> {
+    let mut line = Vec::new();
+    for &byte in frame {
+        line.push(DIGITS[usize::from(byte / 16)]);
+        line.push(DIGITS[usize::from(byte % 16)]);
+    }
+    line.push(10);
+    line
+}
+
+/// The bytes of this number, the high one first.
+fn high_first(number: u32, bytes: u32) -> Vec<u8> {
+    (0..bytes).rev().map(|place| (number >> (8 * place)) as u8).collect()
+}
+
+/// The frames of a sound roll.
+fn frames_of(roll: &Roll, buf: &[u8]) -> Vec<Vec<u8>> {
+    let table = &roll.table;
+    let mut first = vec![1, table.k, table.s];
+    first.extend(high_first(table.sigma.into(), 2));
+    first.extend(high_first(roll.n, 4));
+    first.extend(high_first(roll.h, 4));
+    first.extend(characters(table));
+    let mut frames = vec![first];
+    for packed in buf[..bytes_for(table.k, roll.h as usize)].chunks(FRAME) {
+        frames.push([&[2], packed].concat());
+    }
+    frames
+}
+
+/// The bytes written.
+pub fn write_frames(roll: &Roll, buf: &[u8], out: &mut [u8]) -> Answer<u64> {
+    check(roll, buf)?;
+    let lines: Vec<Vec<u8>> = frames_of(roll, buf).iter().map(|frame| line_of(frame)).collect();
+    let text = lines.concat();
+    if out.len() < text.len() {
+        return refuse(13, text.len());
+    }
+    out[..text.len()].copy_from_slice(&text);
+    Ok(text.len() as u64)
+}
+
+/// The lines of a text: each up to a byte 10, which belongs to it, or to the text's end.
+fn lines_of(text: &[u8]) -> Vec<&[u8]> {
+    let mut lines = Vec::new();
+    let mut start = 0;
+    for (place, &byte) in text.iter().enumerate() {
+        if byte == 10 {
+            lines.push(&text[start..=place]);
+            start = place + 1;
+        }
+    }
+    if start < text.len() {
+        lines.push(&text[start..]);
+    }
+    lines
+}
+
+/// The frame that a line spells, if the line is a good one.
+fn frame_of(line: &[u8]) -> Option<Vec<u8>> {
+    let (&last, digits) = line.split_last()?;
+    if last != 10 || digits.is_empty() || digits.len() % 2 != 0 {
+        return None;
+    }
+    let value = |byte: u8| DIGITS.iter().position(|&digit| digit == byte);
+    let mut frame = Vec::new();
+    for pair in digits.chunks(2) {
+        frame.push((16 * value(pair[0])? + value(pair[1])?) as u8);
+    }
+    Some(frame)
+}
+
+/// The number of these bytes, the high one first.
+fn number_of(bytes: &[u8]) -> u32 {
+    bytes.iter().fold(0, |number, &byte| number << 8 | u32::from(byte))
+}
+
+/// A first frame, if the line is one that is well-formed.
+fn first_frame(line: &[u8]) -> Option<Vec<u8>> {
+    let frame = frame_of(line)?;
+    if frame[0] == 1 && frame.len() >= HEAD && frame.len() == HEAD + number_of(&frame[3..5]) as usize {
+        Some(frame)
+    } else {
+        None
+    }
+}
+
+fn first_record(line: &[u8]) -> Answer<Roll> {
+    let frame = match first_frame(line) {
+        Some(frame) => frame,
+        None => return refuse(15, 0),
+    };
+    let (k, s) = (frame[1], frame[2]);
+    if !good_width(k) {
+        return refuse(1, 0);
+    }
+    let mut places = [0; 256];
+    for (place, &character) in places.iter_mut().zip(&frame[HEAD..]) {
+        *place = character;
+    }
+    let sigma = number_of(&frame[3..5]) as u16;
+    Ok(Roll { table: Table { k, s, sigma, places }, n: number_of(&frame[5..9]), h: number_of(&frame[9..13]) })
+}
+
+/// An answer with the record, or beside a refusal with one of zeros.
+fn with_record(read: Answer<Roll>) -> (Answer<()>, Roll) {
+    match read {
+        Ok(roll) => (Ok(()), roll),
+        Err(refused) => (Err(refused), NO_ROLL),
+    }
+}
+
+/// The record of a first line, its byte 10 included.
+pub fn read_first(line: &[u8]) -> (Answer<()>, Roll) {
+    with_record(first_record(line))
+}
+
+/// The packed bytes of a later frame, if the line is one that is well-formed.
+fn packed_bytes(line: &[u8]) -> Option<Vec<u8>> {
+    let frame = frame_of(line)?;
+    let packed = frame[1..].to_vec();
+    if frame[0] == 2 && !packed.is_empty() && packed.len() <= FRAME {
+        Some(packed)
+    } else {
+        None
+    }
+}
+
+/// The packed bytes of a later line, its byte 10 included: how many.
+pub fn read_frame(line: &[u8], out: &mut [u8]) -> Answer<u64> {
+    let packed = match packed_bytes(line) {
+        Some(packed) => packed,
+        None => return refuse(15, 0),
+    };
+    if out.len() < packed.len() {
+        return refuse(13, packed.len());
+    }
+    out[..packed.len()].copy_from_slice(&packed);
+    Ok(packed.len() as u64)
+}
+
+/// The record and the packed bytes of a frame text for a buffer of so many bytes.
+fn roll_of_frames(text: &[u8], buf_len: usize) -> Answer<(Roll, Vec<u8>)> {
+    let lines = lines_of(text);
+    let roll = first_record(lines.first().unwrap_or(&text))?;
+    let (table, h) = (&roll.table, roll.h as usize);
+    let due = bytes_for(table.k, h);
+    let mut packed = Vec::new();
+    let mut number = 1;
+    while packed.len() < due {
+        let wanted = FRAME.min(due - packed.len());
+        match lines.get(number).and_then(|line| packed_bytes(line)) {
+            Some(bytes) if bytes.len() == wanted => packed.extend(bytes),
+            _ => return refuse(15, number),
+        }
+        number += 1;
+    }
+    if number < lines.len() {
+        return refuse(15, number);
+    }
+    table_refusal(table)?;
+    if h > room(table.k, buf_len) {
+        return refuse(5, h);
+    }
+    check(&roll, &packed)?;
+    Ok((roll, packed))
+}
+
+pub fn read_frames(text: &[u8], buf: &mut [u8]) -> (Answer<()>, Roll) {
+    with_record(roll_of_frames(text, buf.len()).map(|(roll, packed)| {
+        buf[..packed.len()].copy_from_slice(&packed);
+        roll
+    }))
+}
+
 // The program.
 
 /// What the program writes for what it reads.
@@ -1621,6 +1808,137 @@ mod tests {
         assert_eq!(with(|searcher| (searcher.progress.past, searcher.progress.shorter) = (1, 0)), (6, 6));
         // The pattern's places past its length are kept, and not looked at.
         assert_eq!(with(|searcher| searcher.pattern[4..].fill(b'a')), (0, 6));
+    }
+
+    /// What reading a frame text answers, and that a refusal writes nothing and answers zeros.
+    fn read_into(text: &[u8], bytes: usize) -> Result<(Roll, Vec<u8>), (u32, u64)> {
+        let mut buf = vec![0xAA; bytes];
+        match read_frames(text, &mut buf) {
+            (Ok(()), roll) => Ok((roll, buf)),
+            (answer, roll) => {
+                assert_eq!((roll, buf), (NO_ROLL, vec![0xAA; bytes]));
+                Err(refused(answer))
+            }
+        }
+    }
+
+    fn framed(roll: &Roll, buf: &[u8]) -> Vec<u8> {
+        let mut out = vec![0xAA; 80_000];
+        let length = write_frames(roll, buf, &mut out).unwrap() as usize;
+        assert!(out[length..].iter().all(|&byte| byte == 0xAA));
+        out.truncate(length);
+        out
+    }
+
+    #[test]
+    fn the_word_in_frames() {
+        let (roll, buf) = rolled(&of_word(), WORD, 6);
+        let text = framed(&roll, &buf);
+        assert_eq!(text, b"01020300050000000b0000000d6162726364\n0218c34600\n");
+        assert_eq!(read_into(&text, 6), Ok((roll.clone(), vec![0x18, 0xC3, 0x46, 0x00, 0xAA, 0xAA])));
+        assert_eq!(read_into(&text, 4).unwrap().0, roll);
+        assert_eq!(read_into(&text, 3), Err((5, 13)));
+        let mut short = [7; 47];
+        assert_eq!(refused(write_frames(&roll, &buf, &mut short)), (13, 48));
+        assert_eq!(refused(write_frames(&Roll { n: 10, ..roll }, &buf, &mut short)), (7, 11));
+        assert_eq!(short, [7; 47]);
+        let (empty, buf) = rolled(&of_word(), b"", 0);
+        let text = framed(&empty, &buf);
+        assert_eq!(text, b"010203000500000000000000006162726364\n");
+        assert_eq!(read_into(&text, 0), Ok((empty, buf)));
+    }
+
+    #[test]
+    fn lines_of_frames() {
+        let of = |text: &str, bytes| read_into(text.as_bytes(), bytes).map(|(roll, _)| (roll.n, roll.h));
+        let first = "01040300030000000600000006616e62\n";
+        let with = |rest: &str| of(&[first, rest].concat(), 3);
+        assert_eq!(with("02201010\n"), Ok((6, 6)));
+        // The first line.
+        for bad in ["", "\n", "0", "0\n", "01\n", "02201010\n", &first[..32], &first.to_uppercase()] {
+            assert_eq!(of(bad, 3), Err((15, 0)), "{}", bad);
+        }
+        for (from, to) in [("01", "02"), ("0003", "0002"), ("0003", "0103"), ("62\n", "\n"), ("62\n", "62\r\n")] {
+            assert_eq!(of(&first.replacen(from, to, 1), 3), Err((15, 0)), "{}", to);
+        }
+        assert_eq!(of(&first.replacen("04", "03", 1), 3), Err((1, 0)));
+        assert_eq!(of(&first.replacen("0104", "0004", 1), 3), Err((15, 0)));
+        // The second, wrong or missing.
+        for bad in ["", "02201010", "0220101\n", "0220 10\n", "022010\n", "0220101000\n", "02\n", "\n", "01201010\n"] {
+            assert_eq!(with(bad), Err((15, 1)), "{}", bad);
+        }
+        assert_eq!(with("0220101A\n"), Err((15, 1)));
+        assert_eq!(with("022010\n0210\n"), Err((15, 1)));
+        // A third.
+        for more in ["\n", "0", "02201010\n", "02\n"] {
+            assert_eq!(with(&["02201010\n", more].concat()), Err((15, 2)), "{}", more);
+        }
+        // What is asked of lines comes before what is asked of the roll, and the table before h.
+        assert_eq!(of(&(first.replacen("0403", "0400", 1) + "\n"), 0), Err((15, 1)));
+        assert_eq!(of(&(first.replacen("0403", "0400", 1) + "02201010\n"), 0), Err((1, 0)));
+        assert_eq!(of(&(first.replacen("6e62", "6e6e", 1) + "02201010\n"), 0), Err((1, 0)));
+        assert_eq!(with("02201020\n"), Ok((6, 6)));
+        assert_eq!(with("0220103f\n"), Err((6, 4)));
+        assert_eq!(of(&(first.replacen("0000000661", "0000000561", 1) + "02201011\n"), 2), Err((5, 5)));
+        assert_eq!(of(&(first.replacen("0000000661", "0000000561", 1) + "02201011\n"), 3), Err((7, 5)));
+    }
+
+    #[test]
+    fn a_first_frame_of_over_256_characters() {
+        let mut text = b"01020301020000000000000000".to_vec();
+        text.extend(b"61".repeat(257));
+        text.push(10);
+        assert_eq!(refused(read_first(&text).0), (15, 0));
+        text.splice(text.len() - 1.., *b"62\n");
+        let (answer, roll) = read_first(&text);
+        assert_eq!((answer, roll.table.sigma, roll.table.places), (Ok(()), 258, [b'a'; 256]));
+        assert_eq!(read_into(&text, 9), Err((1, 0)));
+        // So many that 16 bits are full.
+        text.splice(6..10, *b"ffff");
+        text.splice(text.len() - 1.., [&b"00".repeat(65_535 - 258)[..], b"\n"].concat());
+        assert_eq!((read_first(&text).0, read_first(&text).1.table.sigma), (Ok(()), 65_535));
+    }
+
+    #[test]
+    fn frames_there_and_back() {
+        let mut dice = Dice(5);
+        for round in 0..400 {
+            let k = 2 + 2 * (round % 2) as u8;
+            let alphabet = 1 + dice.below(if round % 4 < 2 { 5 } else { 200 });
+            let text = dice.text(150, alphabet);
+            let (roll, buf) = rolled(&chosen(k, &text).1, &text, 2_000);
+            let used = bytes_for(k, roll.h as usize);
+            let frames = framed(&roll, &buf);
+            let in_frames = (used + FRAME - 1) / FRAME;
+            assert_eq!(frames.len(), 27 + 2 * usize::from(roll.table.sigma) + 2 * used + 3 * in_frames);
+            let lines = lines_of(&frames);
+            assert_eq!((lines.len(), lines.concat()), (1 + in_frames, frames.clone()));
+            let (read, back) = read_into(&frames, used + dice.below(3)).unwrap();
+            assert_eq!((&read, &back[..used]), (&roll, &buf[..used]));
+            assert!(back[used..].iter().all(|&byte| byte == 0xAA));
+            assert_eq!(read_first(lines[0]), (Ok(()), roll));
+            for (line, packed) in lines[1..].iter().zip(buf[..used].chunks(FRAME)) {
+                let mut out = [7; 40];
+                assert_eq!(read_frame(line, &mut out), Ok(packed.len() as u64));
+                assert_eq!((&out[..packed.len()], &out[packed.len()..]), (packed, &[7; 40][packed.len()..]));
+                assert_eq!(refused(read_frame(line, &mut out[..packed.len() - 1])), (13, packed.len() as u64));
+            }
+            // A line less, or twice.
+            let number = dice.below(lines.len());
+            let without = [&lines[..number], &lines[number + 1..]].concat().concat();
+            let twice = [&lines[..=number], &lines[number..]].concat().concat();
+            assert_eq!(read_into(&without, 2_000).unwrap_err().0, 15);
+            assert_eq!(read_into(&twice, 2_000).unwrap_err().0, 15);
+            // Whatever a byte becomes, what is read is what is written.
+            for _ in 0..20 {
+                let mut damaged = frames.clone();
+                let place = dice.below(damaged.len());
+                damaged[place] = b"0123456789abcdefA \r\n"[dice.below(20)];
+                if let Ok((roll, buf)) = read_into(&damaged, 2_000) {
+                    assert_eq!(framed(&roll, &buf), damaged);
+                }
+            }
+        }
     }
 
     #[test]

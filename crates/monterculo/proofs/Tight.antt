@@ -28,6 +28,14 @@ use Rattle.monterculo.proofs.monterculo_search_jumping.Kinds as search-
 use Rattle.monterculo.proofs.monterculo_search_jumping.Reads as search-jumping-reads
 use Rattle.monterculo.proofs.monterculo_edit.Kinds as edit-kinds
 use Rattle.monterculo.proofs.monterculo_edit.Reads as edit-reads
+use Rattle.monterculo.proofs.monterculo_write_frames.Kinds as write-frames-kinds
+use Rattle.monterculo.proofs.monterculo_write_frames.Reads as write-frames-reads
+use Rattle.monterculo.proofs.monterculo_read_frames.Kinds as read-frames-kinds
+use Rattle.monterculo.proofs.monterculo_read_frames.Reads as read-frames-reads
+use Rattle.monterculo.proofs.monterculo_read_first.Kinds as read-first-kinds
+use Rattle.monterculo.proofs.monterculo_read_first.Reads as read-first-reads
+use Rattle.monterculo.proofs.monterculo_read_frame.Kinds as read-frame-kinds
+use Rattle.monterculo.proofs.monterculo_read_frame.Reads as read-frame-reads
 use Rattle.monterculo.proofs.monterculo_start.Kinds as start-kinds
 use Rattle.monterculo.proofs.monterculo_start.Reads as start-reads
 use Rattle.monterculo.proofs.monterculo_feed.Kinds as feed-kinds
@@ -108,6 +116,33 @@ pub edit-tight : (κs : Lfts 3) (a : Dens κs edit-kinds.ps) (r₁ r₂ : resT e
     → edit-reads.Learnt κs a r₁ s₁ → edit-reads.Learnt κs a r₂ s₂
     → (r₁ .answer ≡ r₂ .answer) × (r₁ .roll ≡ r₂ .roll) × (s₁ .1 .0 .now ≡ s₂ .1 .0 .now) × (s₁ .1 .1 .0 .now ≡ s₂ .1 .1 .0 .now)
 edit-tight κs a r₁ r₂ s₁ s₂ p q = (p .0 ∙ sym (q .0), p .1 .0 ∙ sym (q .1 .0), p .1 .1 .0 ∙ sym (q .1 .1 .0), p .1 .1 .1 ∙ sym (q .1 .1 .1))
+
+-- lent: `out`
+pub write-frames-tight : (κs : Lfts 2) (a : Dens κs write-frames-kinds.ps) (r₁ r₂ : resT write-frames-kinds.r κs .Denot)
+    (s₁ s₂ : AtExit (endedOf 2 write-frames-kinds.ps write-frames-kinds.r) κs)
+    → write-frames-reads.Learnt κs a r₁ s₁ → write-frames-reads.Learnt κs a r₂ s₂
+    → (r₁ ≡ r₂) × (s₁ .1 .1 .0 .now ≡ s₂ .1 .1 .0 .now)
+write-frames-tight κs a r₁ r₂ s₁ s₂ p q = (p .0 ∙ sym (q .0), p .1 ∙ sym (q .1))
+
+-- lent: `buf`
+pub read-frames-tight : (κs : Lfts 2) (a : Dens κs read-frames-kinds.ps) (r₁ r₂ : resT read-frames-kinds.r κs .Denot)
+    (s₁ s₂ : AtExit (endedOf 2 read-frames-kinds.ps read-frames-kinds.r) κs)
+    → read-frames-reads.Learnt κs a r₁ s₁ → read-frames-reads.Learnt κs a r₂ s₂
+    → (r₁ .answer ≡ r₂ .answer) × (r₁ .roll ≡ r₂ .roll) × (s₁ .1 .0 .now ≡ s₂ .1 .0 .now)
+read-frames-tight κs a r₁ r₂ s₁ s₂ p q = (p .0 ∙ sym (q .0), p .1 .0 ∙ sym (q .1 .0), p .1 .1 ∙ sym (q .1 .1))
+
+pub read-first-tight : (κs : Lfts 1) (a : Dens κs read-first-kinds.ps) (r₁ r₂ : resT read-first-kinds.r κs .Denot)
+    (s₁ s₂ : AtExit (endedOf 1 read-first-kinds.ps read-first-kinds.r) κs)
+    → read-first-reads.Learnt κs a r₁ s₁ → read-first-reads.Learnt κs a r₂ s₂
+    → (r₁ .answer ≡ r₂ .answer) × (r₁ .roll ≡ r₂ .roll)
+read-first-tight κs a r₁ r₂ s₁ s₂ p q = (p .0 ∙ sym (q .0), p .1 ∙ sym (q .1))
+
+-- lent: `out`
+pub read-frame-tight : (κs : Lfts 2) (a : Dens κs read-frame-kinds.ps) (r₁ r₂ : resT read-frame-kinds.r κs .Denot)
+    (s₁ s₂ : AtExit (endedOf 2 read-frame-kinds.ps read-frame-kinds.r) κs)
+    → read-frame-reads.Learnt κs a r₁ s₁ → read-frame-reads.Learnt κs a r₂ s₂
+    → (r₁ ≡ r₂) × (s₁ .1 .0 .now ≡ s₂ .1 .0 .now)
+read-frame-tight κs a r₁ r₂ s₁ s₂ p q = (p .0 ∙ sym (q .0), p .1 ∙ sym (q .1))
 
 pub start-tight : (κs : Lfts 1) (a : Dens κs start-kinds.ps) (r₁ r₂ : resT start-kinds.r κs .Denot) (s₁ s₂ : AtExit (endedOf 1 start-kinds.ps start-kinds.r) κs)
     → start-reads.Learnt κs a r₁ s₁ → start-reads.Learnt κs a r₂ s₂

@@ -25,6 +25,7 @@ ghost use Rattle.choosing.specs.Paper.Operations.{countSays, countLeaves, choos
 ghost use Rattle.roll.specs.Paper.Operations.{packSays, packRoll, packLeaves, checkSays, unpackSays, unpackLeaves, makeSays, makeLeaves, readSays, searchSays, searchLeaves, editSays, editRoll, editLeaves, editDirectory};
 ghost use lib.ListN.{length};
 ghost use Rattle.radio.specs.Paper.Operations.{startSays, startSearcher, feedSays, feedHits, feedSearcher, feedLeaves, finishSays};
+ghost use Rattle.frames.specs.Paper.Operations.{writeSays, writeLeaves, firstSays, firstRoll, laterSays, laterLeaves, readSays as readTextSays, readRoll, readLeaves};
 ghost use Rattle.monterculo.specs.Paper.Taken.{told};
 
 #[no_mangle]
@@ -182,6 +183,57 @@ pub extern "C" fn monterculo_edit(
         answer: done(answer, 0),
         roll,
     }
+}
+
+// Its value is the bytes written.
+#[no_mangle]
+pub extern "C" fn monterculo_write_frames(roll: Roll, buf: &[u8], out: &mut [u8]) -> Told
+    ensures told { λ r. ⌜ r ≡ told (writeSays roll (now (buf .entry)) (now (out .entry))) ⌝ }
+    ensures out { λ _. ⌜ now (out .exit) ≡ writeLeaves roll (now (buf .entry)) (now (out .entry)) ⌝ }
+{
+    let answer = frames::write_frames::write_frames(roll, buf, out);
+    totalled(answer)
+}
+
+// A refused text answers a record that is all 0.
+#[no_mangle]
+pub extern "C" fn monterculo_read_frames(text: &[u8], buf: &mut [u8]) -> Rolled
+    ensures told { λ r. ⌜ r .answer ≡ told (readTextSays (now (text .entry)) (now (buf .entry)) then accepted 0) ⌝ }
+    ensures roll { λ r. ⌜ r .roll ≡ readRoll (now (text .entry)) (now (buf .entry)) ⌝ }
+    ensures buf { λ _. ⌜ now (buf .exit) ≡ readLeaves (now (text .entry)) (now (buf .entry)) ⌝ }
+{
+    let came = frames::read_frames::read_frames(text, buf);
+    let roll = came.roll;
+    let answer = came.answer;
+    Rolled {
+        answer: done(answer, 0),
+        roll,
+    }
+}
+
+// A refused line answers a record that is all 0.
+#[no_mangle]
+pub extern "C" fn monterculo_read_first(line: &[u8]) -> Rolled
+    ensures told { λ r. ⌜ r .answer ≡ told (firstSays (now (line .entry)) then accepted 0) ⌝ }
+    ensures roll { λ r. ⌜ r .roll ≡ firstRoll (now (line .entry)) ⌝ }
+{
+    let came = frames::read_first::read_first(line);
+    let roll = came.roll;
+    let answer = came.answer;
+    Rolled {
+        answer: done(answer, 0),
+        roll,
+    }
+}
+
+// Its value is the bytes written.
+#[no_mangle]
+pub extern "C" fn monterculo_read_frame(line: &[u8], out: &mut [u8]) -> Told
+    ensures told { λ r. ⌜ r ≡ told (laterSays (now (line .entry)) (now (out .entry))) ⌝ }
+    ensures out { λ _. ⌜ now (out .exit) ≡ laterLeaves (now (line .entry)) (now (out .entry)) ⌝ }
+{
+    let answer = frames::read_frame::read_frame(line, out);
+    totalled(answer)
 }
 
 // A refused start answers a searcher of an empty pattern, which is refused in its turn.

@@ -29,7 +29,7 @@ pub struct Coded {
     pub word: Codeword,
 }
 
-// A roll packed or edited.
+// A roll packed, edited or read.
 #[repr(C)]
 pub struct Rolled {
     pub answer: Told,

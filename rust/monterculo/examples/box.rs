@@ -1,6 +1,6 @@
 //! A notice box, as examples/box.c and with the same output. The office packs a small members' file and sends it. The box
 //! names the members' lines while the roll is still coming in, finds a pan where the roll lies, reads that member's line,
-//! corrects the telephone number in it and saves the roll.
+//! corrects the telephone number in it, saves the roll and sends it on as lines of text.
 
 use std::error::Error;
 use std::io::{self, Cursor, Read, Write};
@@ -119,6 +119,24 @@ fn load(file: &mut impl Read) -> Result<OwnedRoll, Box<dyn Error>> {
     Ok(OwnedRoll::from_parts(roll, buf, directory)?)
 }
 
+/// Writes the roll as a frame text, which the next box reads; at first its last line has lost its end.
+fn send_on(roll: &OwnedRoll, out: &mut impl Write) -> Result<(), Box<dyn Error>> {
+    let frames = roll.to_frames();
+    out.write_all(&frames)?;
+    match OwnedRoll::from_frames(&frames[..frames.len() - 1]) {
+        Err(Refusal::BadLine { line, .. }) => {
+            let why = "a line of a frame text wrong, missing or too many";
+            writeln!(out, "without its last byte line {} is refused, {}", line, why)?;
+        }
+        answer => return Err(format!("a line without its end is answered {:?}", answer).into()),
+    }
+    if &OwnedRoll::from_frames(&frames)? != roll {
+        return Err("another roll came".into());
+    }
+    writeln!(out, "whole, its {} bytes are the same roll in the next box", frames.len())?;
+    Ok(())
+}
+
 /// The whole story, written to `out`.
 pub fn run(out: &mut impl Write) -> Result<(), Box<dyn Error>> {
     // Room for longer numbers.
@@ -170,7 +188,7 @@ pub fn run(out: &mut impl Write) -> Result<(), Box<dyn Error>> {
     let roll = load(&mut &file[..])?;
     writeln!(out, "saved and read back, its checksum and its check right")?;
     print_roll(&roll, out)?;
-    Ok(())
+    send_on(&roll, out)
 }
 
 fn main() -> Result<(), Box<dyn Error>> {

@@ -8,6 +8,10 @@
 //! [`Searcher`] is fed a roll piece by piece, as it comes in, and keeps none of it. Nothing is allocated there but by
 //! [`Roll::find`], [`Roll::find_jumping`] and [`Searcher::find`].
 //!
+//! A roll goes out and comes in as a frame text, lines of hexadecimal digits: whole by [`OwnedRoll::to_frames`] and
+//! [`OwnedRoll::from_frames`], or in lent memory by [`Roll::to_frames`] and [`Roll::from_frames`]; line by line by
+//! [`Roll::from_first_line`] and [`read_frame`].
+//!
 //! There are two searches of a whole roll with the same answers: [`Roll::search`] goes from character to character, and
 //! [`Roll::search_jumping`] jumps over most of the bytes, for which it takes more stack. `find` and `find_jumping` go by
 //! them.
@@ -98,6 +102,8 @@
 #![cfg_attr(test, allow(clippy::unwrap_used, clippy::arithmetic_side_effects))]
 
 #[forbid(unsafe_code)]
+mod frames;
+#[forbid(unsafe_code)]
 mod owned;
 #[forbid(unsafe_code)]
 mod refusal;
@@ -110,6 +116,7 @@ pub mod sys;
 #[forbid(unsafe_code)]
 mod table;
 
+pub use frames::read_frame;
 pub use owned::{Line, OwnedRoll};
 pub use refusal::{Refusal, TableFault};
 pub use roll::Roll;
@@ -127,6 +134,9 @@ pub const SYMBOLS: usize = 65_536;
 
 /// The most characters of a pattern.
 pub const PATTERN: usize = 64;
+
+/// The most packed bytes of a line of a frame text.
+pub const FRAME: usize = 32;
 
 /// The entries of the directory of n characters: n/32, rounded up.
 ///
@@ -161,4 +171,20 @@ pub const fn bytes_for(k: u8, h: u64) -> usize {
 /// ```
 pub const fn hits_for(k: u8, bytes: usize) -> usize {
     bytes.saturating_mul(if k == 4 { 2 } else { 4 })
+}
+
+/// The bytes of the frame text of a roll with σ characters in its table and h symbols of k bits: 27 + 2σ, and 2 for each
+/// packed byte and 3 for each [`FRAME`] of them.
+///
+/// No roll has a frame text of more than 69,147 bytes.
+///
+/// ```
+/// assert_eq!(monterculo::frames_for(4, 3, 6), 42);
+/// assert_eq!(monterculo::frames_for(4, 256, 65_536), 69_147);
+/// ```
+pub const fn frames_for(k: u8, sigma: u16, h: u32) -> usize {
+    let bytes = bytes_for(k, h as u64);
+    let frames = (bytes / FRAME).saturating_add((bytes % FRAME != 0) as usize);
+    let packed = bytes.saturating_mul(2).saturating_add(frames.saturating_mul(3));
+    (sigma as usize).saturating_mul(2).saturating_add(27).saturating_add(packed)
 }

@@ -2,13 +2,14 @@
 
 use std::ops::{Range, RangeBounds};
 
+use crate::frames::first_line;
 use crate::roll::bounds;
-use crate::{bytes_for, count, entries_for, Refusal, Roll, Table, Width, PLACES, SYMBOLS};
+use crate::{bytes_for, count, entries_for, frames_for, Refusal, Roll, Table, Width, PLACES, SYMBOLS};
 
 /// A roll together with its buffer and its directory, both with spare room where it was asked for.
 ///
-/// It is sound and its directory right, always: it comes from a text, or from parts that were checked, and only accepted
-/// edits change it. Where an edit needs more room it is made, up to the 65,536 symbols that a roll may have.
+/// It is sound and its directory right, always: it comes from a text, or from parts or frames that were checked, and only
+/// accepted edits change it. Where an edit needs more room it is made, up to the 65,536 symbols that a roll may have.
 ///
 /// ```
 /// use monterculo::{OwnedRoll, Width};
@@ -158,6 +159,57 @@ impl OwnedRoll {
     pub fn into_parts(mut self) -> (Roll, Vec<u8>, Vec<u32>) {
         self.trim();
         (self.roll, self.buf, self.directory)
+    }
+
+    /// The roll of a frame text, such as [`OwnedRoll::to_frames`] gave and was sent; with no room to spare.
+    ///
+    /// The roll is checked. This finds what breaks the form, and not every change of a digit: send a checksum of your own.
+    ///
+    /// Refusals, in their order: 15 (0; the first line), 1 (0; the width), 15 (the first line that is wrong, missing or
+    /// too many), then those of [`Roll::check`]: 5 where h is over 65,536.
+    ///
+    /// ```
+    /// use monterculo::{OwnedRoll, Refusal};
+    ///
+    /// let roll = OwnedRoll::from_frames(b"01040300030000000600000006616e62\n02201010\n")?;
+    /// assert_eq!(roll.text(), b"banana");
+    /// let refusal = OwnedRoll::from_frames(b"01040300030000000600000006616e62\n022010\n").unwrap_err();
+    /// assert_eq!(refusal, Refusal::BadLine { line: 1, missing: false });
+    /// # Ok::<(), monterculo::Refusal>(())
+    /// ```
+    pub fn from_frames(text: &[u8]) -> Result<OwnedRoll, Refusal> {
+        // Where the first line is refused the whole text is, whatever the buffer.
+        let room = Roll::from_first_line(first_line(text))
+            .map_or(0, |roll| bytes_for(roll.table().k(), u64::from(roll.h()).min(SYMBOLS as u64)));
+        let mut buf = vec![0; room];
+        let roll = match Roll::from_frames(text, &mut buf) {
+            Err(Refusal::BadSymbolCount { h }) => return Err(Refusal::LongRoll { h }),
+            read => read?,
+        };
+        let mut owned = OwnedRoll { roll, buf, directory: Vec::new() };
+        owned.set_room(owned.symbols());
+        owned.roll.make_directory(&owned.buf, &mut owned.directory)?;
+        Ok(owned)
+    }
+
+    /// The roll as a frame text: lines of lower-case hexadecimal digits, each ended by byte 10, that can be sent one by
+    /// one. Spare room and directory are no part of it.
+    ///
+    /// ```
+    /// use monterculo::{OwnedRoll, Width};
+    ///
+    /// let roll = OwnedRoll::new(Width::Four, b"banana")?;
+    /// assert_eq!(roll.to_frames(), b"01040f000f0000000600000006616e0a2b3031323334353637383962\n02e01010\n");
+    /// assert_eq!(OwnedRoll::from_frames(&roll.to_frames())?, roll);
+    /// # Ok::<(), monterculo::Refusal>(())
+    /// ```
+    pub fn to_frames(&self) -> Vec<u8> {
+        let table = self.table();
+        let mut out = vec![0; frames_for(table.k(), table.sigma(), self.roll.h())];
+        // The roll is sound and the output as long as its text: nothing is refused.
+        let length = self.roll.to_frames(&self.buf, &mut out).map_or(0, <[u8]>::len);
+        out.truncate(length);
+        out
     }
 
     /// The table.

@@ -63,7 +63,8 @@ pub enum Refusal {
         /// How many it says.
         h: usize,
     },
-    /// 5, of [`Searcher::new`](crate::Searcher::new): the record says more symbols than a roll may have.
+    /// 5, of [`Searcher::new`](crate::Searcher::new) and [`OwnedRoll::from_frames`](crate::OwnedRoll::from_frames): the
+    /// record says more symbols than a roll may have.
     LongRoll {
         /// How many it says.
         h: usize,
@@ -134,9 +135,9 @@ pub enum Refusal {
         /// The entries needed.
         needed: usize,
     },
-    /// 13: the output is shorter than the range.
+    /// 13: the output is shorter than the range, the frame text or the frame's bytes.
     ShortOutput {
-        /// The length of the range.
+        /// The bytes needed.
         needed: usize,
     },
     /// 14: the hit slice is shorter than a piece needs.
@@ -144,6 +145,15 @@ pub enum Refusal {
         /// The entries needed.
         needed: usize,
     },
+    /// 15: a line of a frame text is wrong, missing or too many.
+    BadLine {
+        /// The number of the first such, from 0.
+        line: usize,
+        /// Whether it is missing.
+        missing: bool,
+    },
+    /// 15, of a single line: it is not the frame that was to be read.
+    NotTheFrame,
     /// An answer that this crate does not know; an archive of its own version gives none.
     Other {
         /// The answer's number.
@@ -190,7 +200,7 @@ pub(crate) struct Given<'a> {
     /// The text or the pattern.
     pub text: &'a [u8],
     pub n: u32,
-    /// The directory's entries.
+    /// The directory's entries, or the lines of a frame text.
     pub entries: usize,
     pub start: usize,
     pub end: usize,
@@ -236,13 +246,14 @@ impl Answer {
             12 => Refusal::ShortDirectory { needed: value },
             13 => Refusal::ShortOutput { needed: value },
             14 => Refusal::ShortHits { needed: value },
+            15 => Refusal::BadLine { line: value, missing: value >= given.entries },
             _ => other,
         }
     }
 }
 
 impl Refusal {
-    /// The paper's number, 1 to 14.
+    /// The paper's number, 1 to 15.
     pub fn number(&self) -> u32 {
         match *self {
             Refusal::BadTable { .. } => 1,
@@ -259,6 +270,7 @@ impl Refusal {
             Refusal::ShortDirectory { .. } => 12,
             Refusal::ShortOutput { .. } => 13,
             Refusal::ShortHits { .. } => 14,
+            Refusal::BadLine { .. } | Refusal::NotTheFrame => 15,
             Refusal::Other { number, .. } => number,
         }
     }
@@ -271,7 +283,8 @@ impl Refusal {
             | Refusal::BadUnused
             | Refusal::BadRange { .. }
             | Refusal::BadPlace { .. }
-            | Refusal::BadPattern { .. } => 0,
+            | Refusal::BadPattern { .. }
+            | Refusal::NotTheFrame => 0,
             Refusal::BadCounts { length } => length,
             Refusal::NotInTable { place, .. } => place,
             Refusal::NoRoom { character } => character,
@@ -283,6 +296,7 @@ impl Refusal {
             Refusal::ShortDirectory { needed } | Refusal::ShortOutput { needed } | Refusal::ShortHits { needed } => {
                 needed
             }
+            Refusal::BadLine { line, .. } => line,
             Refusal::Other { value, .. } => return value,
         };
         value as u64
@@ -334,10 +348,11 @@ impl fmt::Display for Refusal {
             Refusal::BadPattern { length: 0 } => write!(f, "the pattern is empty"),
             Refusal::BadPattern { length } => write!(f, "the pattern has {length} characters, more than {PATTERN}"),
             Refusal::ShortDirectory { needed } => write!(f, "the directory is too short: entries needed are {needed}"),
-            Refusal::ShortOutput { needed } => {
-                write!(f, "the output is too short: the length of the range is {needed}")
-            }
+            Refusal::ShortOutput { needed } => write!(f, "the output is too short: bytes needed are {needed}"),
             Refusal::ShortHits { needed } => write!(f, "the hit slice is too short: entries needed are {needed}"),
+            Refusal::BadLine { line, missing: true } => write!(f, "line {line} of the frame text is missing"),
+            Refusal::BadLine { line, .. } => write!(f, "line {line} of the frame text is wrong, or one too many"),
+            Refusal::NotTheFrame => write!(f, "the line is not the frame that was to be read"),
             Refusal::Other { value, .. } => write!(f, "not known to this crate; its value is {value}"),
         }
     }
@@ -403,7 +418,7 @@ mod tests {
                 let said = if [1, 8, 10, 11].contains(&number) { 0 } else { value };
                 assert_eq!(refusal.value(), said, "{refusal}");
                 assert!(refusal.to_string().starts_with(&format!("refusal {number}: ")));
-                assert_eq!(matches!(refusal, Refusal::Other { .. }), number > 14 || number == 3 && value > 2);
+                assert_eq!(matches!(refusal, Refusal::Other { .. }), number > 15 || number == 3 && value > 2);
             }
         }
     }

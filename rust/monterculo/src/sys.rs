@@ -58,7 +58,7 @@ pub struct Codeword {
 #[repr(C)]
 #[derive(Clone, Copy, Debug, PartialEq, Eq, Hash)]
 pub struct Answer {
-    /// 0 for accepted work, 1 to 14 for a refusal.
+    /// 0 for accepted work, 1 to 15 for a refusal.
     pub number: u32,
     /// The refusal's value, or what is answered; 0 where there is nothing to answer.
     pub value: u64,
@@ -84,13 +84,13 @@ pub struct Coded {
     pub word: Codeword,
 }
 
-/// What packing and editing answer.
+/// What packing, editing and reading frames answer.
 #[repr(C)]
 #[derive(Clone, Copy, Debug, PartialEq, Eq, Hash)]
 pub struct Rolled {
     /// Its value is 0 if accepted.
     pub answer: Answer,
-    /// Beside a refusal: of packing the table with n 0 and h 0, of editing the roll that came in.
+    /// Beside a refusal: of packing the table with n 0 and h 0, of editing the roll that came in, of reading frames all 0.
     pub roll: Roll,
 }
 
@@ -183,6 +183,10 @@ extern "C" {
     fn monterculo_start(roll: Roll, pattern: *const u8, pattern_len: usize) -> Started;
     fn monterculo_feed(searcher: Searcher, piece: *const u8, piece_len: usize, slice: *mut u32, slice_len: usize) -> Fed;
     fn monterculo_finish(searcher: Searcher) -> Answer;
+    fn monterculo_write_frames(roll: Roll, buf: *const u8, buf_len: usize, out: *mut u8, out_len: usize) -> Answer;
+    fn monterculo_read_frames(text: *const u8, text_len: usize, buf: *mut u8, buf_len: usize) -> Rolled;
+    fn monterculo_read_first(line: *const u8, line_len: usize) -> Rolled;
+    fn monterculo_read_frame(line: *const u8, line_len: usize, out: *mut u8, out_len: usize) -> Answer;
 }
 
 /// Writes each byte's count into the 256 counts. Refused: 2, 4.
@@ -314,4 +318,32 @@ pub fn feed(searcher: Searcher, piece: &[u8], hits: &mut [u32]) -> Fed {
 pub fn finish(searcher: Searcher) -> Answer {
     // SAFETY: nothing is lent; numbers of the searcher out of their bounds are refused.
     unsafe { monterculo_finish(searcher) }
+}
+
+/// Writes a roll as a frame text; its value is the bytes written. Refused: check's, 13.
+#[inline]
+pub fn write_frames(roll: Roll, buf: &[u8], out: &mut [u8]) -> Answer {
+    // SAFETY: as above; buf is read, out is written.
+    unsafe { monterculo_write_frames(roll, buf.as_ptr(), buf.len(), out.as_mut_ptr(), out.len()) }
+}
+
+/// Reads a frame text into the buffer. Refused: 15, 1 of the width, 15; then check's.
+#[inline]
+pub fn read_frames(text: &[u8], buf: &mut [u8]) -> Rolled {
+    // SAFETY: as above; text is read, buf is written.
+    unsafe { monterculo_read_frames(text.as_ptr(), text.len(), buf.as_mut_ptr(), buf.len()) }
+}
+
+/// The record in the first line of a frame text. Refused: 15, 1 of the width.
+#[inline]
+pub fn read_first(line: &[u8]) -> Rolled {
+    // SAFETY: as above; line is read.
+    unsafe { monterculo_read_first(line.as_ptr(), line.len()) }
+}
+
+/// Writes the packed bytes of a later line of a frame text; its value is how many they are. Refused: 15, 13.
+#[inline]
+pub fn read_frame(line: &[u8], out: &mut [u8]) -> Answer {
+    // SAFETY: as above; line is read, out is written.
+    unsafe { monterculo_read_frame(line.as_ptr(), line.len(), out.as_mut_ptr(), out.len()) }
 }

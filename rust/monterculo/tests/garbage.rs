@@ -3,8 +3,8 @@
 use std::ops::Bound;
 
 use monterculo::{
-    bytes_for, count, entries_for, hits_for, sys, Codeword, Line, OwnedRoll, Refusal, Roll, Searcher, Table,
-    TableFault, Width,
+    bytes_for, count, entries_for, frames_for, hits_for, read_frame, sys, Codeword, Line, OwnedRoll, Refusal, Roll,
+    Searcher, Table, TableFault, Width,
 };
 
 /// SplitMix64, from a fixed seed.
@@ -88,7 +88,7 @@ impl Garbage {
 
 /// How often each number was answered, 0 for accepted.
 #[derive(Default)]
-struct Tally([u32; 15]);
+struct Tally([u32; 16]);
 
 impl Tally {
     /// What was accepted. The words of a refusal are written, and none is unknown.
@@ -192,6 +192,44 @@ fn pieces(garbage: &mut Garbage, tally: &mut Tally) {
     sys::finish(raw);
 }
 
+/// Frame texts, whole and damaged: some six calls, and what is read is what was written.
+fn frames(garbage: &mut Garbage, tally: &mut Tally) {
+    let mut buf = garbage.bytes(90, 256);
+    let record = garbage.roll(&mut buf);
+    let mut out = vec![0xee; frames_for(record.table().k(), record.table().sigma(), record.h().min(300))];
+    out.truncate(garbage.below(20) as usize * out.len());
+    let mut text = match tally.told(record.to_frames(&buf, &mut out)) {
+        Some(text) => text.to_vec(),
+        None => {
+            let digits = garbage.bytes(40, 16).into_iter().map(|digit| b"0123456789abcdef"[usize::from(digit)]);
+            [b"0102030001"[..].to_vec(), digits.collect(), b"\n".to_vec()].concat()
+        }
+    };
+    for _ in 0..garbage.below(3) {
+        let place = garbage.below(text.len() as u64 + 1) as usize;
+        match garbage.below(4) {
+            0 => text.truncate(place),
+            1 => text.insert(place, garbage.next() as u8),
+            _ if place < text.len() => text[place] = b"0123456789abcdefF\n"[garbage.below(18) as usize],
+            _ => text.push(b'\n'),
+        }
+    }
+    let mut lent = garbage.bytes(90, 1);
+    let answer = Roll::from_frames(&text, &mut lent);
+    let owned = OwnedRoll::from_frames(&text);
+    if let Some(roll) = tally.told(answer) {
+        let mut again = vec![0; frames_for(roll.table().k(), roll.table().sigma(), roll.h())];
+        assert_eq!(roll.to_frames(&lent, &mut again), Ok(&text[..]));
+        assert_eq!(owned.map(|roll| roll.to_frames()), Ok(text.clone()));
+    } else {
+        tally.told(owned);
+    }
+    for line in text.split_inclusive(|&byte| byte == b'\n').take(3) {
+        tally.told(Roll::from_first_line(line));
+        tally.told(read_frame(line, &mut garbage.bytes(40, 1)).map(<[u8]>::to_vec));
+    }
+}
+
 /// Three characters, of one symbol, two and two.
 const TABLE: sys::Table = sys::Table { k: 2, s: 1, sigma: 3, places: PLACES };
 const PLACES: [u8; 256] = {
@@ -242,6 +280,7 @@ fn every_call_comes_back() {
         code(&mut garbage, &mut tally);
         lent(&mut garbage, &mut tally);
         pieces(&mut garbage, &mut tally);
+        frames(&mut garbage, &mut tally);
         owned(&mut garbage, &mut tally);
     }
     // No number is left out, so the garbage comes far enough.

@@ -3,7 +3,9 @@
 use std::collections::HashSet;
 use std::error::Error;
 
-use monterculo::{bytes_for, count, entries_for, Codeword, Refusal, Roll, Searcher, Table, TableFault};
+use monterculo::{
+    bytes_for, count, entries_for, read_frame, Codeword, OwnedRoll, Refusal, Roll, Searcher, Table, TableFault,
+};
 
 /// A text packed with this table, in a buffer of just its size.
 fn packed(table: &Table, text: &[u8]) -> (Roll, Vec<u8>) {
@@ -283,6 +285,8 @@ fn each_refusal() {
     assert_eq!(refused(roll.unpack(&buf, 2..7, &mut [0; 4])), (13, 5));
     let mut searcher = Searcher::new(&roll, b"abra").unwrap();
     assert_eq!(refused(searcher.feed(&buf, &mut [0; 15]).map_err(Refusal::from)), (14, 16));
+    let text = OwnedRoll::from_parts(roll.clone(), buf.to_vec(), vec![0]).unwrap().to_frames();
+    assert_eq!(refused(Roll::from_frames(&text[..text.len() - 1], &mut [0; 4])), (15, 1));
 }
 
 #[test]
@@ -338,6 +342,17 @@ fn a_refused_edit_changes_nothing() {
     assert_eq!((roll, buf, directory), before);
 }
 
+/// A frame text of one symbol more than a roll may have, with all its lines.
+fn over_the_limit() -> Vec<u8> {
+    let mut text = b"0102010001000100010001000161\n".to_vec();
+    for line in [0_u8; 16_385].chunks(32) {
+        text.extend(b"02");
+        text.extend(line.iter().flat_map(|_| *b"00"));
+        text.push(b'\n');
+    }
+    text
+}
+
 /// Each cause by its name and in its words.
 #[test]
 fn refusals_by_name() {
@@ -357,6 +372,9 @@ fn refusals_by_name() {
         searcher.find(piece)?;
         searcher.finish()
     };
+    let text = |k, sigma, h| format!("01{:02x}03{:04x}0000000b{:08x}6162726364\n", k, sigma, h).into_bytes();
+    let frames = |text: &[u8]| Roll::from_frames(text, &mut [0; 4]).map(|_| ());
+    let packed = b"0218c34600\n";
 
     #[rustfmt::skip]
     let cases = [
@@ -413,9 +431,35 @@ fn refusals_by_name() {
         (roll.make_directory(&buf, &mut []), Refusal::ShortDirectory { needed: 1 },
             "12: the directory is too short: entries needed are 1"),
         (range(2..7), Refusal::ShortOutput { needed: 5 },
-            "13: the output is too short: the length of the range is 5"),
+            "13: the output is too short: bytes needed are 5"),
+        (roll.to_frames(&buf, &mut [0; 47]).map(|_| ()), Refusal::ShortOutput { needed: 48 },
+            "13: the output is too short: bytes needed are 48"),
+        (read_frame(packed, &mut [0; 3]).map(|_| ()), Refusal::ShortOutput { needed: 4 },
+            "13: the output is too short: bytes needed are 4"),
         (fed(13, &buf, 15), Refusal::ShortHits { needed: 16 },
             "14: the hit slice is too short: entries needed are 16"),
+        (frames(&text(2, 5, 13)), Refusal::BadLine { line: 1, missing: true },
+            "15: line 1 of the frame text is missing"),
+        (frames(&[&text(2, 5, 13)[..], packed, b"\n"].concat()), Refusal::BadLine { line: 2, missing: false },
+            "15: line 2 of the frame text is wrong, or one too many"),
+        (frames(&text(2, 6, 13)), Refusal::BadLine { line: 0, missing: false },
+            "15: line 0 of the frame text is wrong, or one too many"),
+        (frames(b""), Refusal::BadLine { line: 0, missing: true },
+            "15: line 0 of the frame text is missing"),
+        (Roll::from_first_line(packed).map(|_| ()), Refusal::NotTheFrame,
+            "15: the line is not the frame that was to be read"),
+        (read_frame(&packed[..10], &mut [0; 4]).map(|_| ()), Refusal::NotTheFrame,
+            "15: the line is not the frame that was to be read"),
+        (frames(&text(42, 5, 13)), Refusal::BadTable { fault: TableFault::Width { k: 42 } },
+            "1: the table is not good: k is 42, and must be 2 or 4"),
+        (Roll::from_first_line(&text(3, 5, 13)).map(|_| ()), Refusal::BadTable { fault: TableFault::Width { k: 3 } },
+            "1: the table is not good: k is 3, and must be 2 or 4"),
+        (frames(&[&text(2, 5, 17)[..], b"0218c3460000\n"].concat()), Refusal::BadSymbolCount { h: 17 },
+            "5: h is 17, more symbols than the buffer has room for"),
+        (frames(&[&text(2, 5, 12)[..], b"0218c346\n"].concat()), Refusal::BadCharacterCount { read: 10, n: 11 },
+            "7: n is 11, and the characters read are 10"),
+        (OwnedRoll::from_frames(&over_the_limit()).map(|_| ()), Refusal::LongRoll { h: 65_537 },
+            "5: h is 65537, and a roll has at most 65536 symbols"),
     ];
     let mut numbers = HashSet::new();
     for (answer, refusal, words) in cases {
@@ -425,7 +469,7 @@ fn refusals_by_name() {
         assert_eq!(format!("{:?}", refusal), refusal.to_string());
         numbers.insert(refusal.number());
     }
-    assert_eq!(numbers, (1..=14).collect());
+    assert_eq!(numbers, (1..=15).collect());
 
     fn answer() -> Result<(), Box<dyn Error + Send + Sync>> {
         count(b"", &mut [])?;

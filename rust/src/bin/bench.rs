@@ -15,7 +15,7 @@ use monterculo::sys;
 use monterculo_reference::library::roll_of;
 use monterculo_reference::memory;
 use monterculo_reference::plain;
-use monterculo_reference::reference::{self, Roll, Table, LIMIT, STRIDE};
+use monterculo_reference::reference::{self, Roll, Table, FRAME, LIMIT, STRIDE};
 
 /// Measured calls of each operation, on either side.
 const REPETITIONS: usize = 201;
@@ -641,6 +641,91 @@ fn measure_jumping(case: &Case) -> Vec<(usize, Vec<Jumping>)> {
     PATTERNS.iter().map(|&length| (length, of_length(length))).collect()
 }
 
+/// A roll written as a frame text, or read from one, and what of it is the check.
+struct Framed {
+    name: &'static str,
+    archive: f64,
+    plain: f64,
+    /// What of it is the archive's check of the same roll, or in reading its judging; and plain Rust's check.
+    our_check: f64,
+    their_check: f64,
+}
+
+impl Framed {
+    fn row(&self) -> Row {
+        Row::new(self.name, [self.archive, self.plain])
+    }
+}
+
+/// Both, in turn with the checks. What judging takes is what is left of a reading without its passes over the lines: their shape alone
+/// is read where the last line is wrong, and their bytes once more, unjudged, where the first codeword is bad. A reading that is
+/// accepted reads them once more to store them.
+fn measure_frames(case: &Case) -> Vec<Framed> {
+    let (roll, buf) = (&case.roll, &case.buf);
+    let (record, k, sigma) = (roll_of(roll), usize::from(roll.table.k), usize::from(roll.table.sigma));
+    let bytes = &buf[..(roll.h as usize * k + 7) / 8];
+    let mut text = vec![FILL; 27 + 2 * sigma + 2 * bytes.len() + 3 * ((bytes.len() + FRAME - 1) / FRAME)];
+    let length = reference::write_frames(roll, buf, &mut text).expect("a sound roll");
+    assert_eq!(length as usize, text.len());
+    let our_check = || timed(|| sys::check(record, buf).number);
+    let their_check = || timed(|| number_of(&plain::check(roll, buf)));
+
+    let (mut ours, mut theirs) = (vec![FILL; text.len()], vec![FILL; text.len()]);
+    let found = (0, length, sum_bytes(&text));
+    let checked = |(time, number): (f64, u32)| (time, (number, found.1, found.2));
+    let [archive, plain, our_time, their_time] = medians([
+        &mut || {
+            ours.fill(FILL);
+            let (time, answer) = timed(|| sys::write_frames(record, buf, &mut ours));
+            (time, (answer.number, answer.value, sum_bytes(&ours)))
+        },
+        &mut || {
+            theirs.fill(FILL);
+            let (time, answer) = timed(|| plain::write_frames(roll, buf, &mut theirs));
+            (time, (number_of(&answer), answer.unwrap_or(0), sum_bytes(&theirs)))
+        },
+        &mut || checked(our_check()),
+        &mut || checked(their_check()),
+    ]);
+    assert_eq!(ours, text);
+    let name = "write as frames";
+    let written = Framed { name, archive, plain, our_check: our_time, their_check: their_time };
+
+    let first = text.iter().position(|&byte| byte == 10).expect("a first line") + 1;
+    let (mut shapeless, mut bad) = (text.clone(), text.clone());
+    shapeless[text.len() - 2] = b'x';
+    let line = first + 2..first + 2 + 2 * FRAME;
+    bad[line].fill(b'f');
+    let (mut ours, mut theirs) = (vec![FILL; buf.len()], vec![FILL; buf.len()]);
+    let after = [bytes, &vec![FILL; buf.len() - bytes.len()]].concat();
+    let found = (0, roll.n, roll.h, sum_bytes(&after));
+    let checked = |(time, number): (f64, u32)| (time, (number, found.1, found.2, found.3));
+    let refused = |text: &[u8], number: u32| {
+        let mut lent = vec![FILL; buf.len()];
+        let (time, read) = timed(|| sys::read_frames(text, &mut lent));
+        checked((time, read.answer.number - number))
+    };
+    let [archive, plain, their_time, shape, unjudged] = medians([
+        &mut || {
+            ours.fill(FILL);
+            let (time, read) = timed(|| sys::read_frames(&text, &mut ours));
+            (time, (read.answer.number, read.roll.n, read.roll.h, sum_bytes(&ours)))
+        },
+        &mut || {
+            theirs.fill(FILL);
+            let (time, read) = timed(|| plain::read_frames(&text, &mut theirs));
+            let read = read.expect("a sound roll");
+            (time, (0, read.n, read.h, sum_bytes(&theirs)))
+        },
+        &mut || checked(their_check()),
+        &mut || refused(&shapeless, 15),
+        &mut || refused(&bad, 6),
+    ]);
+    let name = "read from frames";
+    let judging = archive - (2.0 * unjudged - shape);
+    vec![written, Framed { name, archive, plain, our_check: judging, their_check: their_time }]
+}
+
 /// Name, range and run of each edit measured.
 fn edits(case: &Case) -> Vec<(&'static str, usize, usize, Vec<u8>)> {
     let (text, table) = (&case.text, &case.roll.table);
@@ -704,6 +789,32 @@ fn table_in_pieces(rows: &[InPieces]) -> String {
                 length, size, fed[number], whole, bold, ratio, bold
             );
         }
+    }
+    lines
+}
+
+fn table_of_frames(rows: &[Framed]) -> String {
+    let mut lines = String::from(
+        "| frames | archive µs | plain Rust µs | ratio | its check µs | plain check µs | less the checks µs | plain Rust µs | ratio |\n\
+         |---|--:|--:|--:|--:|--:|--:|--:|--:|\n",
+    );
+    for row in rows {
+        let Framed { archive, plain, our_check, their_check, .. } = *row;
+        let shown = |ratio: f64| if ratio > MARK { format!("**{:.2}**", ratio) } else { format!("{:.2}", ratio) };
+        let (ours, theirs) = (archive - our_check, plain - their_check);
+        let _ = writeln!(
+            lines,
+            "| {} | {:.1} | {:.1} | {} | {:.1} | {:.1} | {:.1} | {:.1} | {} |",
+            row.name,
+            archive,
+            plain,
+            shown(archive / plain),
+            our_check,
+            their_check,
+            ours,
+            theirs,
+            shown(ours / theirs)
+        );
     }
     lines
 }
@@ -882,8 +993,8 @@ fn main() {
         }
     }
     println!(
-        "Medians of {} calls on either side, in turn, after {} that were not measured. Outputs of pack, unpack and make\n\
-         a directory were not cleared but filled with other values before each call, and each edit had a fresh copy\n\
+        "Medians of {} calls on either side, in turn, after {} that were not measured. Outputs of pack, unpack, make a\n\
+         directory and frames were not cleared but filled with other values before each call, and each edit had a fresh copy\n\
          of buffer and directory; neither is timed. A hit list keeps the hits of the call before. Reading one is the\n\
          mean over {} places. Less the check: the median of the search less that of the check, both measured in turn.\n\
          Unpacked text: its plain search. Bold: over {}. As it comes in: started, fed and finished, in turn with the\n\
@@ -892,7 +1003,10 @@ fn main() {
          median of {} rounds. Of the archive's searches that of the differences of a search and of a check right behind\n\
          it; plain Rust searches the packed symbols without a check; memmem goes on one byte behind each hit. Ratios\n\
          are of the means, and the greatest of one pattern is beside them. Bold: over {} of the plain search, {} of plain\n\
-         Rust, and of memmem over {:?} for 8 characters and {:?} for 16 and 32.\n",
+         Rust, and of memmem over {:?} for 8 characters and {:?} for 16 and 32.\n\
+         Frames: plain Rust's check, and in writing the archive's, measured in turn. In reading the archive judges the bytes\n\
+         as they come: its check is what is left without its passes over the lines, of which one is a text with a wrong last\n\
+         line, two one with a bad first codeword, and three a reading.\n",
         REPETITIONS,
         WARM_UP,
         PLACES,
@@ -908,8 +1022,11 @@ fn main() {
     );
     let mut rows = Vec::new();
     for case in &cases {
-        let measured = measure(case);
+        let mut measured = measure(case);
         println!("{}", table_of(case, &measured));
+        let framed = measure_frames(case);
+        println!("{}", table_of_frames(&framed));
+        measured.extend(framed.iter().map(Framed::row));
         println!("{}", table_in_pieces(&measure_in_pieces(case)));
         println!("{}", table_of_jumping(&measure_jumping(case)));
         rows.push(measured);

@@ -17,6 +17,9 @@ use crate::operation::{make, Library, Listed};
 mod by_bytes;
 mod coming;
 mod faults;
+mod framed;
+#[cfg(test)]
+mod in_frames;
 #[cfg(test)]
 mod in_pieces;
 #[cfg(test)]
@@ -172,6 +175,7 @@ fn main() {
 #[cfg(test)]
 mod tests {
     use super::*;
+    use crate::operation::name_of;
 
     #[test]
     fn the_reference_answers_as_itself_and_every_number_comes() {
@@ -194,10 +198,9 @@ mod tests {
             assert!(!planted.errors.is_empty(), "{} has no planted error", planted.name);
             for error in planted.errors {
                 // The calls of its own operation alone: the others would be the reference held to itself.
-                let text = (0..20_000)
-                    .map(|call| make(&operations, 3, call))
-                    .filter(|(operation, _)| operation.name == planted.name)
-                    .find_map(|(_, case)| case.compare(Library::WithError(error)).err())
+                let text = (0..26_000)
+                    .filter(|&call| name_of(&operations, 3, call) == planted.name)
+                    .find_map(|call| make(&operations, 3, call).1.compare(Library::WithError(error)).err())
                     .unwrap_or_else(|| panic!("not found: {} {}", planted.name, error));
                 // By its answer or what it leaves, and not by a panic.
                 assert_eq!(text.contains("the library panicked"), *error == "panics", "{} {}", planted.name, error);

@@ -176,10 +176,22 @@ impl Listed {
 
 /// The case of a call, from its seed and number alone, with its operation.
 pub fn make(operations: &[Listed], seed: u64, call: u64) -> (&Listed, Box<dyn Case>) {
+    let (operation, share, mut rng) = drawn(operations, seed, call);
+    (operation, (operation.make)(&mut rng, share))
+}
+
+/// The operation of a call, which of its shares, and the numbers for its case.
+fn drawn(operations: &[Listed], seed: u64, call: u64) -> (&Listed, usize, Rng) {
     let mut rng = Rng::of_call(seed, call);
     let share = rng.below(operations.iter().map(|operation| operation.shares).sum());
     let (operation, share) = share_of(operations, share, |operation| operation.shares);
-    (operation, (operation.make)(&mut rng, share))
+    (operation, share, rng)
+}
+
+/// The name of a call's operation; no case is made.
+#[cfg(test)]
+pub fn name_of(operations: &[Listed], seed: u64, call: u64) -> &'static str {
+    drawn(operations, seed, call).0.name
 }
 
 /// Which of these a share of all falls to, and which of its own shares that is.

@@ -13,11 +13,18 @@ mod finish;
 mod make_directory;
 mod pack;
 mod pieces;
+mod read_first;
+mod read_frame;
+mod read_frames;
 mod read_one;
 mod search;
 mod search_jumping;
 mod start;
 mod unpack;
+mod write_frames;
+
+#[cfg(test)]
+pub use read_first::NO_ROLL;
 
 pub fn all() -> Vec<Listed> {
     vec![
@@ -37,5 +44,9 @@ pub fn all() -> Vec<Listed> {
         Listed::of::<feed::Feed>(),
         Listed::of::<finish::Finish>(),
         Listed::of::<pieces::Pieces>(),
+        Listed::of::<write_frames::WriteFrames>(),
+        Listed::of::<read_frames::ReadFrames>(),
+        Listed::of::<read_first::ReadFirst>(),
+        Listed::of::<read_frame::ReadFrame>(),
     ]
 }
