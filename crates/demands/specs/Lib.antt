@@ -11,3 +11,4 @@ pub mod Counted
 pub mod Made
 pub mod Edits
 pub mod Radio
+pub mod Frames

@@ -383,6 +383,10 @@ module _ {r : Roll} {pattern : List ℕ} {st : Started} {pieces : List (List ℕ
   pub finish-sound : Finishing s′ Yes → Checking r bytes Yes
   finish-sound f = record { says = f .says ∙ finish-check (finished-fits (sym (f .says))) }
 
+  -- and as many bytes came as the roll has
+  pub finish-bytes : Finishing s′ Yes → length bytes ≡ bytesFor k (r .h)
+  finish-bytes f = let s = accepted-sound r bytes (sym (finish-sound f .says)) in all-in (s .fits) (good-read (s .reads))
+
   -- and all hits are the search's
   pub finish-search : {slice after : List ℕ} {answer : Total} → Finishing s′ Yes → Searching r bytes pattern slice answer after
       → (answer ≡ Of (length found)) × (after ≡ listed found slice)

@@ -4,3 +4,4 @@ pub mod Cases
 pub mod Program
 pub mod ProgramNot
 pub mod RadioNot
+pub mod FramesNot
