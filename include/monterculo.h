@@ -32,9 +32,9 @@
  * - The answered searcher is the one to go on with: keep it in place of the one that was handed in. A hit that feed names
  *   is one of the text read so far; whether the roll is sound is known once monterculo_finish accepts, and not before.
  * - The stack, in bytes and with the arguments: edit 29,000, pack 27,000, search_jumping 19,600, unpack 12,900, search
- *   10,800, feed 5,700, make_directory 5,600, check 5,300, codeword_of 3,900, choose 2,300, start, read_one and
- *   character_of 1,400, finish 1,100, count 100. No call takes memory from elsewhere. These figures and those of the
- *   faults were measured on the archive by tools/measure.c.
+ *   10,800, feed 5,700, write_frames and make_directory 5,600, check 5,300, codeword_of 3,900, choose 2,300, read_frames
+ *   1,700, start, read_one and character_of 1,400, finish 1,100, read_first 1,000, count and read_frame 100. No call takes
+ *   memory from elsewhere. These figures and those of the faults were measured on the archive by tools/measure.c.
  *
  * Sizes to lend.
  *   counts                256 entries of 32 bits

@@ -14,7 +14,7 @@ use Rattle.ground.specs.Paper.Limit.{limit}
 use Rattle.ground.specs.Paper.Refusals.{accepted}
 use Rattle.ground.specs.Helpers.Below.{Below}
 use Rattle.ground.specs.Laws.Answers.{says-as, done-one, total-one}
-use Rattle.ground.specs.Laws.Refusals.{Accepted, refused-keeps, accepted-leaves, accepted-none, accepted-answer, accepted-parts}
+use Rattle.ground.specs.Laws.Refusals.{Accepted, Refuses, refused-row, refused-keeps, accepted-leaves, accepted-none, accepted-answer, accepted-parts}
 use Rattle.ground.specs.Laws.Tests.{true-yes, yes-true}
 use Rattle.ground.specs.declared.answers.Done.{Done}
 use Rattle.ground.specs.declared.answers.Done.the-variants.{Yes, Refused}
@@ -33,10 +33,10 @@ use Rattle.sound.specs.declared.records.Roll.{Roll}
 use Rattle.radio.specs.Paper.Operations.{startSays, Starting, Finishing}
 use Rattle.radio.specs.declared.records.Searcher.{Searcher}
 use Rattle.radio.specs.declared.start.Started.{Started}
-use Rattle.roll.specs.Paper.Operations.{checkSays, Checking}
+use Rattle.roll.specs.Paper.Operations.{fitRows, checkRows, checkSays, Checking}
 use Rattle.roll.specs.Laws.Accepting.{sound-accepted, accepted-sound}
 use Rattle.frames.specs.Paper.Frames.{mostBytes, laterFor, bytesUsed, packedOf, frameText, lineOf, restOf, isLine, isFirst, isLater, packedIn, bytesNext, rightLine, allRight, packedFrom}
-use Rattle.frames.specs.Paper.Operations.{bytesInto, writeRows, writeSays, Writing, noRecord, firstRows, firstSays, ReadingFirst, laterRows, laterSays, ReadingLater, packedAfter, recordOfText, bytesOfText, readSays, ReadingFrames}
+use Rattle.frames.specs.Paper.Operations.{bytesInto, writeRows, writeSays, Writing, noRecord, firstRows, firstSays, ReadingFirst, laterRows, laterSays, ReadingLater, lineRows, linesSay, packedAfter, restSays, recordOfText, bytesOfText, readSays, ReadingFrames}
 use Rattle.frames.specs.Laws.Forms.{later-parts}
 use Rattle.frames.specs.Laws.Later.{all-none, all-more}
 use Rattle.frames.specs.Laws.Frames.{cleaned}
@@ -44,6 +44,7 @@ use Rattle.frames.specs.Laws.Meaning.{used-reading, Reads, reads-accepted, acce
 use Rattle.frames.specs.Laws.Operations.{later-accepted, write-accepted}
 use Rattle.frames.specs.declared.read_first.RollRead.{RollRead}
 use Rattle.demands.specs.Calls.{TextIs, text-sound, text-is}
+use Rattle.demands.specs.Orders.{DecidedBy, decided, decided-then, decided-both, then-refuses, rowsOfCheck, fit-decided, check-decided}
 use Rattle.demands.specs.Radio.{FedAll, answers, text-so-far, finish-sound, finish-bytes, sound-finish, sound-fed}
 
 -- ---- a text that was written
@@ -119,6 +120,32 @@ frames-one {text} {text′} {buf} {buf′} p y q z e f =
 -- a text is read exactly if it is the frame text of a sound roll for which the buffer has room
 pub frames-exact : {text buf after : List ℕ} {a : RollRead} → ReadingFrames text buf a after → (a .answer ≡ Yes) ↔ Written text buf
 frames-exact {text} {buf} {a = a} p = (λ y. accepts-exactly text buf .1 (reads p y), λ w. done-one (a .answer) Yes (p .says ∙ accepts-exactly text buf .0 w))
+
+-- ---- each operation's refusals, in the paper's order
+
+pub order-write : {r : Roll} {buf out after : List ℕ} {n v : ℕ} → Writing r buf out (total-refused n v) after → Refuses (rowsOfCheck r buf ++ writeRows r buf out) n v
+unfolding writeSays
+order-write {r} {buf} {out} p = then-refuses (check-decided r buf) (writeRows r buf out) (length (frameText r buf)) (sym (p .says))
+
+pub order-later : {line out after : List ℕ} {n v : ℕ} → ReadingLater line out (total-refused n v) after → Refuses (laterRows line out) n v
+unfolding laterSays
+order-later {line} {out} p = refused-row (laterRows line out) (length (packedIn line)) (sym (p .says))
+
+first-decided : (line : List ℕ) → DecidedBy (firstSays line) (firstRows line)
+unfolding firstSays
+first-decided line = decided (firstRows line)
+
+pub order-first : {line : List ℕ} {a : RollRead} {n v : ℕ} → ReadingFirst line a → a .answer ≡ Refused n v → Refuses (firstRows line) n v
+order-first {line} p e = first-decided line .refuses (says-as (p .says) e)
+
+-- the first line's, the other lines', and check's: 1 and 5 of the buffer, the rest of the bytes that came
+pub order-frames : {text buf after : List ℕ} {a : RollRead} {n v : ℕ} → ReadingFrames text buf a after → a .answer ≡ Refused n v → let r = recordOfText text in
+    Refuses (firstRows (lineOf text) ++ (lineRows (bytesUsed r) (restOf text) ++ (fitRows r buf ++ checkRows r (bytesOfText text)))) n v
+unfolding readSays restSays linesSay
+order-frames {text} {buf} p e =
+    let r = recordOfText text in
+    decided-both (first-decided (lineOf text))
+    (decided-both (decided (lineRows (bytesUsed r) (restOf text))) (decided-then (fit-decided r buf) (checkRows r (bytesOfText text)))) .refuses (says-as (p .says) e)
 
 -- ---- a refused call leaves what it was lent as it was
 

@@ -59,6 +59,14 @@ decided-then {o} {a} d b =
       accepts = λ e. let (x, y) = accepted-parts o e in none-both a b (d .accepts x) (accepted-none b tt y);
     }
 
+-- one outcome after another
+pub decided-both : {o p : Outcome (Unit {0})} {a b : List Row} → DecidedBy o a → DecidedBy p b → DecidedBy (o then p) (a ++ b)
+decided-both {o} {p} {a} {b} d f =
+    record {
+      refuses = λ {n} {v} e. ⊎-elim (λ x. refuses-left n v a b (d .refuses x)) (λ q. refuses-right n v a b (d .accepts (q .0)) (f .refuses (q .1))) (refused-parts o e);
+      accepts = λ e. let (x, y) = accepted-parts o e in none-both a b (d .accepts x) (f .accepts y);
+    }
+
 -- ---- the rows that several operations begin with
 
 abbrev pub rowsOfCheck : Roll → List ℕ → List Row
