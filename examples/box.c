@@ -125,7 +125,7 @@ static int load(FILE *file)
 }
 
 /* The next box: what came on the line, and the buffer for the roll in it. */
-static uint8_t frames[MONTERCULO_FRAMES(MONTERCULO_PLACES, sizeof buf * 8 / WIDTH, WIDTH)], next[sizeof buf];
+static uint8_t frames[MONTERCULO_FRAME_TEXT(MONTERCULO_PLACES, sizeof buf * 8 / WIDTH, WIDTH)], next[sizeof buf];
 
 /* Writes the roll as a frame text, which the next box reads; at first its last line has lost its end. */
 static void send_on(void)

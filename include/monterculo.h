@@ -42,8 +42,8 @@
  *   a buffer              h*k/8 bytes, rounded up, for h symbols: MONTERCULO_BYTES(h, k)
  *   hits of a piece       8/k entries of 32 bits for each of its bytes: MONTERCULO_HITS(piece_len, k)
  *   a frame text          27 + 2*sigma + 2*b + 3*f bytes for b packed bytes in b/32 frames, rounded up, which are f:
- *                         MONTERCULO_FRAMES(sigma, h, k), at most 69,147
- *   bytes of a frame      32 at most: MONTERCULO_FRAME
+ *                         MONTERCULO_FRAME_TEXT(sigma, h, k), at most 69,147
+ *   a frame's bytes       32 packed ones at most: MONTERCULO_FRAME
  * No roll has more than 65,536 symbols. The room of a buffer is the smaller of 65,536 and its bytes times 8/k, in
  * symbols. For an edit, lend what the roll needs before it and what it needs after it, whichever is more. */
 #ifndef MONTERCULO_H
@@ -71,7 +71,7 @@ extern "C" {
 #define MONTERCULO_ENTRIES(n) ((size_t)(n) / 32 + ((n) % 32 != 0))
 #define MONTERCULO_BYTES(h, k) (((size_t)(h) * (k) + 7) / 8)
 #define MONTERCULO_HITS(piece_len, k) ((size_t)(piece_len) * ((k) == 4 ? 2 : 4))
-#define MONTERCULO_FRAMES(sigma, h, k) \
+#define MONTERCULO_FRAME_TEXT(sigma, h, k) \
     (27 + 2 * (size_t)(sigma) + 2 * MONTERCULO_BYTES(h, k) + \
      3 * ((MONTERCULO_BYTES(h, k) + MONTERCULO_FRAME - 1) / MONTERCULO_FRAME))
 
@@ -354,7 +354,7 @@ static inline struct monterculo_answer monterculo_feed_into(struct monterculo_se
 /* Writes a roll as a frame text.
  * Refused: check's 1, 5, 6, 7, 8, then 13 (bytes of the frame text, bytes 10 counted).
  * Writes: the text, from the first byte of out on; later bytes unchanged.
- * Value: the bytes written: MONTERCULO_FRAMES(sigma, h, k). */
+ * Value: the bytes written: MONTERCULO_FRAME_TEXT(sigma, h, k). */
 struct monterculo_answer monterculo_write_frames(struct monterculo_roll roll, const uint8_t *buf, size_t buf_len,
                                                  uint8_t *out, size_t out_len);
 

@@ -18,7 +18,7 @@
 enum { STACK = 1 << 18, PAINT = 0xA5 };
 
 static uint8_t stack[STACK], text[20000], buf[32768], out[65536];
-static uint8_t frames[MONTERCULO_FRAMES(256, MONTERCULO_SYMBOLS, 4)], next[32768];
+static uint8_t frames[MONTERCULO_FRAME_TEXT(256, MONTERCULO_SYMBOLS, 4)], next[32768];
 static uint32_t counts[256], dir[2048], hits[65536];
 static struct monterculo_table table;
 static struct monterculo_roll roll;
@@ -52,8 +52,8 @@ CALL(feed, monterculo_feed(fresh, buf, MONTERCULO_BYTES(roll.h, 2), hits, ROOM(h
 CALL(finish, monterculo_finish(whole))
 CALL(write_frames, monterculo_write_frames(roll, buf, sizeof buf, frames, sizeof frames))
 CALL(read_frames, monterculo_read_frames(frames, framed, next, sizeof next).answer)
-CALL(read_first, monterculo_read_first(frames, MONTERCULO_FRAMES(256, 0, 2)).answer)
-CALL(read_frame, monterculo_read_frame(frames + MONTERCULO_FRAMES(256, 0, 2), 67, out, sizeof out))
+CALL(read_first, monterculo_read_first(frames, MONTERCULO_FRAME_TEXT(256, 0, 2)).answer)
+CALL(read_frame, monterculo_read_frame(frames + MONTERCULO_FRAME_TEXT(256, 0, 2), 67, out, sizeof out))
 CALL(edit, monterculo_edit(roll, buf, sizeof buf, dir, ROOM(dir), 3, 60, text + length - 80, 80).answer)
 
 static void measure(const char *name, void (*call)(void))

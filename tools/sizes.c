@@ -58,7 +58,7 @@ int main(void)
             bytes += MONTERCULO_BYTES(roll.h, k);
             entries += MONTERCULO_ENTRIES(roll.n);
             file += 24 + roll.table.sigma;
-            frames += MONTERCULO_FRAMES(roll.table.sigma, roll.h, k);
+            frames += MONTERCULO_FRAME_TEXT(roll.table.sigma, roll.h, k);
             printf("k %d: roll %zu has %zu lines; %d characters in the table, %d stoppers\n", k, ++rolls, fits - from,
                    roll.table.sigma, roll.table.s);
             if (from == 0)

@@ -21,6 +21,7 @@ use Rattle.ground.specs.declared.answers.Done.the-variants.{Yes, Refused}
 use Rattle.ground.specs.declared.answers.Total.{Total}
 use Rattle.ground.specs.declared.answers.Total.the-variants.{Of, Refused as total-refused}
 use Rattle.stopper.specs.Paper.Table.{goodTable}
+use Rattle.stopper.specs.Laws.Table.{table-few}
 use Rattle.symbols.specs.Paper.Symbols.{room}
 use Rattle.symbols.specs.Laws.Sizes.{room-limit, room-bytes}
 use Rattle.texts.specs.Paper.Hits.{hits, goodPattern}
@@ -35,11 +36,11 @@ use Rattle.radio.specs.declared.records.Searcher.{Searcher}
 use Rattle.radio.specs.declared.start.Started.{Started}
 use Rattle.roll.specs.Paper.Operations.{fitRows, checkRows, checkSays, Checking}
 use Rattle.roll.specs.Laws.Accepting.{sound-accepted, accepted-sound}
-use Rattle.frames.specs.Paper.Frames.{mostBytes, laterFor, bytesUsed, packedOf, frameText, lineOf, restOf, isLine, isFirst, isLater, packedIn, bytesNext, rightLine, allRight, packedFrom}
-use Rattle.frames.specs.Paper.Operations.{bytesInto, writeRows, writeSays, Writing, noRecord, firstRows, firstSays, ReadingFirst, laterRows, laterSays, ReadingLater, lineRows, linesSay, packedAfter, restSays, recordOfText, bytesOfText, readSays, ReadingFrames}
+use Rattle.frames.specs.Paper.Frames.{mostBytes, laterFor, bytesUsed, packedOf, frameText, lineOf, restOf, isLine, isFirst, recordIn, isLater, packedIn, bytesNext, rightLine, allRight, packedFrom}
+use Rattle.frames.specs.Paper.Operations.{bytesInto, writeRows, writeSays, Writing, noRecord, firstRows, firstSays, ReadingFirst, laterRows, laterSays, ReadingLater, lineRows, linesSay, packedAfter, restSays, recordOfText, bytesOfText, framesSays, ReadingFrames}
 use Rattle.frames.specs.Laws.Forms.{later-parts}
 use Rattle.frames.specs.Laws.Later.{all-none, all-more}
-use Rattle.frames.specs.Laws.Frames.{cleaned}
+use Rattle.frames.specs.Laws.Frames.{cleaned, first-cleaned}
 use Rattle.frames.specs.Laws.Meaning.{used-reading, Reads, reads-accepted, accepted-reads, written-record, written-bytes, written-accepted, read-packed, read-sound, read-text, one-text, Written, accepts-exactly}
 use Rattle.frames.specs.Laws.Operations.{later-accepted, write-accepted}
 use Rattle.frames.specs.declared.read_first.RollRead.{RollRead}
@@ -88,12 +89,17 @@ module _ {r : Roll} {buf out after : List ℕ} {n : ℕ} (w : Writing r buf out 
 -- ---- a text that was read
 
 module _ {text buf after : List ℕ} {a : RollRead} (p : ReadingFrames text buf a after) (y : a .answer ≡ Yes) where
-  reads : Accepted (readSays text buf)
+  reads : Accepted (framesSays text buf)
   reads = says-as (p .says) y
 
   -- the record in its first line, and the bytes in the others, which stand at the front of the buffer
   pub read-roll : a .roll ≡ recordOfText text
   read-roll = p .roll ∙ accepted-leaves reads _ _
+
+  -- with 0 past its σ characters
+  pub read-clean : cleaned (a .roll) ≡ a .roll
+  unfolding recordIn
+  read-clean = let q = accepted-reads text buf reads in rw read-roll (first-cleaned (lineOf text) (q .first) (table-few (recordOfText text .table) (q .sound .table)))
 
   pub read-bytes : packedOf (a .roll) after ≡ bytesOfText text
   read-bytes = rw (read-roll, p .leaves) (read-packed text buf reads)
@@ -141,7 +147,7 @@ order-first {line} p e = first-decided line .refuses (says-as (p .says) e)
 -- the first line's, the other lines', and check's: 1 and 5 of the buffer, the rest of the bytes that came
 pub order-frames : {text buf after : List ℕ} {a : RollRead} {n v : ℕ} → ReadingFrames text buf a after → a .answer ≡ Refused n v → let r = recordOfText text in
     Refuses (firstRows (lineOf text) ++ (lineRows (bytesUsed r) (restOf text) ++ (fitRows r buf ++ checkRows r (bytesOfText text)))) n v
-unfolding readSays restSays linesSay
+unfolding framesSays restSays linesSay
 order-frames {text} {buf} p e =
     let r = recordOfText text in
     decided-both (first-decided (lineOf text))
@@ -221,7 +227,7 @@ module _ {text buf after : List ℕ} {a : RollRead} (p : ReadingFrames text buf 
 
   -- the first line of a text that is read is read alone, and gives the record
   pub first-read : {b : RollRead} → ReadingFirst (lineOf text) b → (b .answer ≡ Yes) × (b .roll ≡ a .roll)
-  unfolding readSays
+  unfolding framesSays
   first-read {b} q =
       let e = accepted-parts (firstSays (lineOf text)) (reads p y) .0 in
       (done-one (b .answer) Yes (q .says ∙ e), q .roll ∙ accepted-leaves e _ _ ∙ sym (read-roll p y))

@@ -25,7 +25,7 @@ ghost use Rattle.symbols.specs.Helpers.Widths.{Width};
 ghost use Rattle.judge.specs.Paper.Judge.{judgeFor, judgeAfter, verdictSays};
 ghost use Rattle.frames.specs.Paper.Frames.{laterFor, allRight, packedFrom};
 ghost use Rattle.frames.specs.Paper.Operations.{linesSay, ReadingFrames};
-ghost use Rattle.frames.specs.Helpers.Refused.{ReadingRest};
+ghost use Rattle.frames.specs.Helpers.Reading.{ReadingRest};
 
 // Whether the lines after the first are all there, and none too many: each has the length that the packed bytes ask for.
 fn check_lines(rest: &[u8], bytes: usize) -> Done

@@ -25,7 +25,7 @@ ghost use Rattle.choosing.specs.Paper.Operations.{countSays, countLeaves, choos
 ghost use Rattle.roll.specs.Paper.Operations.{packSays, packRoll, packLeaves, checkSays, unpackSays, unpackLeaves, makeSays, makeLeaves, readSays, searchSays, searchLeaves, editSays, editRoll, editLeaves, editDirectory};
 ghost use lib.ListN.{length};
 ghost use Rattle.radio.specs.Paper.Operations.{startSays, startSearcher, feedSays, feedHits, feedSearcher, feedLeaves, finishSays};
-ghost use Rattle.frames.specs.Paper.Operations.{writeSays, writeLeaves, firstSays, firstRoll, laterSays, laterLeaves, readSays as readTextSays, readRoll, readLeaves};
+ghost use Rattle.frames.specs.Paper.Operations.{writeSays, writeLeaves, firstSays, firstRoll, laterSays, laterLeaves, framesSays, framesRoll, framesLeaves};
 ghost use Rattle.monterculo.specs.Paper.Taken.{told};
 
 #[no_mangle]
@@ -198,9 +198,9 @@ pub extern "C" fn monterculo_write_frames(roll: Roll, buf: &[u8], out: &mut [u8]
 // A refused text answers a record that is all 0.
 #[no_mangle]
 pub extern "C" fn monterculo_read_frames(text: &[u8], buf: &mut [u8]) -> Rolled
-    ensures told { λ r. ⌜ r .answer ≡ told (readTextSays (now (text .entry)) (now (buf .entry)) then accepted 0) ⌝ }
-    ensures roll { λ r. ⌜ r .roll ≡ readRoll (now (text .entry)) (now (buf .entry)) ⌝ }
-    ensures buf { λ _. ⌜ now (buf .exit) ≡ readLeaves (now (text .entry)) (now (buf .entry)) ⌝ }
+    ensures told { λ r. ⌜ r .answer ≡ told (framesSays (now (text .entry)) (now (buf .entry)) then accepted 0) ⌝ }
+    ensures roll { λ r. ⌜ r .roll ≡ framesRoll (now (text .entry)) (now (buf .entry)) ⌝ }
+    ensures buf { λ _. ⌜ now (buf .exit) ≡ framesLeaves (now (text .entry)) (now (buf .entry)) ⌝ }
 {
     let came = frames::read_frames::read_frames(text, buf);
     let roll = came.roll;

@@ -4,23 +4,19 @@ use mathlib.Core.List.{List, [], _∷_, _++_}
 use Prim.Native.Nat.{ℕ}
 use native.Mathlib.Omega.{arith}
 use lib.ListN.{getD, take, replicate}
-use Rattle.ground.specs.Paper.Answers.{doneSays, totalSays}
-use Rattle.ground.specs.Paper.Refusals.{Outcome, accepted, refused}
+use Rattle.ground.specs.Paper.Answers.{doneSays}
+use Rattle.ground.specs.declared.answers.Total.{Total}
 use Rattle.ground.specs.declared.answers.Total.the-variants.{Refused as total-refused}
 use Rattle.ground.specs.declared.answers.Done.the-variants.{Yes, Refused}
 use Rattle.writing.specs.Paper.Written.{hexRow}
 use Rattle.frames.specs.Paper.Frames.{frame, firstBytes, laterFor, laterFrames, frameText, lineOf, restOf, isDigit, digit, isLine, bytesIn, isFirst, recordIn, isLater, packedIn, rightLine, allRight, rightBefore, packedFrom}
-use Rattle.frames.specs.Paper.Operations.{writeSays, Writing, noRecord, firstSays, ReadingFirst, laterSays, ReadingLater, linesSay, packedAfter, restSays, readSays, ReadingFrames}
+use Rattle.frames.specs.Paper.Operations.{writeSays, Writing, noRecord, firstSays, ReadingFirst, laterSays, linesSay, packedAfter, restSays, framesSays, ReadingFrames}
 use Rattle.frames.specs.declared.read_first.RollRead.{RollRead}
 use Rattle.worked.specs.Cases.{bananas, rolled, computed}
-use Rattle.worked.specs.Not.{apart, number-of}
-
--- a refusal's value
-value-of : {A : Type 0} {n v m w : ℕ} → _≡_ {A = Outcome A} (refused n v) (refused m w) → v ≡ w
-value-of e = cc
+use Rattle.worked.specs.Not.{apart, number-of, value-of}
 
 unfoldable framed : Unit {0}
-unfolding computed hexRow frame firstBytes laterFor laterFrames frameText lineOf restOf isDigit digit isLine bytesIn isFirst recordIn isLater packedIn rightLine allRight rightBefore packedFrom writeSays noRecord firstSays laterSays linesSay packedAfter restSays readSays
+unfolding computed hexRow frame firstBytes laterFor laterFrames frameText lineOf restOf isDigit digit isLine bytesIn isFirst recordIn isLater packedIn rightLine allRight rightBefore packedFrom writeSays noRecord firstSays laterSays linesSay packedAfter restSays framesSays
 framed = tt
 
 -- 01, k 4, s 3, σ 3, n 6, h 6 and a n b
@@ -44,9 +40,14 @@ pub write-frames-not-refusing : {n v : ℕ} {after : List ℕ} → Writing (roll
 unfolding bananas framed
 write-frames-not-refusing p = let z : _≡_ {A = ℕ} 0 1 = cc in omega arith
 
-pub write-frames-not-uncounted : {after : List ℕ} {n v : ℕ} → Writing (rolled bananas 6 6) (32 ∷ 16 ∷ 16 ∷ []) (replicate 40 9) (total-refused n v) after → v ≡ 40 → ⊥
+pub write-frames-not-uncounted : {after : List ℕ} {n v : ℕ} → Writing (rolled bananas 6 6) (32 ∷ 16 ∷ 16 ∷ []) (replicate 39 9) (total-refused n v) after → v ≡ 40 → ⊥
 unfolding bananas framed
 write-frames-not-uncounted p q = let e = value-of (p .says) in omega arith
+
+-- the high byte last: σ is 0003, and not 0300
+pub write-frames-not-high-last : {answer : Total} {after : List ℕ} → Writing (rolled bananas 6 6) (32 ∷ 16 ∷ 16 ∷ []) (replicate 42 9) answer after → getD after 7 0 ≡ 51 → ⊥
+unfolding bananas framed
+write-frames-not-high-last p q = let e = ap (λ (l : List ℕ). getD l 7 0) (p .leaves) in omega arith
 
 -- a reader that refuses everything
 pub read-frames-not-refusing : {r : RollRead} {after : List ℕ} {n v : ℕ} → ReadingFrames (firstLine ++ laterLine) (9 ∷ 9 ∷ 9 ∷ []) r after → r .answer ≡ Refused n v → ⊥
@@ -73,7 +74,7 @@ pub read-first-not-high-last : {r : RollRead} → ReadingFirst firstLine r → r
 unfolding framed
 read-first-not-high-last p q = let e = ap (λ r. r .table .sigma) (p .roll) in omega arith
 
--- 15 with the line counted from 1: the missing line is number 1, and the empty text's is 0
+-- 15 with the line counted from 1: the missing line is number 1
 pub read-frames-not-from-1 : {r : RollRead} {after : List ℕ} → ReadingFrames firstLine (9 ∷ 9 ∷ 9 ∷ []) r after → r .answer ≡ Refused 15 2 → ⊥
 unfolding framed
 read-frames-not-from-1 p q = let e = value-of (sym (ap doneSays q) ∙ p .says) in omega arith
@@ -88,7 +89,7 @@ pub read-frames-not-stored : {r : RollRead} {after : List ℕ} → ReadingFrames
 unfolding framed
 read-frames-not-stored p q = let e = ap (λ (l : List ℕ). getD l 0 0) (p .leaves) in omega arith
 
--- a short middle frame taken: of 33 bytes the first line has 32, and not 31
+-- a short middle frame taken: of 33 bytes the first later line has 32, and not 31
 pub read-frames-not-short : {r : RollRead} {buf after : List ℕ} → ReadingFrames (frame (1 ∷ 4 ∷ 3 ∷ 0 ∷ 3 ∷ 0 ∷ 0 ∷ 0 ∷ 66 ∷ 0 ∷ 0 ∷ 0 ∷ 66 ∷ 97 ∷ 110 ∷ 98 ∷ []) ++ frame (2 ∷ replicate 31 0) ++ frame (2 ∷ 0 ∷ 0 ∷ [])) buf r after → r .answer ≡ Yes → ⊥
 unfolding framed
 read-frames-not-short p q = apart (sym (ap doneSays q) ∙ p .says)

@@ -171,7 +171,7 @@ pub edit-not-unlisted : {e : Edited} {after dirAfter : List ℕ}
 unfolding abra computed
 edit-not-unlisted p q = apart (sym (ap doneSays q) ∙ p .says)
 
-value-of : {n m v w : ℕ} → _≡_ {A = Outcome (Unit {0})} (refused n v) (refused m w) → v ≡ w
+pub value-of : {A : Type 0} {n m v w : ℕ} → _≡_ {A = Outcome A} (refused n v) (refused m w) → v ≡ w
 value-of e = cc
 
 -- 4 with a number in the new text, and not in the edited one: it is 32

@@ -33,15 +33,15 @@ impl Roll {
     ///
     /// A frame text is lines of lower-case hexadecimal digits, each ended by byte 10. The first has the record, and each
     /// later one [`FRAME`](crate::FRAME) packed bytes, the last perhaps fewer. It has
-    /// [`frames_for`](crate::frames_for)(k, σ, h) bytes.
+    /// [`frame_text_for`](crate::frame_text_for)(k, σ, h) bytes.
     ///
     /// Refusals, in their order: those of [`Roll::check`], then 13 (bytes needed).
     ///
     /// ```
-    /// use monterculo::{frames_for, Roll, Table};
+    /// use monterculo::{frame_text_for, Roll, Table};
     ///
     /// let roll = Roll::new(Table::new(4, 3, b"anb"), 6, 6);
-    /// let mut out = [0; frames_for(4, 3, 6)];
+    /// let mut out = [0; frame_text_for(4, 3, 6)];
     /// let text = roll.to_frames(&[0x20, 0x10, 0x10], &mut out)?;
     /// assert_eq!(text, b"01040300030000000600000006616e62\n02201010\n");
     /// # Ok::<(), monterculo::Refusal>(())
@@ -74,7 +74,7 @@ impl Roll {
             return Ok(read.roll.into());
         }
         let told = told(first_line(text));
-        let given = Given { table: Some(&told.table), n: told.n, entries: lines(text).count(), ..Given::default() };
+        let given = Given { table: Some(&told.table), n: told.n, lines: lines(text).count(), ..Given::default() };
         read.answer.result(given).map(|_| read.roll.into())
     }
 

@@ -174,15 +174,15 @@ pub const fn hits_for(k: u8, bytes: usize) -> usize {
 }
 
 /// The bytes of the frame text of a roll with σ characters in its table and h symbols of k bits: 27 + 2σ, and 2 for each
-/// packed byte and 3 for each [`FRAME`] of them.
+/// packed byte and 3 for each [`FRAME`] of them, rounded up.
 ///
 /// No roll has a frame text of more than 69,147 bytes.
 ///
 /// ```
-/// assert_eq!(monterculo::frames_for(4, 3, 6), 42);
-/// assert_eq!(monterculo::frames_for(4, 256, 65_536), 69_147);
+/// assert_eq!(monterculo::frame_text_for(4, 3, 6), 42);
+/// assert_eq!(monterculo::frame_text_for(4, 256, 65_536), 69_147);
 /// ```
-pub const fn frames_for(k: u8, sigma: u16, h: u32) -> usize {
+pub const fn frame_text_for(k: u8, sigma: u16, h: u32) -> usize {
     let bytes = bytes_for(k, h as u64);
     let frames = (bytes / FRAME).saturating_add((bytes % FRAME != 0) as usize);
     let packed = bytes.saturating_mul(2).saturating_add(frames.saturating_mul(3));

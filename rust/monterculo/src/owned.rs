@@ -4,7 +4,7 @@ use std::ops::{Range, RangeBounds};
 
 use crate::frames::first_line;
 use crate::roll::bounds;
-use crate::{bytes_for, count, entries_for, frames_for, Refusal, Roll, Table, Width, PLACES, SYMBOLS};
+use crate::{bytes_for, count, entries_for, frame_text_for, Refusal, Roll, Table, Width, PLACES, SYMBOLS};
 
 /// A roll together with its buffer and its directory, both with spare room where it was asked for.
 ///
@@ -205,7 +205,7 @@ impl OwnedRoll {
     /// ```
     pub fn to_frames(&self) -> Vec<u8> {
         let table = self.table();
-        let mut out = vec![0; frames_for(table.k(), table.sigma(), self.roll.h())];
+        let mut out = vec![0; frame_text_for(table.k(), table.sigma(), self.roll.h())];
         // The roll is sound and the output as long as its text: nothing is refused.
         let length = self.roll.to_frames(&self.buf, &mut out).map_or(0, <[u8]>::len);
         out.truncate(length);

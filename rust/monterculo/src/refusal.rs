@@ -200,8 +200,10 @@ pub(crate) struct Given<'a> {
     /// The text or the pattern.
     pub text: &'a [u8],
     pub n: u32,
-    /// The directory's entries, or the lines of a frame text.
+    /// The directory's entries.
     pub entries: usize,
+    /// The lines of a frame text.
+    pub lines: usize,
     pub start: usize,
     pub end: usize,
 }
@@ -246,7 +248,7 @@ impl Answer {
             12 => Refusal::ShortDirectory { needed: value },
             13 => Refusal::ShortOutput { needed: value },
             14 => Refusal::ShortHits { needed: value },
-            15 => Refusal::BadLine { line: value, missing: value >= given.entries },
+            15 => Refusal::BadLine { line: value, missing: value >= given.lines },
             _ => other,
         }
     }

@@ -1,7 +1,7 @@
 //! Rolls as frame texts, and back.
 
 use monterculo::{
-    bytes_for, frames_for, hits_for, read_frame, OwnedRoll, Refusal, Roll, Searcher, Table, Width, FRAME, SYMBOLS,
+    bytes_for, frame_text_for, hits_for, read_frame, OwnedRoll, Refusal, Roll, Searcher, Table, Width, FRAME, SYMBOLS,
 };
 
 const MEMBERS: &[u8] = b"pan 7 Oda 5550143\npan 12 Jory 5550128\npan 112 Maren 5550167\npan 21 Tavo 5550190\n";
@@ -26,7 +26,7 @@ fn the_word() {
     let (roll, buf) = (Roll::new(Table::new(2, 3, b"abrcd"), 11, 13), [0x18, 0xc3, 0x46, 0x00, 0x77]);
     let mut out = [0xee; 50];
     assert_eq!(roll.to_frames(&buf, &mut out), Ok(WORD));
-    assert_eq!((out[48..].to_vec(), WORD.len()), (vec![0xee; 2], frames_for(2, 5, 13)));
+    assert_eq!((out[48..].to_vec(), WORD.len()), (vec![0xee; 2], frame_text_for(2, 5, 13)));
     let mut back = [0xee; 6];
     assert_eq!(Roll::from_frames(WORD, &mut back), Ok(roll.clone()));
     assert_eq!(back, [0x18, 0xc3, 0x46, 0x00, 0xee, 0xee]);
@@ -176,7 +176,7 @@ fn the_longest() {
         let roll = OwnedRoll::new(width, &vec![b'a'; SYMBOLS]).unwrap();
         let text = roll.to_frames();
         let table = roll.table();
-        assert_eq!(text.len(), frames_for(width.k(), table.sigma(), 65_536));
+        assert_eq!(text.len(), frame_text_for(width.k(), table.sigma(), 65_536));
         assert_eq!(lines(&text).len(), 1 + bytes_for(width.k(), 65_536) / FRAME);
         assert_eq!(OwnedRoll::from_frames(&text).unwrap(), roll);
     }

@@ -3,7 +3,7 @@
 use std::ops::Bound;
 
 use monterculo::{
-    bytes_for, count, entries_for, frames_for, hits_for, read_frame, sys, Codeword, Line, OwnedRoll, Refusal, Roll,
+    bytes_for, count, entries_for, frame_text_for, hits_for, read_frame, sys, Codeword, Line, OwnedRoll, Refusal, Roll,
     Searcher, Table, TableFault, Width,
 };
 
@@ -196,7 +196,7 @@ fn pieces(garbage: &mut Garbage, tally: &mut Tally) {
 fn frames(garbage: &mut Garbage, tally: &mut Tally) {
     let mut buf = garbage.bytes(90, 256);
     let record = garbage.roll(&mut buf);
-    let mut out = vec![0xee; frames_for(record.table().k(), record.table().sigma(), record.h().min(300))];
+    let mut out = vec![0xee; frame_text_for(record.table().k(), record.table().sigma(), record.h().min(300))];
     out.truncate(garbage.below(20) as usize * out.len());
     let mut text = match tally.told(record.to_frames(&buf, &mut out)) {
         Some(text) => text.to_vec(),
@@ -218,7 +218,7 @@ fn frames(garbage: &mut Garbage, tally: &mut Tally) {
     let answer = Roll::from_frames(&text, &mut lent);
     let owned = OwnedRoll::from_frames(&text);
     if let Some(roll) = tally.told(answer) {
-        let mut again = vec![0; frames_for(roll.table().k(), roll.table().sigma(), roll.h())];
+        let mut again = vec![0; frame_text_for(roll.table().k(), roll.table().sigma(), roll.h())];
         assert_eq!(roll.to_frames(&lent, &mut again), Ok(&text[..]));
         assert_eq!(owned.map(|roll| roll.to_frames()), Ok(text.clone()));
     } else {

@@ -651,12 +651,6 @@ struct Framed {
     their_check: f64,
 }
 
-impl Framed {
-    fn row(&self) -> Row {
-        Row::new(self.name, [self.archive, self.plain])
-    }
-}
-
 /// Both, in turn with the checks. What judging takes is what is left of a reading without its passes over the lines: their shape alone
 /// is read where the last line is wrong, and their bytes once more, unjudged, where the first codeword is bad. A reading that is
 /// accepted reads them once more to store them.
@@ -1022,11 +1016,10 @@ fn main() {
     );
     let mut rows = Vec::new();
     for case in &cases {
-        let mut measured = measure(case);
+        let measured = measure(case);
         println!("{}", table_of(case, &measured));
         let framed = measure_frames(case);
         println!("{}", table_of_frames(&framed));
-        measured.extend(framed.iter().map(Framed::row));
         println!("{}", table_in_pieces(&measure_in_pieces(case)));
         println!("{}", table_of_jumping(&measure_jumping(case)));
         rows.push(measured);
