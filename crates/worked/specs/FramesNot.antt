@@ -6,11 +6,11 @@ use native.Mathlib.Omega.{arith}
 use lib.ListN.{getD, take, replicate}
 use Rattle.ground.specs.Paper.Answers.{doneSays}
 use Rattle.ground.specs.declared.answers.Total.{Total}
-use Rattle.ground.specs.declared.answers.Total.the-variants.{Refused as total-refused}
+use Rattle.ground.specs.declared.answers.Total.the-variants.{Of, Refused as total-refused}
 use Rattle.ground.specs.declared.answers.Done.the-variants.{Yes, Refused}
 use Rattle.writing.specs.Paper.Written.{hexRow}
 use Rattle.frames.specs.Paper.Frames.{frame, firstBytes, laterFor, laterFrames, frameText, lineOf, restOf, isDigit, digit, isLine, bytesIn, isFirst, recordIn, isLater, packedIn, rightLine, allRight, rightBefore, packedFrom}
-use Rattle.frames.specs.Paper.Operations.{writeSays, Writing, noRecord, firstSays, ReadingFirst, laterSays, linesSay, packedAfter, restSays, framesSays, ReadingFrames}
+use Rattle.frames.specs.Paper.Operations.{writeSays, Writing, noRecord, firstSays, ReadingFirst, laterSays, ReadingLater, linesSay, packedAfter, restSays, framesSays, ReadingFrames}
 use Rattle.frames.specs.declared.read_first.RollRead.{RollRead}
 use Rattle.worked.specs.Cases.{bananas, rolled, computed}
 use Rattle.worked.specs.Not.{apart, number-of, value-of}
@@ -73,6 +73,21 @@ read-frames-not-too-many p q = apart (sym (ap doneSays q) ∙ p .says)
 pub read-first-not-high-last : {r : RollRead} → ReadingFirst firstLine r → r .roll .table .sigma ≡ 768 → ⊥
 unfolding framed
 read-first-not-high-last p q = let e = ap (λ r. r .table .sigma) (p .roll) in omega arith
+
+-- a later line read alone: one without a packed byte taken
+pub read-frame-not-empty : {n : ℕ} {after : List ℕ} → ReadingLater (48 ∷ 50 ∷ 10 ∷ []) (9 ∷ []) (Of n) after → ⊥
+unfolding framed
+read-frame-not-empty p = let z : _≡_ {A = ℕ} 0 1 = cc in omega arith
+
+-- a first line taken for a later one
+pub read-frame-not-first : {n : ℕ} {after : List ℕ} → ReadingLater firstLine (replicate 16 9) (Of n) after → ⊥
+unfolding framed
+read-frame-not-first p = let z : _≡_ {A = ℕ} 0 1 = cc in omega arith
+
+-- a byte past the three that are written changed
+pub read-frame-not-beyond : {answer : Total} {after : List ℕ} → ReadingLater laterLine (9 ∷ 9 ∷ 9 ∷ 9 ∷ []) answer after → getD after 3 0 ≡ 0 → ⊥
+unfolding framed
+read-frame-not-beyond p q = let e = ap (λ (l : List ℕ). getD l 3 0) (p .leaves) in omega arith
 
 -- 15 with the line counted from 1: the missing line is number 1
 pub read-frames-not-from-1 : {r : RollRead} {after : List ℕ} → ReadingFrames firstLine (9 ∷ 9 ∷ 9 ∷ []) r after → r .answer ≡ Refused 15 2 → ⊥
