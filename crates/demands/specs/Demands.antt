@@ -9,13 +9,15 @@ use mathlib.Core.Logic.{_⊎_, _↔_}
 use mathlib.Core.List.{List, _++_}
 use Prim.Native.Nat.{ℕ, _+_, _-_, _/_, _≤_, _<_}
 use native.Mathlib.Omega.{arith}
+use borrow.Author.Tests.{not-false}
 use lib.ListN.{length, take, drop, getD, take-append-drop}
 use Rattle.ground.specs.Paper.Rows.{zeros}
 use Rattle.ground.specs.Paper.Runs.{run}
 use Rattle.ground.specs.Helpers.Below.{Below}
 use Rattle.ground.specs.Laws.Answers.{says-as, done-one, total-one}
-use Rattle.ground.specs.Laws.Refusals.{refused-keeps, accepted-leaves, Refuses, refused-row}
+use Rattle.ground.specs.Laws.Refusals.{refused-keeps, accepted-leaves, accepted-none, accepted-parts, Refuses, refused-row}
 use Rattle.ground.specs.Laws.Rows.{tab-at}
+use Rattle.ground.specs.Laws.Tests.{true-yes}
 use Rattle.ground.specs.declared.answers.Done.{Done}
 use Rattle.ground.specs.declared.answers.Done.the-variants.{Yes, Refused}
 use Rattle.ground.specs.declared.answers.Answer.{Answer}
@@ -38,9 +40,9 @@ use Rattle.choosing.specs.Laws.Operations.{chosen-width, lent-long, chosen-tabl
 use Rattle.choosing.specs.declared.choose.Choice.{Choice}
 use Rattle.symbols.specs.Paper.Symbols.{per, bytesFor, room, symbolsOf}
 use Rattle.texts.specs.Paper.Directory.{entries}
-use Rattle.texts.specs.Paper.Hits.{hits, listed}
+use Rattle.texts.specs.Paper.Hits.{hits, goodPattern, listed}
 use Rattle.texts.specs.Paper.Edited.{edited}
-use Rattle.texts.specs.Laws.Patterns.{pattern-good}
+use Rattle.texts.specs.Laws.Patterns.{pattern-newline, pattern-least, pattern-most, pattern-line, pattern-good}
 use Rattle.texts.specs.Laws.Hits.{Front, stands-front, front-stands, Rising, hit-is, hits-rising}
 use Rattle.sound.specs.Paper.Roll.{symbolsFor, recordOf, textOf}
 use Rattle.sound.specs.Laws.Texts.{length-parts}
@@ -49,7 +51,7 @@ use Rattle.sound.specs.Laws.Holding.{Holds, holds-row, sound-h, sound-record, s
 use Rattle.sound.specs.declared.records.Roll.{Roll}
 use Rattle.store.specs.Paper.Stored.{packedInto}
 use Rattle.store.specs.Laws.Edited.{edit-sound, edit-text, edit-right, edit-before, edit-even, edit-cleared, edit-kept, edit-cleared-directory, edit-kept-directory}
-use Rattle.roll.specs.Paper.Operations.{packRows, packSays, Packing, fitRows, Checking, unpackRows, unpackSays, Unpacking, makeRows, makeSays, Making, readRows, oneRead, readSays, ReadingOne, searchRows, searchSays, Searching, directorySays, editRows, editSays, Editing}
+use Rattle.roll.specs.Paper.Operations.{packRows, packSays, Packing, fitRows, checkSays, Checking, unpackRows, unpackSays, Unpacking, makeRows, makeSays, Making, readRows, oneRead, readSays, ReadingOne, searchRows, searchSays, Searching, directorySays, editRows, editSays, Editing}
 use Rattle.roll.specs.Laws.Accepting.{sound-accepted, accepted-sound, accepted-packs, unpacks-is, makes-is, searches-is}
 use Rattle.roll.specs.declared.pack.Packed.{Packed}
 use Rattle.roll.specs.declared.edit.Edited.{Edited}
@@ -368,8 +370,8 @@ pub one-read : {r : Roll} {buf text dir : List ℕ} {place : ℕ} {answer : Answ
     → ReadingOne r buf dir place answer → answer ≡ Read (getD text place 0)
 one-read {dir = dir} {place = place} t l h p = rw (text-is t) (reads-right (text-sound t) dir (directory-right l) place h p)
 
--- ---- A search of a sound roll for a pattern of 1 to 64 characters is accepted; it counts each place of the text where the pattern stands, overlapping ones too, and
--- no other, and lists them from the first on as far as there is room.
+-- ---- A search of a sound roll for a pattern of 1 to 64 characters without byte 10 is accepted; it counts each place of the text where the pattern stands, overlapping
+-- ones too, and no other, and lists them from the first on as far as there is room.
 pub record EachPlace (pattern text slice after : List ℕ) (many : ℕ) : Type 0 where
   pub places : List ℕ
   pub rising : Rising 0 places
@@ -378,9 +380,9 @@ pub record EachPlace (pattern text slice after : List ℕ) (many : ℕ) : Type 0
   pub first-on : after ≡ take (length slice) places ++ drop (length places) slice
 
 pub search-each : {r : Roll} {buf text pattern slice after : List ℕ} {answer : Total} → TextIs r buf text → 1 ≤ length pattern → length pattern ≤ 64
-    → Searching r buf pattern slice answer after → (many : ℕ) × (answer ≡ Of many) × EachPlace pattern text slice after many
-search-each {r} {buf} {text} {pattern} {slice} {after} {answer} t low high p =
-    let e = searches-is r buf pattern .0 (text-sound t, pattern-good pattern low high) in (
+    → (10 ∈ pattern → ⊥) → Searching r buf pattern slice answer after → (many : ℕ) × (answer ≡ Of many) × EachPlace pattern text slice after many
+search-each {r} {buf} {text} {pattern} {slice} {after} {answer} t low high line p =
+    let e = searches-is r buf pattern .0 (text-sound t, pattern-good pattern low high line) in (
       length (hits pattern text),
       rw (text-is t) (total-one answer (Of (length (hits pattern (textOf r buf)))) (p .says ∙ e)),
       record {
@@ -394,6 +396,22 @@ search-each {r} {buf} {text} {pattern} {slice} {after} {answer} t low high p =
         first-on = rw (text-is t) (p .leaves ∙ accepted-leaves e _ _);
       },
     )
+
+-- no other pattern is searched for
+pub searched-pattern : {r : Roll} {buf pattern slice after : List ℕ} {many : ℕ} → Searching r buf pattern slice (Of many) after
+    → (1 ≤ length pattern) × (length pattern ≤ 64) × (10 ∈ pattern → ⊥)
+unfolding searchSays
+searched-pattern {r} {buf} {pattern} p =
+    let next = accepted-parts (checkSays r buf) (sym (p .says)) .1 in
+    let good = true-yes _ (not-false (goodPattern pattern) (accepted-none (searchRows pattern) (length (hits pattern (textOf r buf))) next .0)) in
+    (pattern-least pattern good, pattern-most pattern good, pattern-line pattern good)
+
+-- with byte 10, as in two lines pasted, it is 11 and no total
+pub search-newline : {r : Roll} {buf text pattern slice after : List ℕ} {answer : Total} → TextIs r buf text → 10 ∈ pattern → Searching r buf pattern slice answer after
+    → answer ≡ total-refused 11 0
+unfolding searchSays
+search-newline {pattern = pattern} {answer = answer} t m p =
+    total-one answer (total-refused 11 0) (p .says ∙ rw (sound-accepted (text-sound t), pattern-newline pattern m))
 
 -- `Searching` is said of a call of the search by jumps too, so all that stands here of a search holds of both: and one of each, or two of one, on the same roll, buffer,
 -- pattern and slice answer the same and leave the same, refused or not

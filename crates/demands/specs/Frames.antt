@@ -5,12 +5,11 @@ use mathlib.Core.List.{List, [], _∷_, _++_, map, flatten}
 use Prim.Native.Nat.{ℕ, zero, suc, _+_, _-_, _≤_}
 use native.Mathlib.Decide.{decLe}
 use native.Mathlib.Omega.{arith}
-use borrow.Author.Tests.{le-ltb, le-leb, lt-leb, not-false}
+use borrow.Author.Tests.{le-leb, lt-leb, not-false}
 use mir.Facts.{and-yes, yes-and, eqb-yes, yes-eqb}
 use lib.Dec.{T, eqb}
 use lib.ListN.{length, take, drop, getD, replicate, length-append}
 use lib.Seq.{length-take-le, take-at, drop-at}
-use Rattle.ground.specs.Paper.Limit.{limit}
 use Rattle.ground.specs.Paper.Refusals.{accepted}
 use Rattle.ground.specs.Helpers.Below.{Below}
 use Rattle.ground.specs.Laws.Answers.{says-as, done-one, total-one}
@@ -20,18 +19,17 @@ use Rattle.ground.specs.declared.answers.Done.{Done}
 use Rattle.ground.specs.declared.answers.Done.the-variants.{Yes, Refused}
 use Rattle.ground.specs.declared.answers.Total.{Total}
 use Rattle.ground.specs.declared.answers.Total.the-variants.{Of, Refused as total-refused}
-use Rattle.stopper.specs.Paper.Table.{goodTable}
+use Rattle.stopper.specs.Laws.Characters.{_∈_}
 use Rattle.stopper.specs.Laws.Table.{table-few}
 use Rattle.symbols.specs.Paper.Symbols.{room}
 use Rattle.symbols.specs.Laws.Sizes.{room-limit, room-bytes}
-use Rattle.texts.specs.Paper.Hits.{hits, goodPattern}
-use Rattle.texts.specs.Laws.Patterns.{pattern-good}
+use Rattle.texts.specs.Paper.Hits.{hits}
 use Rattle.reading.specs.Paper.Reading.{ranksRead}
 use Rattle.sound.specs.Paper.Roll.{textOf, Sound}
 use Rattle.sound.specs.Helpers.Held.{Held}
 use Rattle.sound.specs.Laws.Sound.{sound-width}
 use Rattle.sound.specs.declared.records.Roll.{Roll}
-use Rattle.radio.specs.Paper.Operations.{startSays, Starting, Finishing}
+use Rattle.radio.specs.Paper.Operations.{Starting, Finishing}
 use Rattle.radio.specs.declared.records.Searcher.{Searcher}
 use Rattle.radio.specs.declared.start.Started.{Started}
 use Rattle.roll.specs.Paper.Operations.{fitRows, checkRows, checkSays, Checking}
@@ -46,7 +44,7 @@ use Rattle.frames.specs.Laws.Operations.{later-accepted, write-accepted}
 use Rattle.frames.specs.declared.read_first.RollRead.{RollRead}
 use Rattle.demands.specs.Calls.{TextIs, text-sound, text-is}
 use Rattle.demands.specs.Orders.{DecidedBy, decided, decided-then, decided-both, then-refuses, rowsOfCheck, fit-decided, check-decided}
-use Rattle.demands.specs.Radio.{FedAll, answers, text-so-far, finish-sound, finish-bytes, sound-finish, sound-fed}
+use Rattle.demands.specs.Radio.{FedAll, answers, start-accepts, text-so-far, finish-sound, finish-bytes, sound-finish, sound-fed}
 
 -- ---- a text that was written
 
@@ -245,19 +243,18 @@ module _ {text buf after : List ℕ} {a : RollRead} (p : ReadingFrames text buf 
   unfolding packedAfter
   lines-joined l = right-joined _ _ (parts .lines) l ∙ sym (read-bytes p y)
 
-  -- a searcher for a pattern of 1 to 64 characters is made of the record
-  pub read-starts : {pattern : List ℕ} {st : Started} → 1 ≤ length pattern → length pattern ≤ 64 → Starting (a .roll) pattern st → st .answer ≡ Yes
-  unfolding startSays
-  read-starts {pattern} {st} low high q =
+  -- a searcher for a pattern of 1 to 64 characters without byte 10 is made of the record
+  pub read-starts : {pattern : List ℕ} {st : Started} → 1 ≤ length pattern → length pattern ≤ 64 → (10 ∈ pattern → ⊥) → Starting (a .roll) pattern st → st .answer ≡ Yes
+  read-starts {pattern} {st} low high line q =
       let r = recordOfText text in
       let s = parts .sound in
-      let e : startSays r pattern ≡ accepted tt
-      = rw (
-        yes-true (goodTable (r .table)) (s .table),
-        le-ltb limit (r .h) (omega (arith, s .fits, room-limit (r .table .code .k) (length (bytesOfText text)))),
-        yes-true (goodPattern pattern) (pattern-good pattern low high),
-      ) in
-      done-one (st .answer) Yes (q .says ∙ ap (λ (x : Roll). startSays x pattern) (read-roll p y) ∙ e)
+      start-accepts
+      (s .table)
+      (omega (arith, s .fits, room-limit (r .table .code .k) (length (bytesOfText text))))
+      low
+      high
+      line
+      (subst (λ (x : Roll). Starting x pattern st) (read-roll p y) q)
 
 -- ---- line by line into the searcher that is made of the first line
 

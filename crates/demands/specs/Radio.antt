@@ -16,19 +16,19 @@ use Rattle.ground.specs.Paper.Refusals.{accepted, refused, judged}
 use Rattle.ground.specs.Paper.Answers.{doneSays}
 use Rattle.ground.specs.Laws.Answers.{says-as, done-one, total-one}
 use Rattle.ground.specs.Laws.Refusals.{refused-keeps, accepted-leaves, accepted-none, accepted-parts, Refuses, refused-row, refused-parts}
-use Rattle.ground.specs.Laws.Tests.{neither, true-yes}
+use Rattle.ground.specs.Laws.Tests.{neither, yes-true, true-yes}
 use Rattle.ground.specs.declared.answers.Done.{Done}
 use Rattle.ground.specs.declared.answers.Done.the-variants.{Yes, Refused}
 use Rattle.ground.specs.declared.answers.Total.{Total}
 use Rattle.ground.specs.declared.answers.Total.the-variants.{Of}
-use Rattle.stopper.specs.Paper.Table.{goodCode}
+use Rattle.stopper.specs.Paper.Table.{goodCode, goodTable}
 use Rattle.stopper.specs.Laws.Characters.{_∈_}
 use Rattle.stopper.specs.Laws.Table.{table-code, code-width}
 use Rattle.symbols.specs.Paper.Symbols.{per, bytesFor, room, symbolsOf}
 use Rattle.symbols.specs.Laws.Sizes.{bytesFor-enough, bytesFor-within, bytesFor-mono, room-full, room-all, room-bytes}
 use Rattle.symbols.specs.Laws.Rows.{symbols-length}
 use Rattle.texts.specs.Paper.Hits.{hits, goodPattern, listed}
-use Rattle.texts.specs.Laws.Patterns.{pattern-least}
+use Rattle.texts.specs.Laws.Patterns.{pattern-newline, pattern-least, pattern-most, pattern-line, pattern-good}
 use Rattle.texts.specs.Laws.Hits.{Front, stands-front, front-stands, Rising, hit-is, hits-rising}
 use Rattle.reading.specs.Paper.Reading.{isBad, firstBad}
 use Rattle.sound.specs.Paper.Roll.{reading, textOf, Sound}
@@ -38,7 +38,7 @@ use Rattle.radio.specs.Paper.Operations.{startRows, startSays, searcherFor, Sta
 use Rattle.judge.specs.Laws.Reading.{first-one}
 use Rattle.judge.specs.Laws.Judged.{judge-roll, judge-bad, judge-part, judge-whole, verdict-is}
 use Rattle.radio.specs.Laws.Joined.{after-roll, after-none, hits-none, after-bad, hits-bad, after-append, hits-append, hits-so-far}
-use Rattle.radio.specs.Laws.Operations.{kept-table, kept-limited, kept-judge, feed-6, feed-5, feed-14, feed-accepted}
+use Rattle.radio.specs.Laws.Operations.{start-11, start-accepted, kept-table, kept-limited, kept-judge, feed-6, feed-5, feed-14, feed-accepted}
 use Rattle.radio.specs.Laws.Kept.{start-kept, kept-after, bytes-after}
 use Rattle.judge.specs.declared.records.Progress.{Progress}
 use Rattle.judge.specs.declared.records.Judge.{Judge}
@@ -278,6 +278,27 @@ answers-bad {s′ = s′} w (more {r = r} {pieces = pieces} p t rest) b d =
 pub start-within : {r : Roll} {pattern : List ℕ} {st : Started} → Starting r pattern st → st .answer ≡ Yes → Within (st .searcher)
 start-within {r} {pattern} start y = let e = says-as (start .says) y in rw (start .searcher ∙ accepted-leaves e _ _) (start-kept r pattern e)
 
+started-good : {r : Roll} {pattern : List ℕ} {st : Started} → Starting r pattern st → st .answer ≡ Yes → T (goodPattern pattern)
+unfolding startSays
+started-good {r} {pattern} start y = true-yes _ (not-false (goodPattern pattern) (accepted-none (startRows r pattern) tt (says-as (start .says) y) .1 .1 .0))
+
+-- of a good table and an h within the limit a searcher is made for any pattern of 1 to 64 characters without byte 10
+pub start-accepts : {r : Roll} {pattern : List ℕ} {st : Started} → T (goodTable (r .table)) → r .h ≤ limit → 1 ≤ length pattern → length pattern ≤ 64 → (10 ∈ pattern → ⊥)
+    → Starting r pattern st → st .answer ≡ Yes
+start-accepts {r} {pattern} {st} t h low high line start =
+    done-one (st .answer) Yes (start .says ∙ start-accepted r pattern (yes-true _ t) h (yes-true _ (pattern-good pattern low high line)))
+
+-- with byte 10 it is 11
+pub start-newline : {r : Roll} {pattern : List ℕ} {st : Started} → T (goodTable (r .table)) → r .h ≤ limit → 10 ∈ pattern → Starting r pattern st
+    → st .answer ≡ Refused 11 0
+start-newline {r} {pattern} {st} t h m start =
+    done-one (st .answer) (Refused 11 0) (start .says ∙ start-11 r pattern (yes-true _ t) h (pattern-newline pattern m))
+
+-- no searcher is made for another pattern
+pub started-pattern : {r : Roll} {pattern : List ℕ} {st : Started} → Starting r pattern st → st .answer ≡ Yes
+    → (1 ≤ length pattern) × (length pattern ≤ 64) × (10 ∈ pattern → ⊥)
+started-pattern {pattern = pattern} start y = let good = started-good start y in (pattern-least pattern good, pattern-most pattern good, pattern-line pattern good)
+
 room-holds : (k h n : ℕ) → h ≤ limit → h ≤ n * per k → h ≤ room k n
 room-holds k h n l m =
     elim (decLe limit (n * per k)) [
@@ -313,8 +334,7 @@ module _ {r : Roll} {pattern : List ℕ} {st : Started} {pieces : List (List ℕ
   code = within-code (searcherFor r pattern) first-within
 
   pattern-is-good : T (goodPattern pattern)
-  unfolding startSays
-  pattern-is-good = true-yes _ (not-false (goodPattern pattern) (accepted-none (startRows r pattern) tt begins .1 .1 .0))
+  pattern-is-good = started-good start y
 
   judge-is : s′ .judge ≡ judgeAfter (judgeFor r) bytes
   unfolding searcherAfter
