@@ -1,7 +1,7 @@
 -- What came in: the pattern and the text of an input cut short, and why the first 16,450 bytes are enough.
 use mathlib.Core.Path.{_≡_, refl, sym, ap, _∙_}
 use mathlib.Core.Logic.{inr}
-use mathlib.Core.Bool.{Bool, true, false, cond}
+use mathlib.Core.Bool.{Bool, true, false, cond, _&&_}
 use mathlib.Core.List.{List, [], _∷_}
 use Prim.Native.Nat.{ℕ, zero, suc, _+_, _-_, _≤_, _<_}
 use native.Mathlib.Nat.{zero-sub, suc-sub-suc, sub-zero}
@@ -10,6 +10,7 @@ use lib.Dec.{leb, ltb, eqb, leb→le, nleb→lt, ltb→lt, nltb→le}
 use lib.ListN.{length, take, length-take}
 use lib.Seq.{take-all, take-nil}
 use Rattle.ground.specs.Laws.Tests.{by-test, true-yes}
+use Rattle.stopper.specs.Paper.Table.{has}
 use Rattle.texts.specs.Paper.Hits.{goodPattern}
 use Rattle.texts.specs.Laws.Patterns.{pattern-bad, pattern-most}
 use Rattle.report.specs.Paper.Report.{givenPattern, givenText, reportOf}
@@ -29,6 +30,25 @@ given-whole (b ∷ input) h = go (eqb b 10) (given-whole input) h
         → suc (length (cond t [] (b ∷ givenPattern input)) + length (cond t input (givenText input))) ≡ suc (length input)
     go true later h = omega arith
     go false later h = omega (arith, later (omega arith))
+
+-- ---- the program's pattern ends before the first byte 10, so it is refused for its length alone
+
+pub given-line : (input : List ℕ) → has 10 (givenPattern input) ≡ false
+unfolding givenPattern has
+given-line [] = refl
+given-line (b ∷ input) = go (eqb b 10) refl (given-line input)
+  where
+    go : (t : Bool) → eqb b 10 ≡ t → has 10 (givenPattern input) ≡ false → has 10 (cond t [] (b ∷ givenPattern input)) ≡ false
+    go true e later = refl
+    go false e later = rw (e, later)
+
+pub given-good : (input : List ℕ) → goodPattern (givenPattern input) ≡ (leb 1 (length (givenPattern input)) && leb (length (givenPattern input)) 64)
+unfolding goodPattern
+given-good input = rw (given-line input) (ap (λ (x : Bool). leb 1 (length (givenPattern input)) && x) (and-true (leb (length (givenPattern input)) 64)))
+  where
+    and-true : (b : Bool) → (b && true) ≡ b
+    and-true true = refl
+    and-true false = refl
 
 -- ---- of the first n bytes
 
