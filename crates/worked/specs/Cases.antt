@@ -141,6 +141,10 @@ bananas = tableOf (record { k = 4; s = 3 }) (97 ∷ 110 ∷ 98 ∷ [])
 bananasChosen : Table
 bananasChosen = tableOf (record { k = 4; s = 15 }) (97 ∷ 110 ∷ theTwelve ++ 98 ∷ [])
 
+-- a, byte 10, b
+unfoldable pub lines : Table
+lines = tableOf (record { k = 2; s = 3 }) (97 ∷ 10 ∷ 98 ∷ [])
+
 -- P1 by the counts as they are; P2 to P5, P10 and P11 with their tables given directly; behind each, what the table gives that choosing answers
 cases : List Case
 cases =
@@ -204,6 +208,13 @@ cases =
     (rolled abra 11 13) (packedAbra ++ 9 ∷ []) (0 ∷ 9 ∷ [])
     ∷ edits (rolled abraChosen 11 19) (packedChosen ++ 9 ∷ []) (0 ∷ 9 ∷ []) 4 7 (43 ∷ 52 ∷ 55 ∷ []) yes
     (rolled abraChosen 11 18) (24 ∷ 50 ∷ 223 ∷ 6 ∷ 0 ∷ 9 ∷ []) (0 ∷ 9 ∷ [])
+    -- a and b on two lines: b; both as pasted; byte 10 alone, first and last; byte 13
+    ∷ finds (rolled lines 3 3) (24 ∷ []) (98 ∷ []) (9 ∷ []) (accepted 1) (2 ∷ [])
+    ∷ finds (rolled lines 3 3) (24 ∷ []) (97 ∷ 10 ∷ 98 ∷ []) (9 ∷ []) (refused 11 0) (9 ∷ [])
+    ∷ finds (rolled lines 3 3) (24 ∷ []) (10 ∷ []) (9 ∷ []) (refused 11 0) (9 ∷ [])
+    ∷ finds (rolled lines 3 3) (24 ∷ []) (10 ∷ 98 ∷ []) (9 ∷ []) (refused 11 0) (9 ∷ [])
+    ∷ finds (rolled lines 3 3) (24 ∷ []) (97 ∷ 10 ∷ []) (9 ∷ []) (refused 11 0) (9 ∷ [])
+    ∷ finds (rolled lines 3 3) (24 ∷ []) (97 ∷ 13 ∷ []) (9 ∷ []) (accepted 0) (9 ∷ [])
     -- all counts 0: the twelve alone
     ∷ choice 2 [] (tableOf (record { k = 2; s = 2 }) theTwelve) 28
     ∷ choice 4 [] (tableOf (record { k = 4; s = 12 }) theTwelve) 12
@@ -215,5 +226,5 @@ unfolding limit tab zeros padded firstWhere codeword place first shorter opens s
 computed = tt
 
 worked : T (every cases)
-unfolding every cases right same sameTable sameRoll sameOutcome sameTotal yes abracadabra abra packedAbra theTwelve abraChosen packedChosen banana bananas bananasChosen computed
+unfolding every cases right same sameTable sameRoll sameOutcome sameTotal yes abracadabra abra packedAbra theTwelve abraChosen packedChosen banana bananas bananasChosen lines computed
 worked = tt

@@ -8,18 +8,21 @@ use Rattle.ground.specs.Paper.Refusals.{Outcome, accepted, refused}
 use Rattle.ground.specs.Paper.Answers.{doneSays}
 use Rattle.ground.specs.declared.answers.Done.{Done}
 use Rattle.ground.specs.declared.answers.Total.{Total}
-use Rattle.ground.specs.declared.answers.Total.the-variants.{Of}
+use Rattle.ground.specs.declared.answers.Total.the-variants.{Of, Refused as total-refused}
 use Rattle.ground.specs.declared.answers.Done.the-variants.{Yes, Refused}
 use Rattle.ground.specs.declared.answers.Answer.the-variants.{Read}
 use Rattle.sound.specs.declared.records.Roll.{Roll}
 use Rattle.roll.specs.Paper.Operations.{Searching, Packing, Checking, Unpacking, Making, ReadingOne, Editing}
 use Rattle.roll.specs.declared.pack.Packed.{Packed}
 use Rattle.roll.specs.declared.edit.Edited.{Edited}
-use Rattle.worked.specs.Cases.{abra, packedAbra, rolled, computed}
+use Rattle.worked.specs.Cases.{abra, packedAbra, lines, rolled, computed}
 
 -- an accepted outcome is no refusal
-pub apart : {n v : ℕ} → _≡_ {A = Outcome (Unit {0})} (accepted tt) (refused n v) → ⊥
+pub apart : {A : Type 0} {a : A} {n v : ℕ} → accepted a ≡ refused n v → ⊥
 apart e = let z : _≡_ {A = ℕ} 0 1 = cc in omega arith
+
+pub number-of : {A : Type 0} {n m v w : ℕ} → _≡_ {A = Outcome A} (refused n v) (refused m w) → n ≡ m
+number-of e = cc
 
 pub first-of : {x y : ℕ} {xs ys : List ℕ} → x ∷ xs ≡ y ∷ ys → x ≡ y
 first-of e = ap (λ (l : List ℕ). getD l 0 0) e
@@ -101,6 +104,28 @@ pub search-not-skipping : {after : List ℕ} → Searching (rolled abra 7 7) (17
 unfolding abra packedAbra computed
 search-not-skipping p = let e = total-of (p .says) in omega arith
 
+-- ---- search: a and b on two lines
+
+-- two lines searched for, though they stand there
+pub search-not-over-lines : {many : ℕ} {after : List ℕ} → Searching (rolled lines 3 3) (24 ∷ []) (97 ∷ 10 ∷ 98 ∷ []) [] (Of many) after → ⊥
+unfolding lines computed
+search-not-over-lines p = apart (p .says)
+
+-- byte 10 let pass at the end
+pub search-not-newline-last : {many : ℕ} {after : List ℕ} → Searching (rolled lines 3 3) (24 ∷ []) (97 ∷ 10 ∷ []) [] (Of many) after → ⊥
+unfolding lines computed
+search-not-newline-last p = apart (p .says)
+
+-- byte 13 refused too
+pub search-not-13 : {n v : ℕ} {after : List ℕ} → Searching (rolled lines 3 3) (24 ∷ []) (97 ∷ 13 ∷ []) [] (total-refused n v) after → ⊥
+unfolding lines computed
+search-not-13 p = apart (sym (p .says))
+
+-- 11 for byte 10 before what check refuses: 0 3 ends in an open codeword
+pub search-not-newline-first : {v : ℕ} {after : List ℕ} → Searching (rolled lines 1 2) (48 ∷ []) (97 ∷ 10 ∷ []) [] (total-refused 11 v) after → ⊥
+unfolding lines computed
+search-not-newline-first p = let e = number-of (p .says) in omega arith
+
 -- ---- edit: abracadabra, packed, with its directory
 
 abbrev packed : Roll
@@ -155,9 +180,6 @@ edit-not-entry p = let e = at 1 (p .directory) in omega arith
 pub edit-not-before : {e : Edited} {rest dirAfter : List ℕ} → Editing packed packedAbra (0 ∷ []) 4 5 (100 ∷ 100 ∷ []) e (0 ∷ rest) dirAfter → ⊥
 unfolding abra packedAbra computed
 edit-not-before p = let e = first-of (p .leaves) in omega arith
-
-pub number-of : {n m v w : ℕ} → _≡_ {A = Outcome (Unit {0})} (refused n v) (refused m w) → n ≡ m
-number-of e = cc
 
 -- 12 asked before 4: 32 times a fill 8 bytes and one entry, and one more has neither room nor an entry
 pub edit-not-12-first : {e : Edited} {after dirAfter : List ℕ} {v : ℕ}

@@ -36,6 +36,30 @@ pub start-not-11-first : {r : Started} {v : ℕ} → Starting (rolled bananas 6 
 unfolding bananas heard
 start-not-11-first p q = let e = number-of (sym (ap doneSays q) ∙ p .says) in omega arith
 
+-- byte 10 let pass at the end
+pub start-not-newline-last : {r : Started} → Starting (rolled bananas 6 6) (97 ∷ 10 ∷ []) r → r .answer ≡ Yes → ⊥
+unfolding bananas heard
+start-not-newline-last p q = apart (sym (ap doneSays q) ∙ p .says)
+
+-- byte 13 refused too
+pub start-not-13 : {r : Started} {n v : ℕ} → Starting (rolled bananas 6 6) (97 ∷ 13 ∷ []) r → r .answer ≡ Refused n v → ⊥
+unfolding bananas heard
+start-not-13 p q = apart (sym (p .says) ∙ ap doneSays q)
+
+-- 11 for byte 10 before 5
+pub start-not-newline-first : {r : Started} {v : ℕ} → Starting (rolled bananas 6 65537) (97 ∷ 10 ∷ []) r → r .answer ≡ Refused 11 v → ⊥
+unfolding bananas heard
+start-not-newline-first p q = let e = number-of (sym (ap doneSays q) ∙ p .says) in omega arith
+
+-- a searcher with byte 10 in its pattern fed, and finished
+pub feed-not-newline : {r : Fed} {after : List ℕ} → Feeding (searcherFor (rolled bananas 6 6) (97 ∷ 10 ∷ [])) (32 ∷ []) (9 ∷ 9 ∷ []) r after → r .answer ≡ Yes → ⊥
+unfolding bananas heard
+feed-not-newline p q = apart (sym (ap doneSays q) ∙ p .says)
+
+pub finish-not-newline : Finishing (searcherFor (rolled bananas 0 0) (97 ∷ 10 ∷ [])) Yes → ⊥
+unfolding bananas heard
+finish-not-newline p = apart (p .says)
+
 -- a hit named a call late: in 20 10 stands ana
 pub feed-not-late : {r : Fed} {after : List ℕ} → Feeding begun (32 ∷ 16 ∷ []) (replicate 4 9) r after → r .hits ≡ 0 → ⊥
 unfolding bananas heard
