@@ -159,12 +159,17 @@ def read_one(t, n, h, buf, entries, place):
     return None, t[3][ranks[0]]
 
 
+def good_pattern(places, length):
+    """1 to 64 characters, and none of them is byte 10. What stands in places past the length is no matter."""
+    return 1 <= length <= 64 and 10 not in places[:length]
+
+
 def search(t, n, h, buf, pattern, hits):
     """The refusal, or None and the total; the hit list afterwards."""
     refusal = check(t, n, h, buf)
     if refusal:
         return refusal, None, hits
-    if not 1 <= len(pattern) <= 64:
+    if not good_pattern(pattern, len(pattern)):
         return (11, 0), None, hits
     text = [t[3][r] for r in read(t, symbols(t[0], buf)[:h])[0]]
     found = [i for i in range(len(text)) if text[i:i + len(pattern)] == pattern]
@@ -249,7 +254,7 @@ def character_of(t, length, row):
 def report(data):
     """What the program writes."""
     pattern, text = (data.split(b"\n", 1) + [b""])[:2]
-    if not 1 <= len(pattern) <= 64:
+    if not good_pattern(pattern, len(pattern)):
         return b"refused 11 0\n"
     if len(text) > 16384:
         return b"refused 4 16384\n"
@@ -266,13 +271,13 @@ def report(data):
 
 # A roll that comes in. A searcher is here what it holds and, beside that, all bytes that came (None where only the numbers are known).
 
-def start_refusal(t, h, length):
-    """What start asks of a roll and of a pattern of so many characters."""
+def start_refusal(t, h, places, length):
+    """What start asks of a roll and of a pattern, the first so many of these places."""
     if not good_table(t):
         return (1, 0)
     if h > LIMIT:
         return (5, h)
-    if not 1 <= length <= 64:
+    if not good_pattern(places, length):
         return (11, 0)
     return None
 
@@ -315,7 +320,7 @@ def searcher(t, n, h, pattern, came):
 
 def started(t, n, h, pattern):
     """The refusal or None, the searcher: of an empty pattern beside a refusal."""
-    refusal = start_refusal(t, h, len(pattern))
+    refusal = start_refusal(t, h, pattern, len(pattern))
     if refusal:
         return refusal, dict(t=t, n=n, h=h, progress=[0] * 6 + [1] + [0] * 3, pattern=[0] * 64, length=0, ends=0, came=[])
     return None, searcher(t, n, h, pattern, [])
@@ -323,7 +328,7 @@ def started(t, n, h, pattern):
 
 def kept(s):
     """What is asked first of any searcher: what start asks, and that its numbers are within their bounds."""
-    refusal = start_refusal(s["t"], s["h"], s["length"])
+    refusal = start_refusal(s["t"], s["h"], s["pattern"], s["length"])
     if refusal:
         return refusal
     done, count, first, past, place, shorter, rows, value, bad, stained = s["progress"]
@@ -1180,6 +1185,71 @@ for k, s in ((2, 3), (4, 3)):
     text_case(name + "one at the end alone", t, pattern[:-1] + [97] + long + [98] * 7 + pattern, pattern, None, 1)
     text_case(name + "and none there", t, pattern + long + [98] * 7 + pattern[:-1] + [97], pattern, None, 1)
 
+# byte 10 in a pattern: 11, and the slice stays, though the text has what the pattern says; a pattern is of one line
+LINE = list((b"ann bob +47 " * 6)[:64])
+WITH_10 = (
+    ("alone", [10]), ("twice", [10, 10]), ("behind byte 13", [13, 10]), ("first", [10] + LINE[:6]), ("last", LINE[-6:] + [10]),
+    ("in the middle", LINE[-3:] + [10] + LINE[:3]), ("the first of 64", [10] + LINE[:63]), ("the 33rd of 64", LINE[-32:] + [10] + LINE[:31]),
+    ("the 64th of 64", LINE[1:] + [10]), ("the first of 65", [10] + LINE), ("the 65th of 65", LINE + [10]),
+)
+WITH_13 = (
+    ("alone", [13], 5), ("twice", [13, 13], 1), ("first", [13] + LINE[:6], 2), ("last", LINE[-6:] + [13], 2), ("in the middle", LINE[-3:] + [13] + LINE[:3], 1),
+    ("the first of 64", [13] + LINE[:63], 2), ("the 64th of 64", LINE[1:] + [13], 2),
+)
+TEXT_10 = [10] + LINE + [10] + LINE + [10, 10, 13, 10]
+TEXT_13 = [13] + LINE + [13] + LINE + [13, 13, 10, 13]
+
+
+def eleven_case(words, t, text, pattern, hits=(9, 8, 7)):
+    """A text, packed, and a pattern that is 11."""
+    r, n, h, buf = pack(t, text, [0xA5] * -(-symbols_of(t, text) * t[0] // 8))
+    assert r is None, words
+    search_case(words, t, n, h, buf, list(pattern), list(hits), (11, 0))
+
+
+for k, s in ((2, 3), (4, 3)):
+    w, per = f"width {k}, s {s}: ", 8 // k
+    t, bare = table(k, s, b" abno+47\r\n"), table(k, s, b" abno+47")
+    for place, pattern in WITH_10:
+        assert any(TEXT_10[i:i + len(pattern)] == pattern for i in range(len(TEXT_10))), place
+        eleven_case(w + f"11, byte 10 {place}", t, TEXT_10, pattern)
+        eleven_case(w + f"11, byte 10 {place}, not in the table", bare, LINE + LINE, pattern)
+    eleven_case(w + "11, 64 times byte 10", t, [10] * 66, [10] * 64)
+    eleven_case(w + "11, byte 10 and no room for a hit", t, TEXT_10, LINE[-3:] + [10], [])
+    eleven_case(w + "11, byte 10 behind a character not in the table", t, TEXT_10, b"ann?\nbob")
+    eleven_case(w + "11, byte 10 before a character not in the table", t, TEXT_10, b"ann\n?bob")
+    eleven_case(w + "11, byte 10 in a pattern longer than the text", t, list(b"ann"), b"ann\nbob +47")
+    for which, pattern in (("byte 10 alone", b"\n"), ("byte 10 among others", b"ann\nbob +47")):
+        search_case(w + f"11, {which}, an empty roll", t, 0, 0, [], list(pattern), [9], (11, 0))
+        search_case(w + f"11, {which}, an empty roll and bytes behind it", bare, 0, 0, [0xFF], list(pattern), [9], (11, 0))
+        search_case(w + f"11, {which}, an empty roll and sigma 0", table(k, s, []), 0, 0, [], list(pattern), [9], (11, 0))
+        # check's refusals come before it
+        _, n, h, buf = pack(t, TEXT_10, [0] * -(-symbols_of(t, TEXT_10) // per))
+        for refusal, roll in (
+            ((1, 0), ((3, s, 10, t[3]), n, h, buf)), ((5, 9999), (t, n, 9999, buf)), ((6, h - len(codewords(k, s)[9])), (t, n, h - 1, buf)),
+            ((7, n), (t, n + 1, h, buf)), ((8, 0), (t, per + 1, per + 1, packed(k, [0] * (per + 1) + [1]))),
+        ):
+            search_case(w + f"{refusal[0]} before 11, {which}", *roll, list(pattern), [9, 8], refusal)
+    # byte 13 is as any other
+    for place, pattern, hits in WITH_13:
+        text_case(w + f"byte 13 {place}", t, TEXT_13, pattern, None, hits)
+        text_case(w + f"byte 13 {place}, not in the table", bare, LINE + LINE, pattern, 2, 0)
+    eleven_case(w + "11, byte 13 the 65th of 65", t, TEXT_13, LINE + [13])
+    # so are those beside 10, and those that differ from it in one bit
+    for b in (2, 8, 9, 11, 14, 26, 42, 74, 138):
+        near, text = table(k, s, [97, 110, 98, 111, b, 10]), list(b"ann") + [b] + list(b"bob") + [b, 10, b, b]
+        text_case(w + f"byte {b} alone", near, text, [b], None, 4)
+        text_case(w + f"byte {b} in the middle", near, text, text[:7], None, 1)
+        text_case(w + f"byte {b} first and last", near, text, text[3:8], None, 1)
+    # in the text byte 10 is no matter, and is not passed over
+    text_case(w + "64 characters, between bytes 10 of the text", t, TEXT_10, LINE, None, 2)
+    text_case(w + "no hit over byte 10 of the text", t, TEXT_10, LINE[-3:] + LINE[:3], 2, 0)
+for k, s in ((2, 2), (4, 3)):
+    every, w = table(k, s, ALL), f"width {k}, s {s}: "
+    for first in (0, 64, 128, 192):
+        text_case(w + f"every byte value but 10 from {first} on", every, ALL[:10] + ALL[11:], [b for b in ALL[first:first + 64] if b != 10], None, 1)
+    eleven_case(w + "11, every byte value from 0 on", every, ALL, ALL[:64])
+
 # the edit
 edit_case("P10: 4..5 by dd", ABRA, 11, 13, BYTES, [0], 4, 5, b"dd", None)
 edit_case("P11: 4..7 dropped", ABRA, 11, 13, BYTES, [0], 4, 7, b"", None)
@@ -1391,6 +1461,7 @@ report_case("a byte 10 alone", b"\n", b"refused 11 0\n")
 report_case("an empty pattern before a text", b"\nabc", b"refused 11 0\n")
 report_case("an empty text", b"abc\n", b"best 2 symbols 0\nhits 0\n")
 report_case("further bytes 10 are the text's", b"b\nab\nab\n")
+report_case("byte 13 before the first byte 10 is the pattern's", b"bra\r\nabracadabra\r\nabra\r\n")
 report_case("a pattern of 64", b"a" * 64 + b"\n" + b"a" * 70)
 report_case("a pattern of 64 and no byte 10", b"a" * 64, b"best 2 symbols 0\nhits 0\n")
 report_case("a pattern of 65", b"a" * 65 + b"\n" + b"a" * 70, b"refused 11 0\n")
@@ -1575,6 +1646,41 @@ for k, s in ((2, 3), (4, 3)):
     start_case(w + "a pattern of the text and one character more", t, n, h, text + [97], [buf[:9], buf[9:]], [None] * 2, None)
     start_case(w + "a character that stands past sigma alone", (k, s, 2, [97, 98, 99] + [0] * 253), 4, 4, b"c", [packed(k, [0, 1, 0, 1])], [None], None)
 
+# byte 10 in a pattern
+for k, s in ((2, 3), (4, 3)):
+    w, per, eleven = f"width {k}, s {s}: ", 8 // k, (11, 0)
+    t, bare = table(k, s, b" abno+47\r\n"), table(k, s, b" abno+47")
+    _, n, h, buf = pack(t, TEXT_10, [0] * -(-symbols_of(t, TEXT_10) // per))
+    half = len(buf) // 2
+    for place, pattern in WITH_10:
+        start_case(w + f"11, byte 10 {place}", t, n, h, pattern, [buf, []], [eleven] * 2, eleven, refused=eleven)
+        start_case(w + f"11, byte 10 {place}, not in the table", bare, 8, 8, pattern, [packed(k, [0] * 8)], [eleven], eleven, refused=eleven)
+    start_case(w + "11, 64 times byte 10", t, n, h, [10] * 64, [buf[:1], ([], 0)], [eleven] * 2, eleven, refused=eleven)
+    start_case(w + "11, byte 10 behind a character not in the table", t, n, h, b"ann?\n", [buf], [eleven], eleven, refused=eleven)
+    start_case(w + "11, byte 10 before a character not in the table", t, n, h, b"\n?ann", [buf], [eleven], eleven, refused=eleven)
+    for which, pattern in (("byte 10 alone", b"\n"), ("byte 10 among others", b"ann\nbob +47")):
+        start_case(w + f"11, {which}, h 0", t, 0, 0, pattern, [[], [0]], [eleven] * 2, eleven, refused=eleven)
+        start_case(w + f"11, {which}, h 0 and sigma 0", table(k, s, []), 0, 0, pattern, [[]], [eleven], eleven, refused=eleven)
+        start_case(w + f"11, {which}, h at the limit", t, 1, LIMIT, pattern, [[0]], [eleven], eleven, refused=eleven)
+        for bad_h in (h, LIMIT + 1):
+            start_case(w + f"1 before 11, {which}, h {bad_h}", (3, s, 10, t[3]), n, bad_h, pattern, [(buf[:1], 4)], [(1, 0)], (1, 0), refused=(1, 0))
+        for bad_h in (LIMIT + 1, 2 ** 32 - 1):
+            start_case(w + f"5 before 11, {which}, h {bad_h}", t, n, bad_h, pattern, [buf[:1]], [(5, bad_h)], (5, bad_h), refused=(5, bad_h))
+    start_case(w + "64 characters, between bytes 10 of the text", t, n, h, LINE, [[b] for b in buf], [None] * len(buf), None)
+    start_case(w + "no hit over byte 10 of the text", t, n, h, LINE[-3:] + LINE[:3], [buf[:half], buf[half:]], [None] * 2, None)
+    # byte 13 is as any other, and so are those beside 10 and those that differ from it in one bit
+    _, n, h, buf = pack(t, TEXT_13, [0] * -(-symbols_of(t, TEXT_13) // per))
+    for place, pattern, hits in WITH_13:
+        after = start_case(w + f"byte 13 {place}", t, n, h, pattern, [buf[:half], buf[half:]], [None] * 2, None)
+        assert search(t, n, h, after["came"], pattern, [])[1] == hits, place
+        start_case(w + f"byte 13 {place}, not in the table", bare, 8, 8, pattern, [packed(k, [0] * 8)], [None], None)
+    start_case(w + "11, byte 13 the 65th of 65", t, n, h, LINE + [13], [buf], [eleven], eleven, refused=eleven)
+    for b in (2, 8, 9, 11, 14, 26, 42, 74, 138):
+        near, text = table(k, s, [97, 110, 98, 111, b, 10]), list(b"ann") + [b] + list(b"bob") + [b, 10, b, b]
+        _, n, h, buf = pack(near, text, [0] * -(-symbols_of(near, text) // per))
+        start_case(w + f"byte {b} alone", near, n, h, [b], [[x] for x in buf], ..., None)
+        start_case(w + f"byte {b} in the middle", near, n, h, text[:7], [[x] for x in buf], ..., None)
+
 # the longest rolls: a hit over each border
 for k, s in ((2, 3), (4, 3)):
     t, per = table(k, s, LETTERS), 8 // k
@@ -1660,6 +1766,33 @@ for k, s in ((2, 2), (4, 3)):
     given_case(w + "finishing believes the numbers", numbers(read=h, first=3, count=3, past=1, n=3), [[], [0]], [None, (5, h)], None)
     given_case(w + "what stands past the length is not looked at", dict(searcher(t, h, h, list(b"aa"), packed(k, [0] * half)), pattern=[97] * 64),
                [packed(k, [0] * half)], [None], None)
+    # byte 10 among the characters of its pattern, and past them
+    eleven, coming = (11, 0), [[], packed(k, [0] * half)]
+    for length in (1, 2, 3, 33, 63, 64):
+        name = w + f"byte 10 of a searcher's {length}, "
+        for place in sorted({0, length // 2, length - 1}):
+            holding = [10 if i == place else 97 for i in range(64)]
+            given_case(name + f"at {place}: 11", numbers(pattern=holding, length=length, ends=0), coming, [eleven] * 2, eleven)
+        for place in sorted({length, 63}) if length < 64 else ():
+            holding = [10 if i == place else 97 for i in range(64)]
+            given_case(name + f"past them at {place}", dict(searcher(t, h, h, [97] * length, packed(k, [0] * half)), pattern=holding), coming, [None] * 2, None)
+        if length < 64:
+            holding = [97] * length + [10] * (64 - length)
+            given_case(name + "past them everywhere", dict(searcher(t, h, h, [97] * length, packed(k, [0] * half)), pattern=holding), coming, [None] * 2, None)
+    ten = dict(pattern=[97, 10, 99] + [0] * 61)
+    given_case(w + "byte 10 of a searcher: 1 of its table before 11", numbers(**ten, t=(3, s, 5, t[3])), [[]], [(1, 0)], (1, 0))
+    given_case(w + "byte 10 of a searcher: 1 of its table before 5 and 11", numbers(**ten, t=(k, 0, 5, t[3]), h=LIMIT + 1), [[]], [(1, 0)], (1, 0))
+    given_case(w + "byte 10 of a searcher: 5 before 11", numbers(**ten, h=LIMIT + 1), [[]], [(5, LIMIT + 1)], (5, LIMIT + 1))
+    given_case(w + "byte 10 of a searcher: 5 before 11, the greatest h", numbers(**ten, h=2 ** 32 - 1), [[]], [(5, 2 ** 32 - 1)], (5, 2 ** 32 - 1))
+    for name in NAMES:
+        given_case(w + f"byte 10 of a searcher: 11 before {name} the greatest", numbers(**ten, **{name: 2 ** 32 - 1}), [[]], [eleven], eleven)
+    given_case(w + "byte 10 of a searcher: 11 before ends by length 3", numbers(**ten, ends=4), [[]], [eleven], eleven)
+    given_case(w + "byte 10 of a searcher: 11 before an earlier 6", numbers(**ten, bad=1), [[]], [eleven], eleven)
+    given_case(w + "byte 10 of a searcher: 11 before 5 and 14", numbers(**ten), [([0] * 99, 0), ([0], 0)], [eleven] * 2, eleven)
+    given_case(w + "byte 10 of a searcher: 11 before 7 and 8", numbers(**ten, read=h, first=h, count=h, n=1, stained=1), [[]], [eleven], eleven)
+    given_case(w + "byte 10 in all 64 places, length 0: 11", numbers(pattern=[10] * 64, length=0), [[]], [eleven], eleven)
+    given_case(w + "byte 10 in all 64 places, length 65: 11", numbers(pattern=[10] * 64, length=65), [[]], [eleven], eleven)
+    given_case(w + "byte 13 in all places", searcher(table(k, s, [13]), h, h, [13] * 64, packed(k, [0] * half)), coming, [None] * 2, None)
 write("vectors_radio")
 
 # rolls as frames
