@@ -25,6 +25,8 @@
  *   the directory.
  * - Only characters in the table can be put in by an edit. The ten digits, + and byte 10 are in every chosen table.
  *   Before choosing, count once more others that may come, such as all letters.
+ * - A pattern is of one line. What was read as a line or pasted may end with byte 10, and is refused 11 then: cut it off.
+ *   A byte 13 before it is a character as any other, and the pattern stands only where the text has it.
  * - check finds what breaks the form, and not what changes the text. Of all single-bit faults of a made roll of member
  *   lines 47 % passed it with k = 2, and 79 % with k = 4, each with another text. An old record beside a newer buffer
  *   may pass as well, as where an edit put characters behind the last and the old symbols filled whole bytes. Keep a
@@ -32,8 +34,8 @@
  * - The answered searcher is the one to go on with: keep it in place of the one that was handed in. A hit that feed names
  *   is one of the text read so far; whether the roll is sound is known once monterculo_finish accepts, and not before.
  * - The stack, in bytes and with the arguments: edit 29,000, pack 27,000, search_jumping 19,600, unpack 12,900, search
- *   10,800, feed 5,700, write_frames and make_directory 5,600, check 5,300, codeword_of 3,900, choose 2,300, read_frames
- *   1,700, start, read_one and character_of 1,400, finish 1,100, read_first 1,000, count and read_frame 100. No call takes
+ *   10,800, feed 5,800, write_frames and make_directory 5,600, check 5,300, codeword_of 3,900, choose 2,300, read_frames
+ *   1,700, start, read_one and character_of 1,400, finish 1,200, read_first 1,000, count and read_frame 100. No call takes
  *   memory from elsewhere. These figures and those of the faults were measured on the archive by tools/measure.c.
  *
  * Sizes to lend.
@@ -57,10 +59,11 @@ extern "C" {
 #endif
 
 /* Of this header: the first number changes where the form of a struct or a function does, the second where one is added
- * or answers otherwise. */
+ * or answers otherwise. Otherwise than in 1.4, a pattern with byte 10 is refused 11 by search, search_jumping and start, and
+ * a searcher that holds one by feed and finish. */
 #define MONTERCULO_VERSION_MAJOR 1
-#define MONTERCULO_VERSION_MINOR 4
-#define MONTERCULO_VERSION "1.4"
+#define MONTERCULO_VERSION_MINOR 5
+#define MONTERCULO_VERSION "1.5"
 
 #define MONTERCULO_PLACES 256
 #define MONTERCULO_CODEWORD 86
@@ -101,7 +104,7 @@ enum monterculo_number {
     MONTERCULO_BAD_ENTRY = 9,
     /* Range start > end, or end > n; for one character, place >= n. Value 0. */
     MONTERCULO_BAD_RANGE = 10,
-    /* Pattern empty or over 64. Value 0. */
+    /* Pattern empty, over 64, or with byte 10. Value 0. */
     MONTERCULO_BAD_PATTERN = 11,
     /* Directory shorter than the result needs. Value: entries needed. */
     MONTERCULO_SHORT_DIRECTORY = 12,
@@ -128,7 +131,7 @@ static inline const char *monterculo_text(uint32_t number)
     case MONTERCULO_BAD_UNUSED: return "an unused symbol of the last byte is not 0";
     case MONTERCULO_BAD_ENTRY: return "a directory entry missing or wrong";
     case MONTERCULO_BAD_RANGE: return "a range or a place that the text does not have";
-    case MONTERCULO_BAD_PATTERN: return "pattern empty or over 64";
+    case MONTERCULO_BAD_PATTERN: return "pattern empty, over 64, or with a newline";
     case MONTERCULO_SHORT_DIRECTORY: return "directory shorter than the result needs";
     case MONTERCULO_SHORT_OUTPUT: return "output shorter than the range, the frame text or the frame's bytes";
     case MONTERCULO_SHORT_HITS: return "the hit slice has fewer entries than the piece has symbols";
@@ -269,7 +272,7 @@ struct monterculo_answer monterculo_make_directory(struct monterculo_roll roll, 
 struct monterculo_answer monterculo_read_one(struct monterculo_roll roll, const uint8_t *buf, size_t buf_len,
                                              const uint32_t *dir, size_t dir_len, size_t place);
 
-/* Searches for all places where a pattern of 1 to 64 characters stands, overlapping ones too.
+/* Searches for all places where a pattern of 1 to 64 characters without byte 10 stands, overlapping ones too.
  * Refused: check's 1, 5, 6, 7, 8, then 11 (0).
  * Writes: the first hits, ascending, as many as the slice holds; later entries unchanged.
  * Value: the total of all hits, which may be more than hits_len; 0 if a character of the pattern is not in the table. */
@@ -301,8 +304,8 @@ struct monterculo_rolled monterculo_edit(struct monterculo_roll roll, uint8_t *b
  * empty ones too, and however they are cut, where none is refused 5 or 14 the hits are the same and so is the searcher at
  * the end. Nothing is kept of a piece: a box that wants the roll keeps its bytes itself. */
 
-/* The searcher of a roll and a pattern of 1 to 64 characters, before the first piece. It does not look at n. A pattern
- * with a character that is not in the table has no hits.
+/* The searcher of a roll and a pattern of 1 to 64 characters without byte 10, before the first piece. It does not look at
+ * n. A pattern with a character that is not in the table has no hits.
  * Refused: 1 (0), 5 (h; h over 65,536), 11 (0); the searcher is then that of the roll with an empty pattern, which feed
  * and finish refuse in their turn. */
 struct monterculo_started monterculo_start(struct monterculo_roll roll, const uint8_t *pattern, size_t pattern_len);

@@ -132,7 +132,7 @@ pub const LONGEST: usize = 86;
 /// The most symbols of a roll, and the most characters of a text to be counted.
 pub const SYMBOLS: usize = 65_536;
 
-/// The most characters of a pattern.
+/// The most characters of a pattern, none of which is byte 10.
 pub const PATTERN: usize = 64;
 
 /// The most packed bytes of a line of a frame text.

@@ -261,7 +261,7 @@ impl OwnedRoll {
         self.roll.read_one(&self.buf, &self.directory, place)
     }
 
-    /// All places where a pattern of 1 to 64 characters stands, ascending, overlapping ones too.
+    /// All places where a pattern of 1 to 64 characters without byte 10 stands, ascending, overlapping ones too.
     ///
     /// This one goes from character to character. [`OwnedRoll::find_jumping`] gives the same: take that one for long rolls
     /// and patterns of four characters or more.
@@ -269,11 +269,12 @@ impl OwnedRoll {
     /// Refusals: 11 (0).
     ///
     /// ```
-    /// use monterculo::{OwnedRoll, Width};
+    /// use monterculo::{OwnedRoll, Refusal, Width};
     ///
     /// let roll = OwnedRoll::new(Width::Four, b"banana")?;
     /// assert_eq!(roll.find(b"ana")?, [1, 3]);
     /// assert!(roll.find(b"anna")?.is_empty());
+    /// assert_eq!(roll.find(b"ana\n"), Err(Refusal::NewlineInPattern { place: 3 }));
     /// # Ok::<(), monterculo::Refusal>(())
     /// ```
     pub fn find(&self, pattern: &[u8]) -> Result<Vec<usize>, Refusal> {

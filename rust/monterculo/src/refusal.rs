@@ -130,6 +130,11 @@ pub enum Refusal {
         /// How many it has.
         length: usize,
     },
+    /// 11, of a pattern of 1 to 64 characters: one of them is byte 10, the newline.
+    NewlineInPattern {
+        /// Where the first such stands.
+        place: usize,
+    },
     /// 12: the directory is shorter than the result needs.
     ShortDirectory {
         /// The entries needed.
@@ -244,7 +249,10 @@ impl Answer {
             8 => Refusal::BadUnused,
             9 => Refusal::BadEntry { entry: value, missing: value >= given.entries },
             10 => Refusal::BadRange { start: given.start, end: given.end, n },
-            11 => Refusal::BadPattern { length: given.text.len() },
+            11 => match given.text.iter().position(|&character| character == b'\n') {
+                Some(place) if given.text.len() <= PATTERN => Refusal::NewlineInPattern { place },
+                _ => Refusal::BadPattern { length: given.text.len() },
+            },
             12 => Refusal::ShortDirectory { needed: value },
             13 => Refusal::ShortOutput { needed: value },
             14 => Refusal::ShortHits { needed: value },
@@ -268,7 +276,7 @@ impl Refusal {
             Refusal::BadUnused => 8,
             Refusal::BadEntry { .. } => 9,
             Refusal::BadRange { .. } | Refusal::BadPlace { .. } => 10,
-            Refusal::BadPattern { .. } => 11,
+            Refusal::BadPattern { .. } | Refusal::NewlineInPattern { .. } => 11,
             Refusal::ShortDirectory { .. } => 12,
             Refusal::ShortOutput { .. } => 13,
             Refusal::ShortHits { .. } => 14,
@@ -286,6 +294,7 @@ impl Refusal {
             | Refusal::BadRange { .. }
             | Refusal::BadPlace { .. }
             | Refusal::BadPattern { .. }
+            | Refusal::NewlineInPattern { .. }
             | Refusal::NotTheFrame => 0,
             Refusal::BadCounts { length } => length,
             Refusal::NotInTable { place, .. } => place,
@@ -349,6 +358,7 @@ impl fmt::Display for Refusal {
             Refusal::BadPlace { place, n } => write!(f, "place {place} is behind the text, whose length is {n}"),
             Refusal::BadPattern { length: 0 } => write!(f, "the pattern is empty"),
             Refusal::BadPattern { length } => write!(f, "the pattern has {length} characters, more than {PATTERN}"),
+            Refusal::NewlineInPattern { place } => write!(f, "the pattern has a newline, at place {place}"),
             Refusal::ShortDirectory { needed } => write!(f, "the directory is too short: entries needed are {needed}"),
             Refusal::ShortOutput { needed } => write!(f, "the output is too short: bytes needed are {needed}"),
             Refusal::ShortHits { needed } => write!(f, "the hit slice is too short: entries needed are {needed}"),
@@ -423,6 +433,17 @@ mod tests {
                 assert_eq!(matches!(refusal, Refusal::Other { .. }), number > 15 || number == 3 && value > 2);
             }
         }
+    }
+
+    /// The length is named first; a newline only in a pattern that is good but for it.
+    #[test]
+    fn what_is_bad_in_a_pattern() {
+        let refusal = |text: &[u8]| Answer { number: 11, value: 0 }.refusal(Given { text, ..Given::default() });
+        assert_eq!(refusal(b""), Refusal::BadPattern { length: 0 });
+        assert_eq!(refusal(b"\n"), Refusal::NewlineInPattern { place: 0 });
+        assert_eq!(refusal(b"a\r\nb\n"), Refusal::NewlineInPattern { place: 2 });
+        assert_eq!(refusal(&[b'\n'; 64]), Refusal::NewlineInPattern { place: 0 });
+        assert_eq!(refusal(&[b'\n'; 65]), Refusal::BadPattern { length: 65 });
     }
 
     #[test]

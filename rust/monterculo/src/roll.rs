@@ -185,10 +185,11 @@ impl Roll {
         }
     }
 
-    /// Searches for all places where a pattern of 1 to 64 characters stands, overlapping ones too, and gives their
-    /// total. The first hits are written, ascending, as many as `hits` holds; later entries are unchanged.
+    /// Searches for all places where a pattern of 1 to 64 characters without byte 10 stands, overlapping ones too, and
+    /// gives their total. The first hits are written, ascending, as many as `hits` holds; later entries are unchanged.
     ///
-    /// The total may be more than `hits` holds. It is 0 if a character of the pattern is not in the table.
+    /// The total may be more than `hits` holds. It is 0 if a character of the pattern is not in the table. A pattern with
+    /// byte 10, the newline, is refused even so.
     ///
     /// This one goes from character to character. [`Roll::search_jumping`] answers the same: take that one for long rolls
     /// and patterns of four characters or more, and this one for other searches and where stack is scarce.
@@ -231,8 +232,8 @@ impl Roll {
         sys::search_jumping(self.record(), buf, pattern, hits).narrow(Given { text: pattern, ..self.given() })
     }
 
-    /// All places where a pattern of 1 to 64 characters stands, ascending, overlapping ones too, by [`Roll::search`]. This
-    /// one allocates.
+    /// All places where a pattern of 1 to 64 characters without byte 10 stands, ascending, overlapping ones too, by
+    /// [`Roll::search`]. This one allocates.
     ///
     /// [`Roll::find_jumping`] gives the same: take that one for long rolls and patterns of four characters or more.
     ///

@@ -39,7 +39,7 @@ use crate::{bytes_for, hits_for, sys, Refusal, Roll, PATTERN, SYMBOLS};
 pub struct Searcher(sys::Searcher);
 
 impl Searcher {
-    /// Starts a search for a pattern of 1 to 64 characters in a roll of which nothing has come in yet.
+    /// Starts a search for a pattern of 1 to 64 characters without byte 10 in a roll of which nothing has come in yet.
     ///
     /// Of the record the table and h are looked at here, and n by [`Searcher::finish`]. A pattern with a character that
     /// is not in the table stands nowhere.

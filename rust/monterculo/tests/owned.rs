@@ -44,7 +44,9 @@ fn made_found_replaced() {
 /// The search that jumps finds what the plain one finds, and refuses what it refuses.
 #[test]
 fn both_searches_find_the_same() {
-    let text = [&MEMBERS.repeat(20)[..], b"aaaaaaaaaaaa"].concat();
+    // All in one line, so that any run of it may be sought.
+    let line: Vec<u8> = MEMBERS.iter().map(|&character| if character == b'\n' { b';' } else { character }).collect();
+    let text = [&line.repeat(20)[..], b"aaaaaaaaaaaa"].concat();
     for width in [Width::Two, Width::Four] {
         let roll = OwnedRoll::new(width, &text).unwrap();
         for length in [1, 2, 3, 4, 7, 16, 33, 64] {
@@ -68,6 +70,7 @@ fn both_searches_find_the_same() {
         assert_eq!(roll.find_jumping(b"pan#").unwrap(), []);
         assert_eq!(roll.find_jumping(b""), Err(Refusal::BadPattern { length: 0 }));
         assert_eq!(roll.find_jumping(&[b'a'; 65]), roll.find(&[b'a'; 65]));
+        assert_eq!(roll.find_jumping(b"pan 12\n"), Err(Refusal::NewlineInPattern { place: 6 }));
     }
 }
 
@@ -169,6 +172,7 @@ fn all_hits() {
     assert_eq!(roll.find(b"b").unwrap(), []);
     assert_eq!(roll.find(b""), Err(Refusal::BadPattern { length: 0 }));
     assert_eq!(roll.find(&[b'a'; 65]), Err(Refusal::BadPattern { length: 65 }));
+    assert_eq!(roll.find(b"a\na"), Err(Refusal::NewlineInPattern { place: 1 }));
 }
 
 /// Room is made up to the limit, and there the refusal stands.

@@ -4,7 +4,7 @@ use std::collections::HashSet;
 use std::error::Error;
 
 use monterculo::{
-    bytes_for, count, entries_for, read_frame, Codeword, OwnedRoll, Refusal, Roll, Searcher, Table, TableFault,
+    bytes_for, count, entries_for, read_frame, sys, Codeword, OwnedRoll, Refusal, Roll, Searcher, Table, TableFault,
 };
 
 /// A text packed with this table, in a buffer of just its size.
@@ -228,6 +228,68 @@ fn p15_pattern_lengths() {
     assert_eq!(refused(roll.search_jumping(&buf, b"", &mut [])), (11, 0));
 }
 
+/// Two lines are refused, whether they stand in the text or not; byte 13 is a character as any other.
+#[test]
+fn no_newline_in_a_pattern() {
+    let text = b"pan 7 Oda\r\npan 12 Jory\n";
+    for k in [2, 4] {
+        let (roll, buf) = packed(&chosen(k, text).0, text);
+        let mut last_of_64 = [b'a'; 64];
+        last_of_64[63] = b'\n';
+        for pattern in [&b"\n"[..], b"\npan", b"Oda\r\n", b"Oda\r\npan 12", b"#\n", &[b'\n'; 64], &last_of_64] {
+            let newline = Err(Refusal::NewlineInPattern { place: pattern.iter().position(|&c| c == b'\n').unwrap() });
+            let (mut hits, mut jumping) = ([9; 4], [9; 4]);
+            assert_eq!(roll.search(&buf, pattern, &mut hits).map(|_| ()), newline);
+            assert_eq!(roll.search_jumping(&buf, pattern, &mut jumping).map(|_| ()), newline);
+            assert_eq!((hits, jumping), ([9; 4], [9; 4]));
+            assert_eq!(roll.find(&buf, pattern).map(|_| ()), newline);
+            assert_eq!(roll.find_jumping(&buf, pattern).map(|_| ()), newline);
+            assert_eq!(Searcher::new(&roll, pattern).map(|_| ()), newline);
+            assert_eq!(refused(roll.search(&buf, pattern, &mut [])), (11, 0));
+            // What check refuses comes first, and in a searcher 1 and 5.
+            let wrong = Roll::new(roll.table().clone(), roll.n() + 1, roll.h());
+            assert_eq!(refused(wrong.search(&buf, pattern, &mut [])), (7, text.len() as u64));
+            assert_eq!(refused(wrong.search_jumping(&buf, pattern, &mut [])), (7, text.len() as u64));
+            assert_eq!(refused(Searcher::new(&wrong, pattern)), (11, 0));
+            assert_eq!(refused(Searcher::new(&Roll::new(roll.table().clone(), 0, 65_537), pattern)), (5, 65_537));
+            assert_eq!(refused(Searcher::new(&Roll::new(Table::new(2, 4, b"a"), 0, 65_537), pattern)), (1, 0));
+        }
+        assert_eq!(hits_of(&roll, &buf, b"Oda\r"), [6]);
+        assert_eq!(hits_of(&roll, &buf, b"\r"), [9]);
+        assert_eq!(Searcher::new(&roll, b"\r").unwrap().find(&buf), Ok(vec![9]));
+        assert_eq!(hits_of(&roll, &buf, b"Jory\r"), []);
+    }
+    let (roll, buf) = abracadabra();
+    assert_eq!(hits_of(&roll, &buf, b"a\r"), []);
+    assert_eq!(refused(roll.search(&buf, b"a\n", &mut [])), (11, 0));
+}
+
+/// Feed and finish refuse a searcher whose pattern has byte 10 as they refuse an empty pattern; past its length nothing is asked.
+#[test]
+fn no_newline_in_a_searcher() {
+    let places = b"abrcd".iter().copied().chain([0; 251]).collect::<Vec<u8>>().try_into().unwrap();
+    let table = sys::Table { k: 2, s: 3, sigma: 5, places };
+    let started = sys::start(sys::Roll { table, n: 11, h: 13 }, b"abra").searcher;
+    for place in 0..64 {
+        let mut searcher = started;
+        searcher.pattern[place] = b'\n';
+        let (fed, finished) = (sys::feed(searcher, &[0x18], &mut [0; 4]), sys::finish(searcher));
+        let (numbers, hits) = if place < 4 { ((11, 11), 0) } else { ((0, 6), 1) };
+        assert_eq!((fed.answer.number, finished.number), numbers);
+        assert_eq!((fed.answer.value, finished.value, fed.hits), (hits, 0, hits as usize));
+        if place < 4 {
+            assert_eq!(fed.searcher, searcher);
+            // 1 for the table and 5 come before, and 1 for the other numbers behind.
+            searcher.judge.progress.past = 2;
+            assert_eq!(sys::finish(searcher).number, 11);
+            searcher.judge.roll.h = 65_537;
+            assert_eq!(sys::finish(searcher).number, 5);
+            searcher.judge.roll.table.s = 0;
+            assert_eq!(sys::finish(searcher).number, 1);
+        }
+    }
+}
+
 #[test]
 fn p16_empty_range_at_the_end() {
     let (roll, buf) = packed(&chosen(2, b"abc").0, b"abc");
@@ -428,6 +490,8 @@ fn refusals_by_name() {
             "11: the pattern is empty"),
         (search(&[b'a'; 65]), Refusal::BadPattern { length: 65 },
             "11: the pattern has 65 characters, more than 64"),
+        (search(b"abra\nabra"), Refusal::NewlineInPattern { place: 4 },
+            "11: the pattern has a newline, at place 4"),
         (roll.make_directory(&buf, &mut []), Refusal::ShortDirectory { needed: 1 },
             "12: the directory is too short: entries needed are 1"),
         (range(2..7), Refusal::ShortOutput { needed: 5 },

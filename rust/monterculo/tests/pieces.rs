@@ -25,7 +25,7 @@ fn every_cutting_into_three() {
     for width in [Width::Two, Width::Four] {
         let roll = OwnedRoll::new(width, MEMBERS).unwrap();
         let (record, bytes, _) = roll.as_parts();
-        for pattern in [&b"pan"[..], b"55", b"5", b"pan 12 Jory 5550128\n", b"x"] {
+        for pattern in [&b"pan"[..], b"55", b"5", b"pan 12 Jory 5550128", b"x"] {
             let searcher = Searcher::new(record, pattern).unwrap();
             assert_eq!((searcher.roll(), searcher.pattern()), (record.clone(), pattern));
             let (whole, end) = fed(searcher.clone(), [bytes]);
@@ -89,6 +89,7 @@ fn refused_pieces_change_nothing() {
     assert_eq!(Searcher::new(&record(0, 65_537), b"").unwrap_err(), Refusal::LongRoll { h: 65_537 });
     assert_eq!(Searcher::new(&record(0, 65_536), b"").unwrap_err(), Refusal::BadPattern { length: 0 });
     assert_eq!(Searcher::new(&record(0, 9), &[b'a'; 65]).unwrap_err(), Refusal::BadPattern { length: 65 });
+    assert_eq!(Searcher::new(&record(0, 9), b"abra\n").unwrap_err(), Refusal::NewlineInPattern { place: 4 });
     assert_eq!(Searcher::new(&Roll::new(Table::new(3, 1, b"a"), 0, 65_537), b"").unwrap_err().number(), 1);
     let empty = Searcher::new(&record(1, 0), b"a").unwrap();
     assert_eq!(empty.finish(), Err(Refusal::BadCharacterCount { read: 0, n: 1 }));
