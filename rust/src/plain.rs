@@ -321,9 +321,13 @@ fn read_one_in<const K: usize>(roll: &Roll, buf: &[u8], directory: &[u32], place
 
 // Searching.
 
+fn good_pattern(pattern: &[u8]) -> bool {
+    (1..=PATTERN).contains(&pattern.len()) && !pattern.contains(&b'\n')
+}
+
 pub fn search(roll: &Roll, buf: &[u8], pattern: &[u8], hits: &mut [u32]) -> Answer<u32> {
     check(roll, buf)?;
-    if pattern.is_empty() || pattern.len() > PATTERN {
+    if !good_pattern(pattern) {
         return refuse(11, 0);
     }
     Ok(search_sound(roll, buf, pattern, hits))
@@ -387,7 +391,7 @@ fn search_in<const K: usize, const STRAIGHT: bool>(roll: &Roll, buf: &[u8], patt
 
 /// The same search where the text lies unpacked.
 pub fn search_text(text: &[u8], pattern: &[u8], hits: &mut [u32]) -> Answer<u32> {
-    if pattern.is_empty() || pattern.len() > PATTERN {
+    if !good_pattern(pattern) {
         return refuse(11, 0);
     }
     let mut found = 0;
@@ -823,7 +827,7 @@ pub fn unpack_straight(roll: &Roll, buf: &[u8], start: usize, end: usize, out: &
 
 pub fn search_straight(roll: &Roll, buf: &[u8], pattern: &[u8], hits: &mut [u32]) -> Answer<u32> {
     check_straight(roll, buf)?;
-    if pattern.is_empty() || pattern.len() > PATTERN {
+    if !good_pattern(pattern) {
         return refuse(11, 0);
     }
     match roll.table.k {

@@ -432,10 +432,15 @@ pub fn read_one(roll: &Roll, buf: &[u8], directory: &[u32], place: usize) -> Ans
     Ok(read_codeword(table, &list, &symbols, start)?.1)
 }
 
+/// 1 to 64 characters, and none of them byte 10.
+fn good_pattern(pattern: &[u8]) -> bool {
+    !pattern.is_empty() && pattern.len() <= PATTERN && !pattern.contains(&10)
+}
+
 /// The total of all hits.
 pub fn search(roll: &Roll, buf: &[u8], pattern: &[u8], hits: &mut [u32]) -> Answer<u32> {
     let text = read_all(roll, buf)?.text;
-    if pattern.is_empty() || pattern.len() > PATTERN {
+    if !good_pattern(pattern) {
         return refuse(11, 0);
     }
     let mut total = 0;
@@ -554,13 +559,13 @@ pub struct Searcher {
     pub ends: u64,
 }
 
-/// What start refuses.
-fn start_refusal(roll: &Roll, pattern: usize) -> Answer<()> {
+/// What start refuses, of a pattern that is good or not.
+fn start_refusal(roll: &Roll, good: bool) -> Answer<()> {
     table_refusal(&roll.table)?;
     if roll.h as usize > LIMIT {
         return refuse(5, roll.h as usize);
     }
-    if pattern == 0 || pattern > PATTERN {
+    if !good {
         return refuse(11, 0);
     }
     Ok(())
@@ -568,7 +573,7 @@ fn start_refusal(roll: &Roll, pattern: usize) -> Answer<()> {
 
 /// Beside a refusal stands the searcher of that roll for an empty pattern.
 pub fn start(roll: &Roll, pattern: &[u8]) -> (Answer<()>, Searcher) {
-    match start_refusal(roll, pattern.len()) {
+    match start_refusal(roll, good_pattern(pattern)) {
         Ok(()) => (Ok(()), fresh(roll, pattern)),
         Err(refused) => (Err(refused), fresh(roll, b"")),
     }
@@ -603,7 +608,7 @@ struct SoFar {
 
 impl Received {
     pub fn new(roll: &Roll, pattern: &[u8]) -> Answer<Received> {
-        start_refusal(roll, pattern.len())?;
+        start_refusal(roll, good_pattern(pattern))?;
         Ok(Received { roll: roll.clone(), pattern: pattern.to_vec(), bytes: Vec::new() })
     }
 
@@ -717,7 +722,9 @@ fn with_open(table: &Table, continuers: &[u8], progress: Progress) -> Progress {
 
 /// What feeding and finishing ask of a searcher, in which any numbers may stand.
 fn searcher_refusal(searcher: &Searcher) -> Answer<()> {
-    start_refusal(&searcher.roll, searcher.length as usize)?;
+    // With a length over 64 there is none.
+    let held = searcher.pattern.get(..searcher.length as usize);
+    start_refusal(&searcher.roll, held.map_or(false, good_pattern))?;
     let Progress { read, count, first, past, place, shorter, rows, value, bad, stained } = searcher.progress;
     let per_byte = per_byte(searcher.roll.table.k) as u32;
     let small = past <= 1 && place <= 2 && shorter <= 256 && rows <= 4_096 && value <= 256 && bad <= 1 && stained <= 1;
@@ -1027,7 +1034,7 @@ fn report_lines(input: &[u8]) -> Answer<Vec<u8>> {
         Some(newline) => (&input[..newline], &input[newline + 1..]),
         None => (input, &input[input.len()..]),
     };
-    if pattern.is_empty() || pattern.len() > PATTERN {
+    if !good_pattern(pattern) {
         return refuse(11, 0);
     }
     if text.len() > PROGRAM {
@@ -1462,6 +1469,13 @@ mod tests {
         fn text(&mut self, longest: usize, alphabet: usize) -> Vec<u8> {
             (0..self.below(longest + 1)).map(|_| self.below(alphabet) as u8).collect()
         }
+
+        /// 1 to 4 characters, and 13 for byte 10.
+        fn pattern(&mut self, alphabet: usize) -> Vec<u8> {
+            let mut pattern = self.text(3, alphabet);
+            pattern.push(self.below(alphabet) as u8);
+            pattern.iter().map(|&byte| if byte == 10 { 13 } else { byte }).collect()
+        }
     }
 
     /// Of each width what is chosen for these counts, which is what these others would be without the rule.
@@ -1562,9 +1576,7 @@ mod tests {
             for (place, &character) in text.iter().enumerate() {
                 assert_eq!(read_one(&roll, &buf, &directory, place), Ok(character));
             }
-            let mut pattern = dice.text(3, alphabet);
-            pattern.push(dice.below(alphabet) as u8);
-            found(&roll, &buf, &pattern);
+            found(&roll, &buf, &dice.pattern(alphabet));
 
             let start = dice.below(text.len() + 1);
             let end = start + dice.below(text.len() - start + 1);
@@ -1595,6 +1607,26 @@ mod tests {
                 assert_eq!(buf[run_end..], before[run_end..]);
             }
         }
+    }
+
+    #[test]
+    fn byte_10_in_a_pattern() {
+        let text = b"ab\r\nab\n\n";
+        let (roll, buf) = rolled(&given(2, 3, b"ab\r\n"), text, 8);
+        let mut last_of_64 = [b'a'; 64];
+        last_of_64[63] = b'\n';
+        for pattern in [&b"\n"[..], b"\nab", b"b\n", b"\r\na", b"x\n", b"\n\n", &last_of_64, &[b'\n'; 64]] {
+            let mut hits = [7; 4];
+            assert_eq!((refused(search(&roll, &buf, pattern, &mut hits)), hits), ((11, 0), [7; 4]));
+            assert_eq!(refused(start(&roll, pattern).0), (11, 0));
+            assert_eq!(start(&roll, pattern).1, start(&roll, b"").1);
+            // What is asked before it.
+            assert_eq!(refused(search(&Roll { n: 7, ..roll.clone() }, &buf, pattern, &mut hits)), (7, 8));
+            assert_eq!(refused(start(&Roll { h: 65_537, ..roll.clone() }, pattern).0), (5, 65_537));
+        }
+        // Byte 13 is a character as any other.
+        assert_eq!([found(&roll, &buf, b"b\r"), found(&roll, &buf, b"ab")], [vec![1], vec![0, 4]]);
+        assert_eq!(start(&roll, b"\r").0, Ok(()));
     }
 
     /// A searcher fed in both ways: all kept and read anew, and by its numbers alone.
@@ -1797,6 +1829,11 @@ mod tests {
         assert_eq!(with(|searcher| (searcher.roll.h, searcher.length) = (65_537, 0)), (5, 5));
         assert_eq!(with(|searcher| (searcher.length, searcher.progress.past) = (0, 2)), (11, 11));
         assert_eq!(with(|searcher| searcher.length = 65), (11, 11));
+        assert_eq!(with(|searcher| searcher.pattern[0] = 10), (11, 11));
+        assert_eq!(with(|searcher| searcher.pattern[3] = 10), (11, 11));
+        assert_eq!(with(|searcher| (searcher.pattern[3], searcher.progress.past) = (10, 2)), (11, 11));
+        assert_eq!(with(|searcher| (searcher.pattern[3], searcher.roll.h) = (10, 65_537)), (5, 5));
+        assert_eq!(with(|searcher| (searcher.pattern[3], searcher.roll.table.s) = (10, 4)), (1, 1));
         // Within their bounds all are taken as they are.
         assert_eq!(with(|searcher| (searcher.progress.read, searcher.progress.bad) = (9, 1)), (6, 6));
         assert_eq!(with(|searcher| searcher.progress.read = 13), (5, 7));
@@ -1808,6 +1845,7 @@ mod tests {
         assert_eq!(with(|searcher| (searcher.progress.past, searcher.progress.shorter) = (1, 0)), (6, 6));
         // The pattern's places past its length are kept, and not looked at.
         assert_eq!(with(|searcher| searcher.pattern[4..].fill(b'a')), (0, 6));
+        assert_eq!(with(|searcher| searcher.pattern[4..].fill(10)), (0, 6));
     }
 
     /// What reading a frame text answers, and that a refusal writes nothing and answers zeros.
@@ -1960,8 +1998,7 @@ mod tests {
                 buf.truncate(bytes_for(k, roll.h as usize));
             }
             roll.n += (dice.below(6) == 0) as u32;
-            let mut pattern = dice.text(3, alphabet);
-            pattern.push(dice.below(alphabet) as u8);
+            let pattern = dice.pattern(alphabet);
             let mut ends: Option<Both> = None;
             for cutting in 0..4 {
                 let mut both = Both::start(&roll, &pattern);

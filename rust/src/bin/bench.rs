@@ -275,19 +275,26 @@ impl Case {
         Case { name: format!("{}, k {}", name, k), text, roll, buf, directory }
     }
 
-    /// A run of its text, at two thirds of it.
-    fn pattern(&self, length: usize) -> &[u8] {
-        &self.text[self.text.len() * 2 / 3..][..length]
+    /// The run of so many characters of one line that is nearest to a place, as no pattern has byte 10.
+    fn run(&self, place: usize, length: usize) -> &[u8] {
+        let run = |start: usize| &self.text[start..start + length];
+        let starts = (0..=self.text.len() - length).filter(|&start| !run(start).contains(&b'\n'));
+        run(starts.min_by_key(|start| start.abs_diff(place)).expect("some line is long enough"))
     }
 
-    /// Runs of its text, spread over it, the last near its end; and some that stand nowhere: the halves of a run, the
-    /// second first.
+    /// A run of its text, at two thirds of it.
+    fn pattern(&self, length: usize) -> &[u8] {
+        self.run(self.text.len() * 2 / 3, length)
+    }
+
+    /// The runs of its text nearest to places spread over it; and some that stand nowhere: two runs of half the length, the
+    /// later first. Few lines of the member roll have 32 characters, so runs of 32 come again, and not near their places.
     fn patterns(&self, length: usize) -> Vec<Vec<u8>> {
         let last = self.text.len() - length;
-        let run = |place: usize| self.text[place..place + length].to_vec();
+        let run = |place: usize| self.run(place, length).to_vec();
         let mut patterns: Vec<Vec<u8>> = (1..=STANDING).map(|number| run(last * number / STANDING - 9)).collect();
-        let turned =
-            |place: usize| [&self.text[place + length / 2..][..length / 2], &run(place)[..length / 2]].concat();
+        let half = length / 2;
+        let turned = |place: usize| [self.run(place + half, half), self.run(place, half)].concat();
         let stands = |pattern: &Vec<u8>| self.text.windows(length).any(|at| at == pattern);
         for number in 1..=ABSENT {
             let absent = (last * number / (ABSENT + 1)..last).map(turned).find(|pattern| !stands(pattern));

@@ -21,13 +21,15 @@ pub struct Coming {
 /// A roll of about so many characters and what comes of it; with none, one or several faults.
 pub fn coming(rng: &mut Rng, length: usize) -> Coming {
     use Fault::*;
+    // Room twice, so that 5 comes in a few thousand calls too.
     #[rustfmt::skip]
-    let faults = faults(rng, &[Table, OtherTable, Room, Rank, Rank, Rank, Unfinished, Unfinished, Count, Length, Unused, Unused, Unused, Bits, Pattern]);
+    let faults = faults(rng, &[Table, OtherTable, Room, Room, Rank, Rank, Rank, Unfinished, Unfinished, Count, Length, Unused, Unused, Unused, Bits, Pattern]);
     let table = table_to_search(rng);
     let made = rolls::roll_of(rng, table, length, &faults);
-    let mut pattern = pattern(rng, &made.under, &made.cut().0);
+    let text = made.cut().0;
+    let mut pattern = pattern(rng, &made.under, &text);
     if faults.contains(&Pattern) {
-        pattern = bad_pattern(rng, &pattern);
+        pattern = bad_pattern(rng, &pattern, &text);
     }
     cut_off(rng, made.roll(), made.buf, pattern)
 }
@@ -134,6 +136,12 @@ pub fn fed_searcher(rng: &mut Rng) -> Searcher {
     }
 }
 
+/// The pattern that a searcher holds, and what lies behind it; of a length over 64 none.
+pub fn held(searcher: &Searcher) -> (&[u8], &[u8]) {
+    let length = searcher.length as usize;
+    searcher.pattern.split_at(if length <= PATTERN { length } else { 0 })
+}
+
 /// A searcher that nothing made: each of its numbers within its bounds, or one or two not; seldom one that was fed.
 pub fn any_searcher(rng: &mut Rng) -> Searcher {
     let mut searcher = if rng.one_in(4) { fed_searcher(rng) } else { small_searcher(rng) };
@@ -159,6 +167,8 @@ fn small_searcher(rng: &mut Rng) -> Searcher {
     let mut pattern = [0; PATTERN];
     let few = rng.between(1, 3).min(usize::from(table.sigma).max(1));
     pattern.fill_with(|| table.places[rng.below(few)]);
+    // A good pattern has no byte 10.
+    pattern.iter_mut().filter(|character| **character == 10).for_each(|character| *character = 13);
     let (bits, fewer) = (rng.next(), rng.next() & rng.next());
     let ends = rng.pick(&[u64::MAX, bits, fewer, 0]) & ((1 << count.min(length - 1)) - 1);
     let near = rng.pick(&[count, count, count, count + 1, count + 65_536]) as u32;
@@ -195,7 +205,7 @@ fn spoil(rng: &mut Rng, searcher: &mut Searcher) {
     let over = |rng: &mut Rng, most: u32| most.saturating_add(rng.pick(&[1, 1, 1, 2, 256, far, u32::MAX]));
     let Searcher { judge: Judge { roll, progress }, pattern, length, ends } = searcher;
     let beginnings = progress.count.min(length.saturating_sub(1)).min(63);
-    match rng.below(20) {
+    match rng.below(25) {
         0 => progress.past = over(rng, 1),
         1 => progress.place = over(rng, 2),
         2 => progress.shorter = over(rng, 256),
@@ -213,8 +223,17 @@ fn spoil(rng: &mut Rng, searcher: &mut Searcher) {
         15 => spoil_table(rng, &mut roll.table),
         16 => roll.h = over(rng, LIMIT as u32),
         17 => *length = rng.pick(&[0, 0, 65, 66, 256, length.wrapping_add(256), u32::MAX]),
+        18..=21 => {
+            if rng.one_in(3) {
+                *length = PATTERN as u32;
+            }
+            let last = (*length as usize).clamp(1, PATTERN) - 1;
+            let (any, before) = (rng.between(0, last), last.saturating_sub(1));
+            pattern[rng.pick(&[0, last, last, any, any, before])] = 10;
+        }
         // No fault: it is not looked at.
-        18 => pattern[*length as usize % PATTERN..].fill_with(|| rng.byte()),
+        22 => pattern[PATTERN.min(*length as usize)..].fill_with(|| rng.byte()),
+        23 => pattern[PATTERN.min(*length as usize)..].fill(10),
         _ => {
             progress.count = 0;
             *ends |= 1;

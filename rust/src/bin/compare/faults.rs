@@ -3,6 +3,7 @@
 use monterculo_reference::reference::PATTERN;
 
 use crate::rng::Rng;
+use crate::texts::over_lines;
 
 #[derive(Clone, Copy, PartialEq)]
 pub enum Fault {
@@ -94,8 +95,11 @@ pub fn wrong_entry(rng: &mut Rng, entry: u32, h: u32) -> u32 {
     }
 }
 
-/// A pattern that refusal 11 names, from one that it does not.
-pub fn bad_pattern(rng: &mut Rng, pattern: &[u8]) -> Vec<u8> {
+/// A pattern that refusal 11 names, from one that it does not and the text: with byte 10, or of a bad length.
+pub fn bad_pattern(rng: &mut Rng, pattern: &[u8], text: &[u8]) -> Vec<u8> {
+    if rng.below(5) < 3 {
+        return over_lines(rng, pattern, text);
+    }
     let any = rng.between(PATTERN + 1, 400);
     let length = rng.pick(&[0, 0, PATTERN + 1, PATTERN + 1, PATTERN + 2, 256 + pattern.len(), any]);
     pattern.iter().copied().cycle().take(length).collect()

@@ -4,8 +4,10 @@ use monterculo::sys::{Answer, Fed, Judge, Progress, Searcher};
 use monterculo_reference::library::done;
 use monterculo_reference::reference::{self, symbols_of};
 
-use crate::planted::says;
+use crate::coming::held;
+use crate::planted::{says, takes_byte_10};
 use crate::rolls::{bytes_for, per_byte};
+use crate::texts::is_over_lines;
 
 /// What feeding answers and writes with this error, or with none.
 pub fn feed(searcher: Searcher, piece: &[u8], slice: &mut [u32], error: &str) -> Fed {
@@ -271,22 +273,31 @@ pub fn finish(searcher: Searcher, error: &str) -> Answer {
 
 /// What is refused of the searcher itself, feeding and finishing alike.
 fn asked(searcher: &Searcher, error: &str) -> Option<Answer> {
-    let Searcher { judge: Judge { roll, progress }, pattern, length, .. } = searcher;
+    let Searcher { judge: Judge { roll, progress }, length, .. } = searcher;
     let right = of_itself(searcher);
     let out_of_bounds = || {
         let mut started = *searcher;
         started.judge.roll.h = roll.h.min(65_536);
         started.length = (*length).clamp(1, 64);
+        started.pattern = [0; 64];
         of_itself(&started).number == 1
     };
+    let (held, behind) = held(searcher);
+    let over_lines = is_over_lines(held);
     let is_fresh = progress.place == 0 && progress.shorter == 0 && progress.rows == 1 && progress.value == 0;
     match (error, right.number) {
         ("asks bounds before 11", 11) if out_of_bounds() => Some(says(1, 0)),
         ("asks bounds before 5", 5) if out_of_bounds() => Some(says(1, 0)),
         ("asks 11 before 5", 5) if *length == 0 || *length > 64 => Some(says(11, 0)),
-        ("looks behind the pattern", 0) if pattern[*length as usize..] != [0; 64][*length as usize..] => {
-            Some(says(1, 0))
+        ("asks bounds before byte 10", 11) if over_lines && out_of_bounds() => Some(says(1, 0)),
+        ("asks for byte 10 before 5", 5) if over_lines => Some(says(11, 0)),
+        ("asks for byte 10 first", 1 | 5) if over_lines => Some(says(11, 0)),
+        ("answers where byte 10 is", 11) if over_lines => {
+            Some(says(11, held.iter().position(|&byte| byte == 10).unwrap_or(0)))
         }
+        ("looks for byte 10 behind the pattern", 0) if behind.contains(&10) => Some(says(11, 0)),
+        ("refuses byte 13", 0) if held.contains(&13) => Some(says(11, 0)),
+        ("looks behind the pattern", 0) if behind.iter().any(|&byte| byte != 0) => Some(says(1, 0)),
         ("wants a fresh state where no codeword is open", 0) if progress.first == progress.read && !is_fresh => {
             Some(says(1, 0))
         }
@@ -305,10 +316,10 @@ fn of_itself(searcher: &Searcher) -> Answer {
     }
 }
 
-/// Whether this error takes a searcher that is refused for a single number.
+/// Whether this error takes a searcher that is refused for a single number, or for its pattern.
 fn forgiven(searcher: &Searcher, error: &str) -> bool {
     let mut right = *searcher;
-    let Searcher { judge: Judge { roll, progress }, length, ends, .. } = &mut right;
+    let Searcher { judge: Judge { roll, progress }, pattern, length, ends } = &mut right;
     let (few, short) = (progress.count.min(63), length.saturating_sub(1).min(63));
     match error {
         "asks no past" => progress.past = 0,
@@ -325,7 +336,9 @@ fn forgiven(searcher: &Searcher, error: &str) -> bool {
         "asks no beginnings of characters" if *ends < 1 << short => *ends = 0,
         "asks no beginnings of the pattern" if *ends < 1 << few => *ends = 0,
         "asks no limit" => roll.h = 65_536,
-        "asks no length" => *length = 64,
+        // What lies behind a pattern may have byte 10.
+        "asks no length" => (*pattern, *length) = ([0; 64], 64),
+        _ if takes_byte_10(error, &roll.table, held(searcher).0) => pattern.fill(0),
         _ => return false,
     }
     of_itself(&right).number == 0

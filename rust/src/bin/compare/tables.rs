@@ -72,8 +72,35 @@ pub fn table_with(rng: &mut Rng, k: u8, s: u8, sigma: usize) -> Table {
     Table { k, s, sigma: sigma as u16, places }
 }
 
-/// Mostly few characters, so that patterns come again and codewords stand inside others.
+/// Makes this the character of a rank; the rank that had it takes what that one had.
+pub fn give(table: &mut Table, rank: usize, character: u8) {
+    if let Some(had) = characters(table).iter().position(|&other| other == character) {
+        table.places[had] = table.places[rank];
+    }
+    table.places[rank] = character;
+}
+
+/// Bytes 10 and 13 among the first ranks, so that a text has lines.
+fn give_line_ends(rng: &mut Rng, table: &mut Table) {
+    let few = usize::from(table.sigma).min(9);
+    if few > 0 {
+        give(table, rng.below(few), 10);
+    }
+    if few > 1 && rng.one_in(2) {
+        give(table, rng.below(few), 13);
+    }
+}
+
+/// Mostly few characters, so that patterns come again and codewords stand inside others; now and then with line ends.
 pub fn table_to_search(rng: &mut Rng) -> Table {
+    let mut table = any_table_to_search(rng);
+    if rng.one_in(3) {
+        give_line_ends(rng, &mut table);
+    }
+    table
+}
+
+fn any_table_to_search(rng: &mut Rng) -> Table {
     let k = rng.pick(&[2, 4]);
     match rng.below(8) {
         0..=2 => {

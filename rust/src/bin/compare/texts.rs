@@ -1,8 +1,12 @@
-//! What texts and rolls are made of: ranks, foreign characters, codewords that are none; and what is looked for in them.
+//! What texts and rolls are made of: ranks, foreign characters, codewords that are none; and what is looked for in them,
+//! with line ends or without.
 
 use monterculo::sys::Table;
 use monterculo_reference::reference::{codeword_by_rule, listing, ALWAYS, PATTERN};
 
+use crate::operation::Corners;
+#[cfg(test)]
+use crate::operation::Operation;
 use crate::rng::Rng;
 use crate::tables::characters;
 
@@ -108,8 +112,38 @@ fn piece(rng: &mut Rng, text: &[u8]) -> Vec<u8> {
     text[start..start + length].to_vec()
 }
 
-/// A pattern of 1 to 64 characters, mostly one that stands in the text or nearly does.
+/// A piece of the text of 1 to 64 characters that begins or ends with this byte or has it inside, if the text has it.
+fn piece_with(rng: &mut Rng, text: &[u8], byte: u8) -> Option<Vec<u8>> {
+    let places: Vec<usize> = (0..text.len()).filter(|&place| text[place] == byte).collect();
+    if places.is_empty() {
+        return None;
+    }
+    let place = rng.pick(&places);
+    let before = rng.pick(&[0, 1, 3, 31]).min(place);
+    let behind = rng.pick(&[0, 1, 3, PATTERN - 32]).min(text.len() - 1 - place);
+    Some(text[place - before..=place + behind].to_vec())
+}
+
+/// A good pattern: 1 to 64 characters without byte 10, mostly one that stands in the text or nearly does.
 pub fn pattern(rng: &mut Rng, table: &Table, text: &[u8]) -> Vec<u8> {
+    let mut pattern = any_pattern(rng, table, text);
+    // Byte 13 is a character as any other: where it stands in the text, or put in.
+    if rng.one_in(16) {
+        let put = rng.below(pattern.len());
+        let place = rng.pick(&[0, pattern.len() - 1, put]);
+        pattern[place] = 13;
+        pattern = piece_with(rng, text, 13).unwrap_or(pattern);
+    }
+    // The longest of its lines.
+    let line = pattern.split(|&byte| byte == 10).max_by_key(|line| line.len());
+    match line.filter(|line| !line.is_empty()) {
+        Some(line) => line.to_vec(),
+        None => vec![13; pattern.len()],
+    }
+}
+
+/// A pattern of 1 to 64 characters, perhaps with byte 10 among them.
+fn any_pattern(rng: &mut Rng, table: &Table, text: &[u8]) -> Vec<u8> {
     let characters = characters(table);
     if text.is_empty() || characters.is_empty() {
         let length = rng.between(1, PATTERN);
@@ -150,4 +184,81 @@ pub fn pattern(rng: &mut Rng, table: &Table, text: &[u8]) -> Vec<u8> {
         _ => {}
     }
     pattern
+}
+
+/// Byte 10 in a good pattern, or where the text has it: refused whatever stands around it.
+pub fn over_lines(rng: &mut Rng, pattern: &[u8], text: &[u8]) -> Vec<u8> {
+    let of_length = |length: usize| pattern.iter().copied().cycle().take(length);
+    let (any, half) = (rng.below(pattern.len()), pattern.len().min(31));
+    let mut over = pattern.to_vec();
+    match rng.below(17) {
+        0 => over = vec![10],
+        1 => over = vec![10; rng.pick(&[2, 3, PATTERN, PATTERN + 1])],
+        2 | 3 => over[0] = 10,
+        4 | 5 => over[pattern.len() - 1] = 10,
+        6 => over[any] = 10,
+        // Two lines, with byte 13 or without.
+        7 => over = [&pattern[..half], b"\n", &pattern[..half]].concat(),
+        8 => over = [&pattern[..half], b"\r\n", &pattern[..half]].concat(),
+        // The last of 64, and of 65.
+        9 => over = of_length(PATTERN - 1).chain([10]).collect(),
+        10 => over = of_length(PATTERN).chain([10]).collect(),
+        _ => match piece_with(rng, text, 10) {
+            Some(piece) => over = piece,
+            None => over.insert(rng.pick(&[0, any, pattern.len()]), 10),
+        },
+    }
+    over
+}
+
+/// Whether its length is good and a byte 10 is all that is bad in it.
+pub fn is_over_lines(pattern: &[u8]) -> bool {
+    pattern.len() <= PATTERN && pattern.contains(&10)
+}
+
+/// Names of corners: where the only byte 10 of a pattern stands.
+pub struct LineEnds {
+    pub alone: &'static str,
+    pub first: &'static str,
+    pub last: &'static str,
+    pub between: &'static str,
+    /// In a pattern of 64 characters, and of 65.
+    pub last_of_64: &'static str,
+    pub last_of_65: &'static str,
+    pub behind_13: &'static str,
+}
+
+impl LineEnds {
+    /// Of a pattern that is refused 11.
+    pub fn meet(&self, pattern: &[u8], met: &mut Corners) {
+        let places: Vec<usize> = (0..pattern.len()).filter(|&place| pattern[place] == 10).collect();
+        let (place, length) = match places[..] {
+            [place] => (place, pattern.len()),
+            _ => return,
+        };
+        let (good, last) = (length <= PATTERN, place + 1 == length);
+        met.meet(length == 1, self.alone);
+        met.meet(good && length > 1 && place == 0, self.first);
+        met.meet(good && length > 1 && last, self.last);
+        met.meet(good && place > 0 && !last, self.between);
+        met.meet(length == PATTERN && last, self.last_of_64);
+        met.meet(length == PATTERN + 1 && last, self.last_of_65);
+        met.meet(good && place > 0 && pattern[place - 1] == 13, self.behind_13);
+    }
+
+    /// That each of these and of other corners is met by so many cases, and that about one pattern in ten has byte 10.
+    #[cfg(test)]
+    pub fn hold<O: Operation>(&self, others: &[&str], make: fn(&mut Rng) -> O, pattern: fn(&O) -> &[u8]) {
+        let (cases, mut over, mut met) = (6_000, 0, Corners::default());
+        for call in 0..cases {
+            let case = make(&mut Rng::of_call(5, call));
+            over += u64::from(pattern(&case).contains(&10));
+            case.corners(&case.clone().reference(), &mut met);
+        }
+        let LineEnds { alone, first, last, between, last_of_64, last_of_65, behind_13 } = self;
+        for name in [alone, first, last, between, last_of_64, last_of_65, behind_13].into_iter().chain(others) {
+            assert!(met.0.contains(name), "{}", name);
+        }
+        assert!((cases / 16..cases / 7).contains(&over), "{}", over);
+    }
 }

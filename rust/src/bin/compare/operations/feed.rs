@@ -4,7 +4,7 @@ use monterculo::sys::{self, Answer, Fed, Searcher};
 use monterculo_reference::library::{done, fed, started};
 use monterculo_reference::reference::{self, Received, LIMIT};
 
-use crate::coming::{any_searcher, coming, coming_long, cut, Coming};
+use crate::coming::{any_searcher, coming, coming_long, cut, held, Coming};
 #[cfg(test)]
 use crate::in_pieces;
 use crate::lent::Lent;
@@ -12,6 +12,7 @@ use crate::long_rolls::LONG;
 use crate::operation::{Answered, Cases, Corners, Operation};
 use crate::rng::Rng;
 use crate::rolls::{bytes_for, per_byte};
+use crate::texts::is_over_lines;
 
 #[derive(Clone, Debug, PartialEq)]
 pub struct Feed {
@@ -100,6 +101,9 @@ impl Operation for Feed {
             met.meet(number == 0 && !bytes.is_empty(), "pieces fed to a searcher that nothing made");
             met.meet(number == 0 && told.fed.hits > 0, "hits named by a searcher that nothing made");
             met.meet(self.may_change(told.fed.answer), "bad codewords met by a searcher that nothing made");
+            let (held, behind) = held(&self.searcher);
+            met.meet(number == 11 && is_over_lines(held), "pieces refused for byte 10 in the searcher");
+            met.meet(number == 0 && behind.contains(&10), "pieces fed with byte 10 behind the pattern");
             return;
         }
         let (table, h) = (self.searcher.judge.roll.table, self.searcher.judge.roll.h);
@@ -225,6 +229,18 @@ impl Operation for Feed {
         "asks bounds before 11",
         "asks bounds before 5",
         "asks 11 before 5",
+        "takes byte 10",
+        "takes byte 10 alone",
+        "takes byte 10 at the front",
+        "takes byte 10 at the end",
+        "takes byte 10 in the middle",
+        "takes byte 10 behind 63 others",
+        "asks bounds before byte 10",
+        "asks for byte 10 before 5",
+        "asks for byte 10 first",
+        "answers where byte 10 is",
+        "looks for byte 10 behind the pattern",
+        "refuses byte 13",
         "looks behind the pattern",
         "clears what is behind the pattern",
         "wants a fresh state where no codeword is open",

@@ -4,11 +4,12 @@ use monterculo::sys::{self, Answer, Searcher};
 use monterculo_reference::library::done;
 use monterculo_reference::reference;
 
-use crate::coming::{any_searcher, fed_searcher};
+use crate::coming::{any_searcher, fed_searcher, held};
 #[cfg(test)]
 use crate::in_pieces;
 use crate::operation::{Cases, Corners, Operation};
 use crate::rng::Rng;
+use crate::texts::is_over_lines;
 
 #[derive(Clone, Debug, PartialEq)]
 pub struct Finish {
@@ -36,6 +37,7 @@ impl Operation for Finish {
     fn corners(&self, answer: &Answer, met: &mut Corners) {
         let (roll, progress) = (self.searcher.judge.roll, self.searcher.judge.progress);
         let too_soon = progress.bad == 0 && progress.read < roll.h;
+        let (held, behind) = held(&self.searcher);
         match answer.number {
             6 => {
                 met.meet(too_soon && progress.first < progress.read, "finishings too soon, with a codeword open");
@@ -45,7 +47,11 @@ impl Operation for Finish {
                 met.meet(progress.stained == 1, "finishings refused 6 with a stain too");
             }
             7 => met.meet(progress.stained == 1, "finishings refused 7 with a stain too"),
-            0 => met.meet(roll.h == 0, "finishings of a roll without symbols"),
+            11 => met.meet(is_over_lines(held), "finishings refused for byte 10 in the searcher"),
+            0 => {
+                met.meet(roll.h == 0, "finishings of a roll without symbols");
+                met.meet(behind.contains(&10), "finishings with byte 10 behind the pattern");
+            }
             _ => {}
         }
     }
@@ -82,6 +88,18 @@ impl Operation for Finish {
         "asks bounds before 11",
         "asks bounds before 5",
         "asks 11 before 5",
+        "takes byte 10",
+        "takes byte 10 alone",
+        "takes byte 10 at the front",
+        "takes byte 10 at the end",
+        "takes byte 10 in the middle",
+        "takes byte 10 behind 63 others",
+        "asks bounds before byte 10",
+        "asks for byte 10 before 5",
+        "asks for byte 10 first",
+        "answers where byte 10 is",
+        "looks for byte 10 behind the pattern",
+        "refuses byte 13",
         "looks behind the pattern",
         "wants a fresh state where no codeword is open",
         "answers h with 1",

@@ -8,11 +8,11 @@ use crate::faults::{bad_pattern, faults, Fault};
 use crate::lent::Lent;
 use crate::operation::{Answered, Cases, Corners, Operation};
 #[cfg(test)]
-use crate::planted::{good_if_wrapped, says};
+use crate::planted::{good_if_wrapped, says, takes_byte_10};
 use crate::rng::Rng;
 use crate::rolls::{fills_window, per_byte, roll_of, starts};
 use crate::tables::{characters, lengths, table_to_search};
-use crate::texts::pattern;
+use crate::texts::{is_over_lines, pattern, LineEnds};
 
 #[derive(Clone, Debug, PartialEq)]
 pub struct Search {
@@ -102,20 +102,20 @@ impl Search {
             "misses the first hit" if !all.is_empty() => drop(all.remove(0)),
             "misses the last hit" => drop(all.pop()),
             "lists a hit twice" if !all.is_empty() => all.insert(0, all[0]),
-            "finds a near miss at the front" => all = self.hits_without(0),
-            "finds a near miss in the middle" => all = self.hits_without(pattern.len() / 2),
-            "finds a near miss at the end" => all = self.hits_without(pattern.len() - 1),
+            "finds a near miss at the front" => all = self.hits_but(|place| place == 0),
+            "finds a near miss in the middle" => all = self.hits_but(|place| place == pattern.len() / 2),
+            "finds a near miss at the end" => all = self.hits_but(|place| place == pattern.len() - 1),
             _ => return None,
         }
         Some(all)
     }
 
-    /// Where the pattern stands in the roll, which is sound, but perhaps for the character at this place of it.
-    #[cfg(test)]
-    fn hits_without(&self, place: usize) -> Vec<u32> {
+    /// Where the pattern, be it good or not, stands in the text of the roll, which is sound; at the places passed over
+    /// the characters may differ.
+    fn hits_but(&self, passed: impl Fn(usize) -> bool) -> Vec<u32> {
         let mut text = vec![0; self.roll.n as usize];
         reference::unpack(&self.roll.into(), &self.buf, 0, text.len(), &mut text).expect("a sound roll");
-        let same = |at: &[u8]| (0..at.len()).all(|number| number == place || at[number] == self.pattern[number]);
+        let same = |at: &[u8]| (0..at.len()).all(|number| passed(number) || at[number] == self.pattern[number]);
         let near = text.windows(self.pattern.len()).enumerate().filter(|&(_, at)| same(at));
         near.map(|(hit, _)| hit as u32).collect()
     }
@@ -126,12 +126,15 @@ impl Search {
     pub fn wrong(&self, error: &str, slice: &mut [u32]) -> Answer {
         let Search { roll, buf, pattern, hits, .. } = self;
         let answer = told(reference::search(&(*roll).into(), buf, pattern, slice));
-        if answer.number == 0 {
-            if let Some(all) = self.wrong_hits(error) {
-                slice.copy_from_slice(hits);
-                slice.iter_mut().zip(&all).for_each(|(entry, &hit)| *entry = hit);
-                return says(0, all.len());
-            }
+        let listed = match answer.number {
+            0 => self.wrong_hits(error),
+            11 if takes_byte_10(error, &roll.table, pattern) => Some(self.hits_but(|_| false)),
+            _ => None,
+        };
+        if let Some(all) = listed {
+            slice.copy_from_slice(hits);
+            slice.iter_mut().zip(&all).for_each(|(entry, &hit)| *entry = hit);
+            return says(0, all.len());
         }
         let total = answer.value as usize;
         let foreign = || pattern.iter().position(|byte| !characters(&roll.table).contains(byte));
@@ -144,6 +147,13 @@ impl Search {
             ("lists one hit fewer", 0) if total > 0 && total <= slice.len() => slice[total - 1] = hits[total - 1],
             ("asks 11 first", 5..=8) if pattern.is_empty() || pattern.len() > PATTERN => return says(11, 0),
             ("asks 11 before 8", 8) if pattern.is_empty() || pattern.len() > PATTERN => return says(11, 0),
+            ("asks for byte 10 first", 1 | 5..=8) if is_over_lines(pattern) => return says(11, 0),
+            ("asks for byte 10 before 8", 8) if is_over_lines(pattern) => return says(11, 0),
+            ("answers where byte 10 is", 11) if is_over_lines(pattern) => {
+                return says(11, pattern.iter().position(|&byte| byte == 10).unwrap_or(0));
+            }
+            ("refuses byte 13", 0) if pattern.contains(&13) => return says(11, 0),
+            ("refuses byte 13 at the end", 0) if pattern.last() == Some(&13) => return says(11, 0),
             ("refuses a foreign character", 0) => {
                 if let Some(place) = foreign() {
                     return says(3, place);
@@ -184,10 +194,18 @@ impl Operation for Search {
     }
 
     fn corners(&self, both: &Both, met: &mut Corners) {
-        if both.plain.number != 0 {
-            return;
-        }
         let Search { roll, buf, pattern, hits, .. } = self;
+        match both.plain.number {
+            0 => {}
+            11 => {
+                LINE_ENDS.meet(pattern, met);
+                let known = characters(&roll.table).contains(&10);
+                met.meet(is_over_lines(pattern) && !known, "patterns with byte 10, which the table has not");
+                let stands = is_over_lines(pattern) && !self.hits_but(|_| false).is_empty();
+                return met.meet(stands, "patterns with byte 10 that stand in the text");
+            }
+            _ => return met.meet(is_over_lines(pattern), "patterns with byte 10 where check refuses"),
+        }
         let packed = self.packed();
         met.meet(packed.is_none(), "patterns with a character not in the table");
         met.meet(pattern.len() > roll.n as usize, "patterns longer than the text");
@@ -195,6 +213,9 @@ impl Operation for Search {
         let total = all.len();
         met.meet(total > 0 && pattern.len() == roll.n as usize, "patterns that are the whole text");
         met.meet(total > 0 && pattern.len() == PATTERN, "patterns of 64 characters found");
+        met.meet(total > 0 && pattern.contains(&13), "patterns with byte 13 found");
+        let known = characters(&roll.table).contains(&13);
+        met.meet(pattern.contains(&13) && !known, "patterns with byte 13, which the table has not");
         met.meet(total > hits.len(), "lists too short for the hits");
         met.meet(total > 0 && total == hits.len(), "lists as long as the hits");
         met.meet(total < hits.len(), "lists longer than the hits");
@@ -238,8 +259,23 @@ impl Operation for Search {
         "refuses a foreign character",
         "refuses 64 characters",
         "finds the empty pattern",
+        "takes byte 10",
+        "takes byte 10 alone",
+        "takes byte 10 at the front",
+        "takes byte 10 at the end",
+        "takes byte 10 in the middle",
+        "takes byte 10 behind 63 others",
+        "takes byte 10 behind byte 13",
+        "takes byte 10 where the table has it",
+        "takes byte 10 where the table has it not",
+        "asks for byte 10 first",
+        "asks for byte 10 before 8",
+        "answers where byte 10 is",
+        "refuses byte 13",
+        "refuses byte 13 at the end",
         "wraps at 32 bits",
         "writes though refused",
+        "jumping: takes byte 10",
         "jumping: takes any match of symbols",
         "jumping: counts one hit fewer",
         "jumping: misses the last hit",
@@ -263,6 +299,16 @@ impl Operation for Search {
     }
 }
 
+pub const LINE_ENDS: LineEnds = LineEnds {
+    alone: "patterns refused for byte 10: alone",
+    first: "patterns refused for byte 10: first",
+    last: "patterns refused for byte 10: last",
+    between: "patterns refused for byte 10: between others",
+    last_of_64: "patterns refused for byte 10: last of 64",
+    last_of_65: "patterns refused with byte 10 last of 65",
+    behind_13: "patterns refused for byte 10: behind byte 13",
+};
+
 /// How many entries are lent for so many hits: none, too few, as many, or more.
 pub fn entries_lent(rng: &mut Rng, total: usize) -> usize {
     let any = rng.between(0, total);
@@ -272,15 +318,35 @@ pub fn entries_lent(rng: &mut Rng, total: usize) -> usize {
 fn make(rng: &mut Rng) -> Search {
     use Fault::*;
     #[rustfmt::skip]
-    let faults = faults(rng, &[Table, OtherTable, Room, Rank, Unfinished, Count, Length, Unused, Unused, Bits, Pattern, Pattern]);
+    let faults = faults(rng, &[Table, OtherTable, Room, Rank, Unfinished, Count, Length, Unused, Unused, Bits, Pattern, Pattern, Pattern]);
     let (table, length) = (table_to_search(rng), rng.border_length());
     let made = roll_of(rng, table, length, &faults);
     let text = made.cut().0;
     let mut pattern = pattern(rng, &made.under, &text);
     if faults.contains(&Pattern) {
-        pattern = bad_pattern(rng, &pattern);
+        pattern = bad_pattern(rng, &pattern, &text);
     }
     let total = if pattern.is_empty() { 0 } else { text.windows(pattern.len()).filter(|&at| at == pattern).count() };
     let entries = entries_lent(rng, total);
     Search::new(made.roll(), made.buf, pattern, rng.numbers(entries))
+}
+
+/// Corners of byte 10 and byte 13 that both ways of making a search meet.
+#[cfg(test)]
+pub const OTHERS: &[&str] = &[
+    "patterns with byte 10, which the table has not",
+    "patterns with byte 10 that stand in the text",
+    "patterns with byte 10 where check refuses",
+    "patterns with byte 13 found",
+    "patterns with byte 13, which the table has not",
+];
+
+#[cfg(test)]
+mod tests {
+    use super::*;
+
+    #[test]
+    fn byte_10_comes_in_every_way() {
+        LINE_ENDS.hold(OTHERS, make, |case| &case.pattern);
+    }
 }

@@ -12,7 +12,7 @@ use crate::operation::{Cases, Corners, Operation};
 use crate::planted::says;
 use crate::rng::Rng;
 use crate::rolls::{bytes_for, per_byte, roll_of_codewords};
-use crate::tables::{characters, ranks_up_to, table_with};
+use crate::tables::{characters, give, ranks_up_to, table_with};
 use crate::texts::ranks;
 
 /// Answered by both engines, as every search.
@@ -67,6 +67,20 @@ impl Operation for SearchJumping {
         "refuses a foreign character",
         "refuses 64 characters",
         "finds the empty pattern",
+        "takes byte 10",
+        "takes byte 10 alone",
+        "takes byte 10 at the front",
+        "takes byte 10 at the end",
+        "takes byte 10 in the middle",
+        "takes byte 10 behind 63 others",
+        "takes byte 10 behind byte 13",
+        "takes byte 10 where the table has it",
+        "takes byte 10 where the table has it not",
+        "asks for byte 10 first",
+        "asks for byte 10 before 8",
+        "answers where byte 10 is",
+        "refuses byte 13",
+        "refuses byte 13 at the end",
         "writes though refused",
         "passes what is refused",
         "by jumps: jumps a byte too far",
@@ -194,6 +208,22 @@ fn of_few_symbols(rng: &mut Rng, table: &Table) -> Vec<usize> {
     sought
 }
 
+/// Makes byte 10 the character of a rank that is not sought, or of none, and byte 13 now and then that of one that is.
+/// The symbols of a text are the same whatever the characters are.
+fn place_line_ends(rng: &mut Rng, table: &mut Table, sought: &[usize]) {
+    if rng.one_in(8) {
+        give(table, rng.pick(sought), 13);
+    }
+    let others: Vec<usize> = (0..usize::from(table.sigma)).filter(|rank| !sought.contains(rank)).collect();
+    let is_sought = |table: &Table, byte| sought.iter().any(|&rank| table.places[rank] == byte);
+    if !others.is_empty() && rng.one_in(2) {
+        give(table, rng.pick(&others), 10);
+    } else if let Some(rank) = sought.iter().copied().find(|&rank| table.places[rank] == 10) {
+        let free = (0..=255).find(|&byte| !is_sought(table, byte)).expect("no more than 64 are sought");
+        give(table, rank, free);
+    }
+}
+
 /// The pattern, what nearly is it, or what lies between.
 fn piece(rng: &mut Rng, table: &Table, sought: &[usize], longest: usize) -> Vec<usize> {
     let (sigma, length) = (usize::from(table.sigma), sought.len());
@@ -231,10 +261,11 @@ fn piece(rng: &mut Rng, table: &Table, sought: &[usize], longest: usize) -> Vec<
 
 fn make(rng: &mut Rng) -> SearchJumping {
     use Fault::*;
-    let table = table(rng);
+    let mut table = table(rng);
     let (k, list) = (table.k, listing(table.k, table.s));
     let taken = |ranks: &[usize]| ranks.iter().map(|&rank| list.codewords[rank].len()).sum::<usize>();
     let sought = sought(rng, &table);
+    place_line_ends(rng, &mut table, &sought);
     // Seldom as many symbols as there may be, or one less.
     let full = rng.one_in(30);
     let most = match rng.below(20) {
@@ -274,7 +305,7 @@ fn make(rng: &mut Rng) -> SearchJumping {
     text.extend(end);
 
     #[rustfmt::skip]
-    let mut faults = faults(rng, &[Table, OtherTable, Room, Rank, Unfinished, Count, Length, Unused, Unused, Bits, Pattern, Pattern]);
+    let mut faults = faults(rng, &[Table, OtherTable, Room, Rank, Unfinished, Count, Length, Unused, Unused, Bits, Pattern, Pattern, Pattern, Pattern]);
     // More of them sound than of other searches.
     if rng.one_in(3) {
         faults.clear();
@@ -288,13 +319,15 @@ fn make(rng: &mut Rng) -> SearchJumping {
 
     let mut pattern: Vec<u8> = sought.iter().map(|&rank| table.places[rank]).collect();
     if rng.one_in(30) {
-        let absent = (0..=255).find(|byte| !characters(&table).contains(byte));
+        let first = rng.pick(&[0, 13]);
+        let absent = (first..=255).chain(0..first).find(|byte| *byte != 10 && !characters(&table).contains(byte));
         let any = rng.below(pattern.len());
         let place = rng.pick(&[0, pattern.len() - 1, any]);
         pattern[place] = absent.unwrap_or(pattern[place]);
     }
     if faults.contains(&Pattern) {
-        pattern = bad_pattern(rng, &pattern);
+        let characters: Vec<u8> = text.iter().map(|&rank| table.places[rank]).collect();
+        pattern = bad_pattern(rng, &pattern, &characters);
     }
     let total = text.windows(sought.len()).filter(|&at| at == sought).count();
     let entries = entries_lent(rng, total);
@@ -305,9 +338,15 @@ fn make(rng: &mut Rng) -> SearchJumping {
 mod tests {
     use std::collections::{BTreeMap, BTreeSet};
 
+    use super::super::search::{LINE_ENDS, OTHERS};
     use super::*;
     use crate::operation::{Case, Library};
     use crate::rolls::{fills_window, starts};
+
+    #[test]
+    fn byte_10_comes_in_every_way() {
+        LINE_ENDS.hold(OTHERS, make, |case| &case.0.pattern);
+    }
 
     #[test]
     fn by_jumps_without_an_error_it_is_the_reference() {

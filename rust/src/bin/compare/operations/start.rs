@@ -8,10 +8,10 @@ use crate::faults::{bad_pattern, faults, wrong, Fault};
 use crate::lent::Lent;
 use crate::operation::{Answered, Cases, Corners, Operation};
 #[cfg(test)]
-use crate::planted::says;
+use crate::planted::{says, takes_byte_10};
 use crate::rng::Rng;
 use crate::tables::{characters, good_table, spoil_table};
-use crate::texts::pattern;
+use crate::texts::{is_over_lines, pattern, LineEnds};
 
 #[derive(Clone, Debug, PartialEq)]
 pub struct Start {
@@ -29,7 +29,25 @@ impl Start {
     fn of(&self, pattern: &[u8]) -> Started {
         started(reference::start(&self.roll.into(), pattern))
     }
+
+    /// As though byte 10 were a character as any other.
+    #[cfg(test)]
+    fn kept(&self) -> Started {
+        let mut started = self.of(&vec![0; self.pattern.len()]);
+        started.searcher.pattern[..self.pattern.len()].copy_from_slice(&self.pattern);
+        started
+    }
 }
+
+const LINE_ENDS: LineEnds = LineEnds {
+    alone: "starts refused for byte 10: alone",
+    first: "starts refused for byte 10: first",
+    last: "starts refused for byte 10: last",
+    between: "starts refused for byte 10: between others",
+    last_of_64: "starts refused for byte 10: last of 64",
+    last_of_65: "starts refused with byte 10 last of 65",
+    behind_13: "starts refused for byte 10: behind byte 13",
+};
 
 impl Operation for Start {
     const NAME: &'static str = "start";
@@ -51,16 +69,24 @@ impl Operation for Start {
 
     fn corners(&self, started: &Started, met: &mut Corners) {
         let bad_length = self.pattern.is_empty() || self.pattern.len() > PATTERN;
+        let over_lines = is_over_lines(&self.pattern);
         match started.answer.number {
             0 => {
                 let foreign = self.pattern.iter().any(|byte| !characters(&self.roll.table).contains(byte));
                 met.meet(foreign, "searches started for a character not in the table");
                 met.meet(self.pattern.len() == PATTERN, "searches started for 64 characters");
                 met.meet(self.roll.h as usize == LIMIT, "searches started in 65,536 symbols");
+                met.meet(self.pattern.contains(&13), "searches started for byte 13");
             }
-            1 => met.meet(self.roll.h as usize > LIMIT, "starts refused 1 with h over the limit too"),
-            5 => met.meet(bad_length, "starts refused 5 with a bad pattern too"),
-            _ => {}
+            1 => {
+                met.meet(self.roll.h as usize > LIMIT, "starts refused 1 with h over the limit too");
+                met.meet(over_lines, "starts refused 1 with byte 10 in the pattern too");
+            }
+            5 => {
+                met.meet(bad_length, "starts refused 5 with a bad pattern too");
+                met.meet(over_lines, "starts refused 5 with byte 10 in the pattern too");
+            }
+            _ => LINE_ENDS.meet(&self.pattern, met),
         }
     }
 
@@ -75,6 +101,17 @@ impl Operation for Start {
         "refuses 64 characters",
         "takes 65 characters",
         "takes the empty pattern",
+        "takes byte 10",
+        "takes byte 10 alone",
+        "takes byte 10 at the front",
+        "takes byte 10 at the end",
+        "takes byte 10 in the middle",
+        "takes byte 10 behind 63 others",
+        "asks for byte 10 first",
+        "asks for byte 10 before 5",
+        "answers where byte 10 is",
+        "refuses byte 13",
+        "keeps a pattern with byte 10",
         "refuses a foreign character",
         "asks n",
         "answers the length",
@@ -94,6 +131,8 @@ impl Operation for Start {
         let Started { answer, searcher } = &mut started;
         let bad_length = pattern.is_empty() || pattern.len() > PATTERN;
         let foreign = || pattern.iter().position(|byte| !characters(&roll.table).contains(byte));
+        let over_lines = is_over_lines(pattern);
+        let place = pattern.iter().position(|&byte| byte == 10).unwrap_or(0);
         match (error, answer.number) {
             ("refuses everything", _) => return self.refused(says(1, 0)),
             ("asks 5 before 1", 1) if roll.h as usize > LIMIT => *answer = says(5, roll.h as usize),
@@ -104,6 +143,12 @@ impl Operation for Start {
             ("refuses 64 characters", 0) if pattern.len() == PATTERN => return self.refused(says(11, 0)),
             ("takes 65 characters", 11) if pattern.len() == PATTERN + 1 => return self.of(&pattern[..PATTERN]),
             ("takes the empty pattern", 11) if pattern.is_empty() => *answer = says(0, 0),
+            ("asks for byte 10 first", 1 | 5) if over_lines => *answer = says(11, 0),
+            ("asks for byte 10 before 5", 5) if over_lines => *answer = says(11, 0),
+            ("answers where byte 10 is", 11) if over_lines => answer.value = place as u64,
+            ("refuses byte 13", 0) if pattern.contains(&13) => return self.refused(says(11, 0)),
+            ("keeps a pattern with byte 10", 11) if over_lines => return Started { answer: *answer, ..self.kept() },
+            (_, 11) if takes_byte_10(error, &roll.table, pattern) => return self.kept(),
             ("refuses a foreign character", 0) => {
                 if let Some(place) = foreign() {
                     return self.refused(says(3, place));
@@ -140,7 +185,7 @@ fn make(rng: &mut Rng) -> Start {
     let mut h = rng.pick(&[any, any, 0, few, LIMIT]) as u32;
     let mut n = rng.between(0, h as usize) as u32;
     if faults.contains(&Pattern) {
-        pattern = bad_pattern(rng, &pattern);
+        pattern = bad_pattern(rng, &pattern, &text);
     }
     if faults.contains(&Room) {
         h = rng.pick(&[65_537, 65_537, 65_538, 0x8000_0000 + h, u32::MAX, 131_072]);
@@ -152,4 +197,19 @@ fn make(rng: &mut Rng) -> Start {
         spoil_table(rng, &mut table);
     }
     Start { roll: Roll { table, n, h }, pattern: pattern.into() }
+}
+
+#[cfg(test)]
+mod tests {
+    use super::*;
+
+    #[test]
+    fn byte_10_comes_in_every_way() {
+        let others = [
+            "starts refused 1 with byte 10 in the pattern too",
+            "starts refused 5 with byte 10 in the pattern too",
+            "searches started for byte 13",
+        ];
+        LINE_ENDS.hold(&others, make, |case| &case.pattern);
+    }
 }
