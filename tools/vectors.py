@@ -6,9 +6,10 @@ looking each codeword up in that list, and every refusal is asked in the paper's
 anew after each piece, and texts are compared. Nothing is taken from src/ or specs/, but for what a searcher says of an open codeword and the
 bounds of its numbers: these are the library's own choice, and stand in docs/PAPER.md as they are here.
 """
+import itertools
 import pathlib
 
-LIMIT = 65536
+LIMIT = 1048576
 PART = 262144  # as each of them reads its cases
 CRATES = pathlib.Path(__file__).resolve().parent.parent / "crates"
 
@@ -115,6 +116,11 @@ def pack(t, text, buf):
     return None, len(text), len(row), packed + buf[len(packed):]
 
 
+def entries_for(lengths):
+    """The first symbol of each 32nd codeword, of codewords of these lengths."""
+    return list(itertools.accumulate(lengths, initial=0))[:-1][::32]
+
+
 def make_directory(t, n, h, buf, entries):
     refusal = check(t, n, h, buf)
     if refusal:
@@ -122,11 +128,8 @@ def make_directory(t, n, h, buf, entries):
     needed = -(-n // 32)
     if len(entries) < needed:
         return (12, needed), entries
-    words, at, first = codewords(t[0], t[1]), 0, []
-    for r in read(t, symbols(t[0], buf)[:h])[0]:
-        first.append(at)
-        at += len(words[r])
-    return None, first[::32] + entries[needed:]
+    words = codewords(t[0], t[1])
+    return None, entries_for(len(words[r]) for r in read(t, symbols(t[0], buf)[:h])[0]) + entries[needed:]
 
 
 def read_one(t, n, h, buf, entries, place):
@@ -184,7 +187,7 @@ def edit(t, n, h, buf, entries, start, end, text):
     k, s, sigma, places = t
     words, old = codewords(k, s), [places[r] for r in read(t, symbols(k, buf)[:h])[0]]
     lengths = {b: len(words[r]) for r, b in enumerate(places[:sigma])}
-    wanted = [sum(lengths[b] for b in old[:i]) for i in range(0, n, 32)]
+    wanted = entries_for(lengths[b] for b in old)
     for i, x in enumerate(wanted):
         if entries[i:i + 1] != [x]:
             return (9, i), n, h, buf, entries
@@ -197,7 +200,7 @@ def edit(t, n, h, buf, entries, start, end, text):
     refusal, n2, h2, after = pack(t, new, buf)
     if refusal:
         return refusal, n, h, buf, entries
-    behind = [sum(lengths[b] for b in new[:i]) for i in range(0, n2, 32)]
+    behind = entries_for(lengths[b] for b in new)
     if len(entries) < len(behind):
         return (12, len(behind)), n, h, buf, entries
     for i in range(-(-h2 * k // 8), -(-h * k // 8)):
@@ -214,7 +217,8 @@ def count(text, counts):
 
 
 def counts_of(text):
-    return [list(text).count(b) for b in range(256)]
+    text = bytes(text)
+    return [text.count(b) for b in range(256)]
 
 
 TWELVE = b"\n+0123456789"
@@ -269,7 +273,7 @@ def report(data):
     return b"\n".join(lines + [b"%d" % i for i in hits] + [b"hits %d" % len(hits)]) + b"\n"
 
 
-# A roll that comes in. A searcher is here what it holds and, beside that, all bytes that came (None where only the numbers are known).
+# A roll that comes in. A searcher is here what it holds and, beside that, all bytes that came (None where only the numbers are known) and the text read of them.
 
 def start_refusal(t, h, places, length):
     """What start asks of a roll and of a pattern, the first so many of these places."""
@@ -315,7 +319,7 @@ def searcher(t, n, h, pattern, came):
     text, done, first, continuers, bad, stained = heard(t, h, came)
     ends = sum(2 ** j for j in range(len(pattern) - 1) if text[-j - 1:] == pattern[:j + 1])
     numbers = [done, len(text), first] + reading_state(t, continuers) + [int(bad), int(stained)]
-    return dict(t=t, n=n, h=h, progress=numbers, pattern=pattern + [0] * (64 - len(pattern)), length=len(pattern), ends=ends, came=came)
+    return dict(t=t, n=n, h=h, progress=numbers, pattern=pattern + [0] * (64 - len(pattern)), length=len(pattern), ends=ends, came=came, text=text)
 
 
 def started(t, n, h, pattern):
@@ -356,7 +360,7 @@ def feed(s, piece, room):
     if not piece:
         return None, [], s
     after = dict(searcher(t, n, h, pattern, s["came"] + piece), pattern=s["pattern"])
-    text = heard(t, h, after["came"])[0]
+    text = after["text"]
     # those of the text so far that end behind what was read before
     hits = [i for i in range(max(0, count - len(pattern)), len(text)) if text[i:i + len(pattern)] == pattern and i + len(pattern) > count]
     return ((6, after["progress"][2]) if after["progress"][8] else None), hits, after
@@ -634,6 +638,32 @@ def edit_case(words, t, n, h, buf, entries, start, end, text, expect=...):
     return n2, h2, after, behind
 
 
+def rises_out(row):
+    """Runs that rise by a step: how many, the first, the step."""
+    out, i = " |", 0
+    while i < len(row):
+        step = (row[i + 1] - row[i]) % 2 ** 32 if i + 1 < len(row) else 0
+        j = i + 1
+        while j < len(row) and (row[j] - row[j - 1]) % 2 ** 32 == step:
+            j += 1
+        out, i = out + f" {j - i}x{row[i]}+{step}", j
+    return out
+
+
+def long_edit_case(words, t, n, h, buf, start, end, text, expect=...):
+    """A directory made, the character at the start read, and the edit; entries as runs, since there may be 32,768."""
+    made, entries = make_directory(t, n, h, buf, [0] * 32770)
+    unread, b = read_one(t, n, h, buf, entries, start)
+    r, n2, h2, after, behind = edit(t, n, h, buf, entries, start, end, list(text))
+    assert expect is ... or r == expect, (words, r, expect)
+    note(words)
+    given.append(f"13 {table_in(t)} {n} {h} {row_in(buf)} {start} {end} {row_in(list(text))}")
+    said.append("directory" + answer(made) + rises_out(entries))
+    said.append("read" + (answer(unread) if unread else f" {b}"))
+    said.append("edit" + answer(r) + f" n {n2} h {h2} k {t[0]} s {t[1]} sigma {t[2]}" + row_out(t[3]) + row_out(after) + rises_out(behind))
+    return n2, h2, after
+
+
 def report_case(words, data, expect=None):
     answer = report(data)
     assert expect is None or answer == expect, (words, answer[:80], expect)
@@ -720,7 +750,7 @@ def write_case(words, t, n, h, buf, out, other, expect=..., back=...):
     assert expect is ... or r == expect, (words, r, expect)
     again, line = frames_said(after, other)
     assert back is ... or again == back, (words, again, back)
-    assert max(len(buf), len(other)) <= 32800 and len(out) <= 69200, words
+    assert max(len(buf), len(other)) <= 524300 and len(out) <= 1097800, words
     note(words)
     given.append(f"1 {table_in(t)} {n} {h} {row_in(buf)} {row_in(out)} {row_in(other)}")
     said.append("write" + (answer(r) if r else f" {many}") + row_out(after))
@@ -740,7 +770,7 @@ def edits_case(words, kind, lent, text, expect, edits):
         after = text[:start] + row + text[stop:]
         r, line = say(after, lent)
         assert wanted is ... or r == wanted, (words, name, start, stop, row, r, wanted)
-        assert len(row) <= 1100 and len(after) <= 131200 and len(lent) <= 32800, words
+        assert len(row) <= 1100 and len(after) <= 549000 and len(lent) <= 524300, words
         ins += ["# " + name] * (name != "") + [f"{start} {stop} {row_in(row)}"]
         said.append(line)
     note(words)
@@ -790,10 +820,11 @@ F14 = table(4, 14, ALL[:14])
 check_case("P13: E 0 with sigma 14", table(4, 14, ALL[:15], 14), 1, 2, [0xE0], (6, 0))
 check_case("P13: E 0 with sigma 15", table(4, 14, ALL[:15]), 1, 2, [0xE0], None)
 ONE = table(2, 3, b"a")
-pack_case("P14: 65,536 characters of rank 0", ONE, [97] * 65536, [0xFF] * 16385, None)
-pack_case("P14: one more", ONE, [97] * 65537, [0xFF] * 16386, (4, 65536))
-pack_case("P14: width 4", table(4, 1, b"a"), [97] * 65536, [0xFF] * 32769, None)
-pack_case("P14: width 4, one more", table(4, 1, b"a"), [97] * 65537, [0xFF] * 32769, (4, 65536))
+for k, s in ((2, 3), (4, 1)):
+    t, w, used = table(k, s, b"a"), f"P14: width {k}, ", LIMIT * k // 8
+    pack_case(w + "1,048,576 characters of rank 0", t, [97] * LIMIT, [0xFF] * (used + 1), None)
+    pack_case(w + "and one more", t, [97] * (LIMIT + 1), [0xFF] * (used + 2), (4, LIMIT))
+    pack_case(w + "65,537 of them", t, [97] * 65537, [0xFF] * used, None)
 unpack_case("P16: 3..3 of n 3", ONE, 3, 3, [0], 3, 3, [], None)
 unpack_case("P16: 4..4 of n 3", ONE, 3, 3, [0], 4, 4, [], (10, 0))
 
@@ -883,10 +914,12 @@ for k, s in ((2, 3), (4, 14), (2, 1), (4, 1)):
 # long runs of continuers, closed by a stopper and open
 for k, s in ((2, 1), (2, 2), (2, 3), (4, 1), (4, 14), (4, 15)):
     every = table(k, s, ALL)
-    for many in (8, 9, 16, 32, 33, 64, 65, 85, 86, 100, 65535):
+    for many in (8, 9, 16, 32, 33, 64, 65, 85, 86, 100, 65535, 65536, LIMIT - 1):
         for y in sorted({s, 2 ** k - 1}):
             check_case(f"width {k}, s {s}: {many} times {y}, closed", every, 1, many + 1, packed(k, [y] * many + [0]))
             check_case(f"width {k}, s {s}: {many} times {y}, open", every, 1, many, packed(k, [y] * many), (6, 0))
+    check_case(f"width {k}, s {s}: {LIMIT} times {s}, open", every, 1, LIMIT, packed(k, [s] * LIMIT), (6, 0))
+    check_case(f"width {k}, s {s}: {LIMIT} times {s}, closed: 5", every, 1, LIMIT + 1, packed(k, [s] * LIMIT + [0]), (5, LIMIT + 1))
 
 # rolls of 2,048 symbols and more, of which a reader may take the first 1,024 one by one and then bytes: sigma where codewords gain a symbol,
 # its last rank taken and rank sigma refused, from each symbol near 1,024 and each of two bytes on and with each rest that two bytes leave
@@ -907,18 +940,18 @@ for k, s in [(2, s) for s in range(1, 4)] + [(4, s) for s in range(1, 16)]:
 for k, s in ((2, 2), (2, 3), (4, 1), (4, 15)):
     per, y = 8 // k, 2 ** k - 1
     t = table(k, s, ALL, codewords(k, s).index((y,) * (per - 1) + (0,)) + 1)
-    for h in (2047, 2048, 2049, 2047 + 2 * per, 65535, 65536):
+    for h in (2047, 2048, 2049, 2047 + 2 * per, 65535, 65536, LIMIT - 1, LIMIT):
         w = f"width {k}, s {s}, {h} symbols: "
         row = (([0] + [y] * (per - 1)) * (h // per + 1))[:h - 1]
         n, first = sum(x < s for x in row) + 1, 1024 // per
         check_case(w + "over each border", t, n, h, packed(k, row + [0]), None)
-        if h in (2048, 2049, 65536):
+        if h in (2048, 2049, 65536, LIMIT):
             check_case(w + "6, unfinished", t, n, h, packed(k, row + [y]), (6, (h - 2) // per * per + 1))
-        if h in (2048, 65536):
+        if h in (2048, 65536, LIMIT):
             check_case(w + "7", t, n - 1, h, packed(k, row + [0]), (7, n))
             for at in (301, first - 1, first, first + 1):
                 check_case(w + f"6, no stopper from byte {at} on", t, n, h, packed(k, row[:at * per] + [y] * (h - at * per)), (6, at * per - per + 1))
-        if h in (2049, 65535):
+        if h in (2049, 65535, LIMIT - 1):
             check_case(w + "8", t, n, h, packed(k, row + [0, 1]), (8, 0))
         for at in (300, first - 1, first, first + 1, first + 2, h // per - 2, h // per - 1) if h == 2049 else ():
             longer = row[:at * per] + [y] * per + row[(at + 1) * per:] + [0]
@@ -1176,7 +1209,7 @@ for k, s, most in ((2, 3, 86), (4, 15, 18)):
 
 # the longest rolls
 for k, s in ((2, 3), (4, 3)):
-    t, name = table(k, s, SMALL), f"width {k}: 65,536 symbols, "
+    t, name = table(k, s, SMALL), f"width {k}: 1,048,576 symbols, "
     for many in (1, 7, 30, 64):
         text_case(name + f"for {many} times their character", t, [97] * LIMIT, [97] * many, 2, LIMIT + 1 - many)
     pattern = list(b"bacabdabac")
@@ -1343,8 +1376,36 @@ _, n, h, buf = pack(every, [0, 255, 9, 200], [0xA5] * 90)
 edit_case("codewords of 86 and 68 symbols put in", every, n, h, buf, [0], 1, 3, [255, 201, 3], None)
 _, n, h, buf = pack(ONE, [97] * 65535, [0xA5] * 16386)
 right = make_directory(ONE, n, h, buf, [0] * 2049)[1]
-edit_case("up to the limit in a longer buffer", ONE, n, h, buf, right, 65535, 65535, b"a", None)
-edit_case("4, past the limit in a longer buffer", ONE, n, h, buf, right, 0, 0, b"aa", (4, 65536))
+edit_case("over 65,536 symbols in a longer buffer", ONE, n, h, buf, right, 0, 0, b"aaaaa", None)
+
+# the longest rolls, in a buffer longer than they need: one symbol under the limit, and at it
+for k, s in ((2, 3), (4, 3)):
+    t, w, used = table(k, s, b"abcdefgh"), f"width {k}: ", LIMIT * k // 8
+    half = [97] * (LIMIT // 2 - 8)
+    text = list(b"abcdefgh") + half + list(b"hgfedcba") + half
+    text = text[:LIMIT - 1 - (symbols_of(t, text) - len(text))]
+    _, n, h, buf = pack(t, text, [0xA5] * (used + 2))
+    assert h == LIMIT - 1
+    unpack_case(w + "1,048,575 symbols", t, n, h, buf, 0, n, [0xEE] * (n + 1), None)
+    long_edit_case(w + "up to 1,048,576 symbols, at the end", t, n, h, buf, n, n, b"c", None)
+    long_edit_case(w + "up to 1,048,576 symbols, in the middle", t, n, h, buf, n // 2, n // 2 + 1, b"bc", None)
+    long_edit_case(w + "4, past 1,048,576 symbols, at the end", t, n, h, buf, n, n, b"cb", (4, n + 1))
+    long_edit_case(w + "4, past 1,048,576 symbols, in front", t, n, h, buf, 0, 0, b"bc", (4, n + 1))
+    n, h, buf = long_edit_case(w + "up to 1,048,576 symbols, in front", t, n, h, buf, 0, 0, b"b", None)
+    check_case(w + "1,048,576 symbols", t, n, h, buf, None)
+    check_case(w + "5, one more", t, n + 1, h + 1, buf, (5, LIMIT + 1))
+    long_edit_case(w + "as many symbols as before of 1,048,576, in front", t, n, h, buf, 0, 2, b"cc", None)
+    long_edit_case(w + "as many symbols as before of 1,048,576, at the end", t, n, h, buf, n - 2, n, b"d", None)
+    long_edit_case(w + "4, one symbol more than 1,048,576, in front", t, n, h, buf, 0, 1, b"d", (4, n - 1))
+    long_edit_case(w + "10, behind 1,048,576", t, n, h, buf, n, n + 1, b"", (10, 0))
+    long_edit_case(w + "fewer than 1,048,576, in front", t, n, h, buf, 0, 9, b"a", None)
+    long_edit_case(w + "nothing of 1,048,576 left", t, n, h, buf, 0, n, b"", None)
+for k, s in ((2, 3), (4, 3)):
+    t, w, buf = table(k, s, b"abc"), f"width {k}: ", [0] * (LIMIT * k // 8 - 1) + [1, 0xA5]
+    unpack_case(w + "1,048,576 characters", t, LIMIT, LIMIT, buf, 0, LIMIT, [0xEE] * (LIMIT + 1), None)
+    unpack_case(w + "the last two of 1,048,576", t, LIMIT, LIMIT, buf, LIMIT - 2, LIMIT, [0xEE] * 3, None)
+    unpack_case(w + "13, one byte too few for 1,048,576", t, LIMIT, LIMIT, buf, 0, LIMIT, [0xEE] * (LIMIT - 1), (13, LIMIT))
+    unpack_case(w + "10, past 1,048,576", t, LIMIT, LIMIT, buf, LIMIT, LIMIT + 1, [0xEE] * 3, (10, 0))
 
 # ranks that 16, 32 and 64 bits would take for 0
 for bits in (16, 32, 64):
@@ -1359,15 +1420,17 @@ ZEROS = [0] * 256
 count_case("no text", [], [9] * 256, None)
 count_case("abracadabra", TEXT, [9] * 256, None)
 count_case("every byte value", ALL + ALL[128:], ZEROS, None)
-count_case("65,536 of one", [255] * 65536, ZEROS, None)
-count_case("4, one more", [255] * 65537, [9] * 256, (4, 65536))
+count_case("65,537 of one", [255] * 65537, ZEROS, None)
+count_case("1,048,576 of one", [255] * LIMIT, ZEROS, None)
+count_case("1,048,576, each as often", ALL * (LIMIT // 256), ZEROS, None)
+count_case("4, one more", [255] * (LIMIT + 1), [9] * 256, (4, LIMIT))
 count_case("the twelve", list(TWELVE), [9] * 256, None)
 for b in TWELVE:
     count_case(f"{b} alone of the twelve", [b], [9] * 256, None)
 count_case("2, no counts", TEXT, [], (2, 0))
 count_case("2, 255 counts", TEXT, [9] * 255, (2, 255))
 count_case("2, 257 counts", TEXT, [9] * 257, (2, 257))
-count_case("2 before 4", [255] * 65537, [9] * 3, (2, 3))
+count_case("2 before 4", [255] * (LIMIT + 1), [9] * 3, (2, 3))
 
 # choosing
 for k in (2, 4):
@@ -1421,10 +1484,10 @@ for k in (2, 4):
     t = choose(k, ZEROS)[2]
     pack_case(w + "the empty text, its table chosen", t, [], [0xFF] * 2, None)
     edit_case(w + "a number into an empty roll", t, 0, 0, [0xFF] * 24, [9], 0, 0, b"+4712345678\n", None)
-    many = counts_of([97] * 65536)
-    assert choose(k, many)[1] > 65536
+    many = counts_of([97] * LIMIT)
+    assert choose(k, many)[1] > LIMIT
     choose_case(w + "a total over the limit", k, many, None)
-    pack_case(w + "and the text fits", choose(k, many)[2], [97] * 65536, [0xFF] * (65536 * k // 8), None)
+    pack_case(w + "and the text fits", choose(k, many)[2], [97] * LIMIT, [0xFF] * (LIMIT * k // 8), None)
 edit_case("3, a number in P2", ABRA, 11, 13, BYTES + [9], [0, 9], 4, 7, b"+47", (3, 0))
 
 # the codeword of a character, and the character of a codeword
@@ -1684,12 +1747,17 @@ for k, s in ((2, 3), (4, 3)):
 # the longest rolls: a hit over each border
 for k, s in ((2, 3), (4, 3)):
     t, per = table(k, s, LETTERS), 8 // k
-    pieces = [packed(k, [1 if i else 0] + [0] * (4096 * per - 2) + [0]) for i in range(LIMIT // per // 4096)]
-    start_case(f"width {k}: 65,536 symbols", t, LIMIT, LIMIT, b"ab", pieces, [None] * len(pieces), None)
-    start_case(f"width {k}: 65,536 symbols, one n too few", t, LIMIT - 1, LIMIT, b"aab", pieces + [[0]], [None] * len(pieces) + [(5, LIMIT)], (7, LIMIT))
+    pieces = [packed(k, [1 if i else 0] + [0] * (16384 * per - 2) + [0]) for i in range(LIMIT // per // 16384)]
+    start_case(f"width {k}: 1,048,576 symbols", t, LIMIT, LIMIT, b"ab", pieces, [None] * len(pieces), None)
+    start_case(f"width {k}: 1,048,576 symbols, one n too few", t, LIMIT - 1, LIMIT, b"aab", pieces + [[0]], [None] * len(pieces) + [(5, LIMIT)], (7, LIMIT))
     pieces[-1][-1] += s
-    start_case(f"width {k}: 65,536 symbols, the last a continuer", t, LIMIT, LIMIT, b"ab", pieces, [None] * (len(pieces) - 1) + [(6, LIMIT - 1)], (6, LIMIT - 1))
-    start_case(f"width {k}: 65,537 symbols", t, LIMIT + 1, LIMIT + 1, b"ab", pieces[:1], [(5, LIMIT + 1)], (5, LIMIT + 1), refused=(5, LIMIT + 1))
+    start_case(f"width {k}: 1,048,576 symbols, the last a continuer", t, LIMIT, LIMIT, b"ab", pieces, [None] * (len(pieces) - 1) + [(6, LIMIT - 1)], (6, LIMIT - 1))
+    start_case(f"width {k}: 1,048,577 symbols", t, LIMIT + 1, LIMIT + 1, b"ab", pieces[:1], [(5, LIMIT + 1)], (5, LIMIT + 1), refused=(5, LIMIT + 1))
+    # one codeword, from the first symbol to the last
+    pieces = [packed(k, [s] * (16384 * per)) for _ in range(LIMIT // per // 16384)]
+    start_case(f"width {k}: 1,048,576 continuers, open", t, 1, LIMIT, b"a", pieces, [None] * (len(pieces) - 1) + [(6, 0)], (6, 0))
+    pieces[-1][-1] -= s
+    start_case(f"width {k}: 1,048,575 continuers, closed", t, 1, LIMIT, b"a", pieces, [None] * (len(pieces) - 1) + [(6, 0)], (6, 0))
 
 # a searcher is all that is kept: taken up from its numbers behind each byte
 for k, s, x in ((2, 1, "f"), (2, 3, "j"), (4, 14, "p")):
@@ -1908,16 +1976,23 @@ for k in (2, 4):
 # the longest rolls
 for k in (2, 4):
     t, used = table(k, 3, b"abc"), LIMIT * k // 8
-    buf, many = [1] + [0] * (used - 2) + [2], 33 + 67 * (used // 32)
-    write_case(f"width {k}: 65,536 symbols", t, LIMIT, LIMIT, buf, [0xEE] * many, [0xFF] * used, None, None)
-    write_case(f"width {k}: 65,536 symbols, 13", t, LIMIT, LIMIT, buf, [0xEE] * (many - 1), [], (13, many), (15, 0))
-    write_case(f"width {k}: 65,537 symbols, 5", t, LIMIT + 1, LIMIT + 1, [0] * (used + 1), [0xEE] * (many + 5), [], (5, LIMIT + 1), (15, 0))
-text = frame_text(table(2, 3, b"abc"), LIMIT + 1, LIMIT + 1, [0] * 16385)
-end = len(text)
-frames_case("width 2: 65,537 symbols, and all their bytes came", [0xFF] * 32800, text, (5, LIMIT + 1), [
-    instead(end - 5, end, [], (15, 513), "the last line missing"), instead(end - 1, end, [], (15, 513), "its byte 10 missing"),
-    instead(end, end, [10], (15, 514), "a byte 10 more"), instead(4, 6, b"04", (1, 0), "1 before 5"),
-    instead(18, 26, b"00010000", (15, 513), "h 65,536: a line too many"), instead(18, 26, b"00010005", (15, 513), "h 65,541: a byte too few")])
+    # bytes whose digits go on from the 2 of 02: a line has three runs
+    buf, many = [1] + [0x22] * (used - 2) + [2], 33 + 67 * (used // 32)
+    write_case(f"width {k}: 1,048,576 symbols", t, LIMIT, LIMIT, buf, [0xEE] * many, [0xFF] * used, None, None)
+    write_case(f"width {k}: 1,048,576 symbols, 13", t, LIMIT, LIMIT, buf, [0xEE] * (many - 1), [], (13, many), (15, 0))
+    write_case(f"width {k}: 1,048,577 symbols, 5", t, LIMIT + 1, LIMIT + 1, [0] * (used + 1), [0xEE] * (many + 5), [], (5, LIMIT + 1), (15, 0))
+for h in (65535, 65536, 65537):
+    buf = packed(2, ([0, 2] * h)[:h])
+    many = 33 + 2 * len(buf) + 3 * -(-len(buf) // 32)
+    write_case(f"width 2: {h:,} symbols", table(2, 3, b"abc"), h, h, buf, [0xEE] * many, [0xFF] * len(buf), None, None)
+used = LIMIT // 4 + 1
+text = frame_text(table(2, 3, b"abc"), LIMIT + 1, LIMIT + 1, [0x22] * (used - 1) + [0])
+end, last = len(text), 1 + used // 32
+frames_case("width 2: 1,048,577 symbols, and all their bytes came", [0xFF] * (used + 55), text, (5, LIMIT + 1), [
+    instead(end - 5, end, [], (15, last), "the last line missing"), instead(end - 1, end, [], (15, last), "its byte 10 missing"),
+    instead(end, end, [10], (15, last + 1), "a byte 10 more"), instead(4, 6, b"04", (1, 0), "1 before 5"),
+    instead(18, 26, b"00100000", (15, last), "h 1,048,576: a line too many"), instead(18, 26, b"00100005", (15, last), "h 1,048,581: a byte too few"),
+    instead(18, 26, b"00010001", (15, 513), "h 65,537: a frame too long")])
 
 # one byte another, at every place
 DIGITS = list(b"0123456789abcdef")
@@ -2089,7 +2164,7 @@ first_case("P2's first line", line, None, [
     instead(34, 36, b"", (15, 0), "a character fewer"),
     instead(4, 6, b"00", None, "s 0"), instead(4, 6, b"ff", None, "s 255"), instead(10, 26, b"f" * 16, None, "n and h the greatest"),
     instead(10, 26, DIGITS, None, "n and h of all digits"),
-    instead(18, 26, b"00010001", None, "h over the limit"), instead(28, 30, b"61", None, "a character twice"),
+    instead(18, 26, b"00100001", None, "h over the limit"), instead(28, 30, b"61", None, "a character twice"),
     instead(6, 36, b"0000" + bytes(line[10:26]), None, "no characters"),
     instead(6, 36, b"0000", (15, 0), "sigma 0, and nothing behind it"), instead(24, 36, b"", (15, 0), "12 bytes"),
     instead(6, 36, b"0000" + bytes(line[10:24]), (15, 0), "sigma 0, and 12 bytes")])
@@ -2127,4 +2202,4 @@ for many, rooms in ((0, (0, 1)), (1, (0, 1, 2)), (2, (1, 2)), (31, (30, 31, 32))
         frame_case(f"{many} packed bytes, {lent} lent", [0xEE] * lent, line_of([2] + [(i * 37 + many) % 256 if many < 64 else 0 for i in range(many)]), r)
 frame_case("15 before 13", [], b"02AA\n", (15, 0), [
     instead(2, 4, b"aa", (13, 1)), instead(0, 2, b"01", (15, 0)), instead(4, 5, b"", (15, 0)), instead(2, 4, b"", (15, 0))])
-write("vectors_frames")
+write("vectors_frames", 2)

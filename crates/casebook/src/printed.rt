@@ -3,6 +3,7 @@ use ground::answers::Answer;
 use ground::answers::Done;
 use sound::records::Roll;
 use stopper::table::Table;
+ghost use Prim.Native.Nat.{_≤_};
 
 pub fn number_out(n: usize) {
     io::print_decimal(1, n as u64);
@@ -79,7 +80,9 @@ pub fn runs(row: &[u8]) {
     }
 }
 
-fn wide_number(x: u32) -> usize {
+fn wide_number(x: u32) -> usize
+    ensures { λ r. ⌜ r ≤ 4294967295 ⌝ }
+{
     x as usize
 }
 
@@ -91,6 +94,57 @@ pub fn list(row: &[u32]) {
         io::write_all(1, b" ");
         number_out(wide_number(row[i]));
         i += 1;
+    }
+}
+
+// By how much the number behind place i is more, in 32 bits; 0 where there is none.
+fn step_at(row: &[u32], i: usize) -> usize {
+    if i < row.len() {
+        if 1 < row.len() - i {
+            return (wide_number(row[i + 1]) + 4294967296 - wide_number(row[i])) % 4294967296;
+        }
+    }
+    0
+}
+
+// How many numbers from i on rise by this step: the place behind them.
+fn evenly(row: &[u32], i: usize, step: usize) -> usize {
+    let mut j = i;
+    let mut next: usize = 0;
+    if i < row.len() {
+        next = wide_number(row[i]);
+    }
+    while j < row.len() {
+        if wide_number(row[j]) != next {
+            break;
+        }
+        next = (next % 4294967296 + step % 4294967296) % 4294967296;
+        j += 1;
+    }
+    j
+}
+
+fn rise(many: usize, first: usize, step: usize) {
+    io::write_all(1, b" ");
+    number_out(many);
+    io::write_all(1, b"x");
+    number_out(first);
+    io::write_all(1, b"+");
+    number_out(step);
+}
+
+// A long row of numbers as runs: how many, the first, and the step by which they rise.
+pub fn rises(row: &[u32]) {
+    io::write_all(1, b" |");
+    let mut i: usize = 0;
+    while i < row.len() {
+        let step = step_at(row, i);
+        let j = evenly(row, i, step);
+        if j <= i {
+            break;
+        }
+        rise(j - i, wide_number(row[i]), step);
+        i = j;
     }
 }
 

@@ -6,7 +6,7 @@ ghost use mathlib.Core.Path.{_≡_};
 ghost use Rattle.ground.specs.Paper.Limit.{limit};
 
 // No symbol count exceeds this, and no counted text is longer.
-pub const LIMIT: usize = 65536;
+pub const LIMIT: usize = 1048576;
 
 pub fn limit() -> usize
     ensures { λ r. ⌜ r ≡ limit ⌝ }

@@ -14,6 +14,7 @@ use casebook::printed::end;
 use casebook::printed::list;
 use casebook::printed::number_out;
 use casebook::printed::refused;
+use casebook::printed::rises;
 use casebook::printed::roll_out;
 use casebook::printed::runs;
 use casebook::printed::table_out;
@@ -34,6 +35,16 @@ fn part() {
     let mut input = [0u8; 262144];
     let n = io::read_full(0, &mut input);
     cases(&input[..n]);
+}
+
+// Room for the bytes of the longest roll and some more. It is answered by a function, since the prover would count out an array made in place.
+fn buffer() -> [u8; 524300] {
+    [0u8; 524300]
+}
+
+// Room for the longest text and some more.
+fn text_room() -> [u8; 1048600] {
+    [0u8; 1048600]
 }
 
 fn cases(s: &[u8]) {
@@ -63,6 +74,7 @@ fn one_case(s: &[u8], at: usize) -> usize {
         10 => choose_case(s, op.next),
         11 => codeword_case(s, op.next),
         12 => character_case(s, op.next),
+        13 => long_edit_case(s, op.next),
         _ => s.len(),
     }
 }
@@ -70,7 +82,7 @@ fn one_case(s: &[u8], at: usize) -> usize {
 // A roll, a buffer.
 fn check_case(s: &[u8], at: usize) -> usize {
     let given = roll_at(s, at);
-    let mut space = [0u8; 32800];
+    let mut space = buffer();
     let buf = bytes(s, given.next, &mut space);
     let n = buf.value;
     let roll = given.roll;
@@ -83,12 +95,12 @@ fn check_case(s: &[u8], at: usize) -> usize {
 // A roll, a buffer, start, end, the output as it was.
 fn unpack_case(s: &[u8], at: usize) -> usize {
     let given = roll_at(s, at);
-    let mut space = [0u8; 32800];
+    let mut space = buffer();
     let buf = bytes(s, given.next, &mut space);
     let n = buf.value;
     let start = number(s, buf.next);
     let stop = number(s, start.next);
-    let mut output = [0u8; 65600];
+    let mut output = text_room();
     let out = bytes(s, stop.next, &mut output);
     let m = out.value;
     let roll = given.roll;
@@ -106,10 +118,10 @@ fn unpacked(roll: Roll, buf: &[u8], start: usize, stop: usize, out: &mut [u8]) {
 // A table, a text, the buffer as it was.
 fn pack_case(s: &[u8], at: usize) -> usize {
     let given = table_at(s, at);
-    let mut letters = [0u8; 65600];
+    let mut letters = text_room();
     let text = bytes(s, given.next, &mut letters);
     let m = text.value;
-    let mut space = [0u8; 32800];
+    let mut space = buffer();
     let buf = bytes(s, text.next, &mut space);
     let n = buf.value;
     let table = given.table;
@@ -131,7 +143,7 @@ fn packed(table: Table, text: &[u8], buf: &mut [u8]) {
 // A roll, a buffer, the directory as it was.
 fn directory_case(s: &[u8], at: usize) -> usize {
     let given = roll_at(s, at);
-    let mut space = [0u8; 32800];
+    let mut space = buffer();
     let buf = bytes(s, given.next, &mut space);
     let n = buf.value;
     let mut entries = [0u32; 2100];
@@ -152,7 +164,7 @@ fn directory(roll: Roll, buf: &[u8], dir: &mut [u32]) {
 // A roll, a buffer, a directory, a place.
 fn read_case(s: &[u8], at: usize) -> usize {
     let given = roll_at(s, at);
-    let mut space = [0u8; 32800];
+    let mut space = buffer();
     let buf = bytes(s, given.next, &mut space);
     let n = buf.value;
     let mut entries = [0u32; 2100];
@@ -173,7 +185,7 @@ fn read(roll: Roll, buf: &[u8], dir: &[u32], place: usize) {
 // A roll, a buffer, a pattern, the hit list as it was: both searches.
 fn search_case(s: &[u8], at: usize) -> usize {
     let given = roll_at(s, at);
-    let mut space = [0u8; 32800];
+    let mut space = buffer();
     let buf = bytes(s, given.next, &mut space);
     let n = buf.value;
     let mut letters = [0u8; 128];
@@ -220,7 +232,7 @@ fn total(answer: Total) {
 // A roll, a buffer, a directory, start, end, a text.
 fn edit_case(s: &[u8], at: usize) -> usize {
     let given = roll_at(s, at);
-    let mut space = [0u8; 32800];
+    let mut space = buffer();
     let buf = bytes(s, given.next, &mut space);
     let n = buf.value;
     let mut entries = [0u32; 2100];
@@ -255,6 +267,58 @@ fn edited(roll: Roll, buf: &mut [u8], dir: &mut [u32], start: usize, stop: usize
     end();
 }
 
+// A roll, a buffer, start, end, a text: a directory is made, the character at the start is read, and the edit is made.
+fn long_edit_case(s: &[u8], at: usize) -> usize {
+    let given = roll_at(s, at);
+    let mut space = buffer();
+    let buf = bytes(s, given.next, &mut space);
+    let n = buf.value;
+    let start = number(s, buf.next);
+    let stop = number(s, start.next);
+    let mut letters = [0u8; 128];
+    let text = bytes(s, stop.next, &mut letters);
+    let p = text.value;
+    let roll = given.roll;
+    let mut entries = [0u32; 32770];
+    long_directory(roll, &space[..n], &mut entries);
+    read(roll, &space[..n], &entries, start.value);
+    long_edited(
+        roll,
+        &mut space[..n],
+        &mut entries,
+        start.value,
+        stop.value,
+        &letters[..p],
+    );
+    text.next
+}
+
+fn long_directory(roll: Roll, buf: &[u8], dir: &mut [u32]) {
+    io::write_all(1, b"directory");
+    done(roll::make_directory::make_directory(roll, buf, dir));
+    rises(dir);
+    end();
+}
+
+fn long_edited(
+    roll: Roll,
+    buf: &mut [u8],
+    dir: &mut [u32],
+    start: usize,
+    stop: usize,
+    text: &[u8],
+) {
+    io::write_all(1, b"edit");
+    let outcome = roll::edit::edit(roll, buf, dir, start, stop, text);
+    let answer = outcome.answer;
+    let record = outcome.roll;
+    done(answer);
+    roll_out(record);
+    runs(buf);
+    rises(dir);
+    end();
+}
+
 // The program's input.
 fn report_case(s: &[u8], at: usize) -> usize {
     let mut letters = [0u8; 16600];
@@ -273,7 +337,7 @@ fn reported(input: &[u8]) {
 
 // A text, the counts as they were.
 fn count_case(s: &[u8], at: usize) -> usize {
-    let mut letters = [0u8; 65600];
+    let mut letters = text_room();
     let text = bytes(s, at, &mut letters);
     let n = text.value;
     let mut row = [0u32; 300];

@@ -2,6 +2,8 @@
 use crate::outcomes::first_read;
 use crate::outcomes::frame_read;
 use crate::outcomes::frames_read;
+use crate::rooms::buffer;
+use crate::rooms::text_room;
 use casebook::given::Value;
 use casebook::given::bytes;
 use casebook::given::number;
@@ -48,7 +50,7 @@ fn edited(s: &[u8], at: usize, text: &[u8], row: &mut [u8]) -> Value
 
 // Read by one of them, what is lent as it was.
 fn read(what: usize, text: &[u8], lent: &[u8]) {
-    let mut space = [0u8; 32800];
+    let mut space = buffer();
     let n = lay(&mut space, 0, lent, 0, lent.len());
     match what {
         2 => frames_read(text, &mut space[..n]),
@@ -58,7 +60,7 @@ fn read(what: usize, text: &[u8], lent: &[u8]) {
 }
 
 fn one_edit(s: &[u8], at: usize, what: usize, text: &[u8], lent: &[u8]) -> usize {
-    let mut letters = [0u8; 131200];
+    let mut letters = text_room();
     let after = edited(s, at, text, &mut letters);
     let n = after.value;
     read(what, &letters[..n], lent);

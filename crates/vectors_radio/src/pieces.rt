@@ -9,7 +9,7 @@ use radio::records::Searcher;
 ghost use Rattle.io.specs.Counts.{Counts};
 
 // What lies in an entry when it is lent: more than any hit.
-const LENT: u32 = 1000000;
+const LENT: u32 = 2000000;
 
 struct Went {
     searcher: Searcher,
@@ -83,11 +83,11 @@ fn fed(searcher: Searcher, piece: &[u8], slice: &mut [u32]) -> Searcher {
 
 // A piece, and how many entries are lent for it.
 fn one_piece(s: &[u8], at: usize, searcher: Searcher) -> Went {
-    let mut space = [0u8; 4200];
+    let mut space = [0u8; 16400];
     let piece = bytes(s, at, &mut space);
     let n = piece.value;
     let lent = number(s, piece.next);
-    let mut entries = [0u32; 16800];
+    let mut entries = [0u32; 65600];
     let m = lend(&mut entries, lent.value);
     let after = fed(searcher, &space[..n], &mut entries[..m]);
     Went {

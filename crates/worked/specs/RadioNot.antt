@@ -32,7 +32,7 @@ unfolding bananas heard
 start-not-refusing p e = apart (sym (p .says) ∙ ap doneSays e)
 
 -- 11 asked before 5
-pub start-not-11-first : {r : Started} {v : ℕ} → Starting (rolled bananas 6 65537) [] r → r .answer ≡ Refused 11 v → ⊥
+pub start-not-11-first : {r : Started} {v : ℕ} → Starting (rolled bananas 6 1048577) [] r → r .answer ≡ Refused 11 v → ⊥
 unfolding bananas heard
 start-not-11-first p q = let e = number-of (sym (ap doneSays q) ∙ p .says) in omega arith
 
@@ -47,7 +47,7 @@ unfolding bananas heard
 start-not-13 p q = apart (sym (p .says) ∙ ap doneSays q)
 
 -- 11 for byte 10 before 5
-pub start-not-newline-first : {r : Started} {v : ℕ} → Starting (rolled bananas 6 65537) (97 ∷ 10 ∷ []) r → r .answer ≡ Refused 11 v → ⊥
+pub start-not-newline-first : {r : Started} {v : ℕ} → Starting (rolled bananas 6 1048577) (97 ∷ 10 ∷ []) r → r .answer ≡ Refused 11 v → ⊥
 unfolding bananas heard
 start-not-newline-first p q = let e = number-of (sym (ap doneSays q) ∙ p .says) in omega arith
 
