@@ -19,15 +19,16 @@
 
 #define ROOM(array) (sizeof(array) / sizeof((array)[0]))
 
-enum { WIDTH = 4 };
+/* The symbols that this box has memory for; the longest roll there is has MONTERCULO_SYMBOLS. */
+enum { WIDTH = 4, SYMBOLS = 65536 };
 
-/* The box: the record of the roll, its packed bytes and its directory, with room for the longest roll there is. */
+/* The box: the record of the roll, its packed bytes and its directory. */
 static struct monterculo_roll roll;
-static uint8_t buf[MONTERCULO_BYTES(MONTERCULO_SYMBOLS, WIDTH)];
-static uint32_t dir[MONTERCULO_ENTRIES(MONTERCULO_SYMBOLS)];
+static uint8_t buf[MONTERCULO_BYTES(SYMBOLS, WIDTH)];
+static uint32_t dir[MONTERCULO_ENTRIES(SYMBOLS)];
 
 /* A plain text: what is packed, or what was unpacked. No roll has more characters than symbols. */
-static uint8_t plain[MONTERCULO_SYMBOLS];
+static uint8_t plain[SYMBOLS];
 
 /* These tell what went wrong. Here and below, 1 is for what went wrong and 0 for what went well. */
 static int told(const char *what, const char *why)

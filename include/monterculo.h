@@ -44,10 +44,11 @@
  *   a buffer              h*k/8 bytes, rounded up, for h symbols: MONTERCULO_BYTES(h, k)
  *   hits of a piece       8/k entries of 32 bits for each of its bytes: MONTERCULO_HITS(piece_len, k)
  *   a frame text          27 + 2*sigma + 2*b + 3*f bytes for b packed bytes in b/32 frames, rounded up, which are f:
- *                         MONTERCULO_FRAME_TEXT(sigma, h, k), at most 69,147
+ *                         MONTERCULO_FRAME_TEXT(sigma, h, k), at most 1,098,267
  *   a frame's bytes       32 packed ones at most: MONTERCULO_FRAME
- * No roll has more than 65,536 symbols. The room of a buffer is the smaller of 65,536 and its bytes times 8/k, in
- * symbols. For an edit, lend what the roll needs before it and what it needs after it, whichever is more. */
+ * No roll has more than 1,048,576 symbols, so no buffer needs more than 262,144 bytes with k = 2, or 524,288 with k = 4.
+ * The room of a buffer is the smaller of 1,048,576 and its bytes times 8/k, in symbols. For an edit, lend what the roll
+ * needs before it and what it needs after it, whichever is more. */
 #ifndef MONTERCULO_H
 #define MONTERCULO_H
 
@@ -59,17 +60,21 @@ extern "C" {
 #endif
 
 /* Of this header: the first number changes where the form of a struct or a function does, the second where one is added
- * or answers otherwise. Otherwise than in 1.4, a pattern with byte 10 is refused 11 by search, search_jumping and start, and
- * a searcher that holds one by feed and finish. */
+ * or answers otherwise.
+ * Otherwise than in 1.5, a roll may have 1,048,576 symbols and a text to be counted as many characters, where it was
+ * 65,536; what counting answers with 4 is the new limit. Sizes of fixed memory that were taken from MONTERCULO_SYMBOLS
+ * grow with it.
+ * Otherwise than in 1.4, a pattern with byte 10 is refused 11 by search, search_jumping and start, and a searcher that
+ * holds one by feed and finish. */
 #define MONTERCULO_VERSION_MAJOR 1
-#define MONTERCULO_VERSION_MINOR 5
-#define MONTERCULO_VERSION "1.5"
+#define MONTERCULO_VERSION_MINOR 6
+#define MONTERCULO_VERSION "1.6"
 
 #define MONTERCULO_PLACES 256
 #define MONTERCULO_CODEWORD 86
 #define MONTERCULO_PATTERN 64
 #define MONTERCULO_SEARCHER 384 /* sizeof(struct monterculo_searcher) */
-#define MONTERCULO_SYMBOLS 65536
+#define MONTERCULO_SYMBOLS 1048576
 #define MONTERCULO_FRAME 32
 #define MONTERCULO_ENTRIES(n) ((size_t)(n) / 32 + ((n) % 32 != 0))
 #define MONTERCULO_BYTES(h, k) (((size_t)(h) * (k) + 7) / 8)
@@ -87,10 +92,10 @@ enum monterculo_number {
     MONTERCULO_BAD_COUNTS = 2,
     /* A text character not in the table. Value: place of the first. */
     MONTERCULO_NOT_IN_TABLE = 3,
-    /* The packed result exceeds the room, or a text to be counted is over 65,536 characters. Value: number of the first
-     * character whose codeword does not fit (for an edit, in the edited text); counting: 65,536. */
+    /* The packed result exceeds the room, or a text to be counted is over 1,048,576 characters. Value: number of the first
+     * character whose codeword does not fit (for an edit, in the edited text); counting: 1,048,576. */
     MONTERCULO_NO_ROOM = 4,
-    /* h exceeds the room, or where there is no buffer 65,536; or a piece reaches past the byte that holds symbol h - 1.
+    /* h exceeds the room, or where there is no buffer 1,048,576; or a piece reaches past the byte that holds symbol h - 1.
      * Value: h. */
     MONTERCULO_BAD_SYMBOL_COUNT = 5,
     /* Reading meets a codeword unfinished at h, or of rank sigma or more. Value: its first symbol's number. For finish also
@@ -124,7 +129,7 @@ static inline const char *monterculo_text(uint32_t number)
     case MONTERCULO_BAD_TABLE: return "bad table: k, s, sigma, or a character twice; or a searcher out of its bounds";
     case MONTERCULO_BAD_COUNTS: return "counts slice not 256 long";
     case MONTERCULO_NOT_IN_TABLE: return "a text character not in the table";
-    case MONTERCULO_NO_ROOM: return "the packed result exceeds the room, or the text to be counted 65,536 characters";
+    case MONTERCULO_NO_ROOM: return "the packed result exceeds the room, or the text to be counted 1,048,576 characters";
     case MONTERCULO_BAD_SYMBOL_COUNT: return "h exceeds the room, or a piece reaches past the roll's last byte";
     case MONTERCULO_BAD_CODEWORD: return "a codeword unfinished at h, or of rank sigma or more; or bytes not come";
     case MONTERCULO_BAD_CHARACTER_COUNT: return "codewords read are not n";
@@ -216,7 +221,7 @@ struct monterculo_fed {
 /* The code alone. */
 
 /* Counts the characters of a text.
- * Refused: 2 (counts_len), 4 (65,536).
+ * Refused: 2 (counts_len), 4 (1,048,576).
  * Writes: each of the 256 counts becomes that byte's count. */
 struct monterculo_answer monterculo_count(const uint8_t *text, size_t text_len, uint32_t *counts, size_t counts_len);
 
@@ -225,9 +230,9 @@ struct monterculo_answer monterculo_count(const uint8_t *text, size_t text_len, 
  * as they are.
  * Refused: 1 (0; the width only), 2 (counts_len); the table is then k, s 0, sigma 0, all places 0.
  * Value: the total of symbols; a buffer of MONTERCULO_BYTES(total, k) bytes has room for the counted text, if the total
- * is not over 65,536. It may have more than needed: the total is the symbols of the text, and a codeword of each of the
+ * is not over 1,048,576. It may have more than needed: the total is the symbols of the text, and a codeword of each of the
  * twelve that the text does not hold and of each other character counted in beside it. So a text may be packed though
- * its total is somewhat over 65,536. */
+ * its total is somewhat over 1,048,576. */
 struct monterculo_chosen monterculo_choose(uint8_t k, const uint32_t *counts, size_t counts_len);
 
 /* The codeword of a character.
@@ -306,7 +311,7 @@ struct monterculo_rolled monterculo_edit(struct monterculo_roll roll, uint8_t *b
 
 /* The searcher of a roll and a pattern of 1 to 64 characters without byte 10, before the first piece. It does not look at
  * n. A pattern with a character that is not in the table has no hits.
- * Refused: 1 (0), 5 (h; h over 65,536), 11 (0); the searcher is then that of the roll with an empty pattern, which feed
+ * Refused: 1 (0), 5 (h; h over 1,048,576), 11 (0); the searcher is then that of the roll with an empty pattern, which feed
  * and finish refuse in their turn. */
 struct monterculo_started monterculo_start(struct monterculo_roll roll, const uint8_t *pattern, size_t pattern_len);
 

@@ -130,7 +130,7 @@ pub const PLACES: usize = 256;
 pub const LONGEST: usize = 86;
 
 /// The most symbols of a roll, and the most characters of a text to be counted.
-pub const SYMBOLS: usize = 65_536;
+pub const SYMBOLS: usize = 1_048_576;
 
 /// The most characters of a pattern, none of which is byte 10.
 pub const PATTERN: usize = 64;
@@ -150,12 +150,12 @@ pub const fn entries_for(n: u32) -> usize {
 /// The bytes of a buffer for h symbols of k bits: h·k/8, rounded up.
 ///
 /// The total of [`Table::choose`] may be taken as it is; it is enough for the counted text, and may be more than that
-/// needs. No roll has more than [`SYMBOLS`] symbols, so more than 16,384 bytes with k = 2, or 32,768 with k = 4, are of
-/// no use to one.
+/// needs. No roll has more than [`SYMBOLS`] symbols, so more than 262,144 bytes with k = 2, or 524,288 with k = 4, are
+/// of no use to one.
 ///
 /// ```
 /// assert_eq!([0, 1, 4, 5, 13].map(|h| monterculo::bytes_for(2, h)), [0, 1, 1, 2, 4]);
-/// assert_eq!(monterculo::bytes_for(4, 65_536), 32_768);
+/// assert_eq!([2, 4].map(|k| monterculo::bytes_for(k, 1_048_576)), [262_144, 524_288]);
 /// ```
 pub const fn bytes_for(k: u8, h: u64) -> usize {
     let bits = h.saturating_mul(k as u64);
@@ -176,11 +176,11 @@ pub const fn hits_for(k: u8, bytes: usize) -> usize {
 /// The bytes of the frame text of a roll with σ characters in its table and h symbols of k bits: 27 + 2σ, and 2 for each
 /// packed byte and 3 for each [`FRAME`] of them, rounded up.
 ///
-/// No roll has a frame text of more than 69,147 bytes.
+/// No roll has a frame text of more than 1,098,267 bytes.
 ///
 /// ```
 /// assert_eq!(monterculo::frame_text_for(4, 3, 6), 42);
-/// assert_eq!(monterculo::frame_text_for(4, 256, 65_536), 69_147);
+/// assert_eq!(monterculo::frame_text_for(4, 256, 1_048_576), 1_098_267);
 /// ```
 pub const fn frame_text_for(k: u8, sigma: u16, h: u32) -> usize {
     let bytes = bytes_for(k, h as u64);

@@ -9,7 +9,7 @@ use crate::{bytes_for, count, entries_for, frame_text_for, Refusal, Roll, Table,
 /// A roll together with its buffer and its directory, both with spare room where it was asked for.
 ///
 /// It is sound and its directory right, always: it comes from a text, or from parts or frames that were checked, and only
-/// accepted edits change it. Where an edit needs more room it is made, up to the 65,536 symbols that a roll may have.
+/// accepted edits change it. Where an edit needs more room it is made, up to the 1,048,576 symbols that a roll may have.
 ///
 /// ```
 /// use monterculo::{OwnedRoll, Width};
@@ -57,8 +57,8 @@ impl OwnedRoll {
     /// Only the text's own characters, the ten digits, + and byte 10 can come by [`OwnedRoll::replace`];
     /// [`OwnedRoll::with_spare`] takes further ones.
     ///
-    /// Refusals, in their order: 4 (65,536; the text is longer), 4 (number of the first character behind the 65,536
-    /// symbols of a roll).
+    /// Refusals, in their order: 4 (1,048,576; the text is longer), 4 (number of the first character behind the
+    /// 1,048,576 symbols of a roll).
     ///
     /// ```
     /// use monterculo::{OwnedRoll, Width};
@@ -166,7 +166,7 @@ impl OwnedRoll {
     /// The roll is checked. This finds what breaks the form, and not every change of a digit: send a checksum of your own.
     ///
     /// Refusals, in their order: 15 (0; the first line), 1 (0; the width), 15 (the first line that is wrong, missing or
-    /// too many), then those of [`Roll::check`]: 5 where h is over 65,536.
+    /// too many), then those of [`Roll::check`]: 5 where h is over 1,048,576.
     ///
     /// ```
     /// use monterculo::{OwnedRoll, Refusal};
@@ -178,10 +178,11 @@ impl OwnedRoll {
     /// # Ok::<(), monterculo::Refusal>(())
     /// ```
     pub fn from_frames(text: &[u8]) -> Result<OwnedRoll, Refusal> {
-        // Where the first line is refused the whole text is, whatever the buffer.
+        // Where the first line is refused the whole text is, whatever the buffer; and so it is for a missing line, where
+        // the text has fewer digits than the bytes that h says.
         let room = Roll::from_first_line(first_line(text))
             .map_or(0, |roll| bytes_for(roll.table().k(), u64::from(roll.h()).min(SYMBOLS as u64)));
-        let mut buf = vec![0; room];
+        let mut buf = vec![0; room.min(text.len() / 2)];
         let roll = match Roll::from_frames(text, &mut buf) {
             Err(Refusal::BadSymbolCount { h }) => return Err(Refusal::LongRoll { h }),
             read => read?,
@@ -338,10 +339,10 @@ impl OwnedRoll {
         }
     }
 
-    /// Replaces the characters of a range by a text. Where room is missing it is made, up to 65,536 symbols.
+    /// Replaces the characters of a range by a text. Where room is missing it is made, up to 1,048,576 symbols.
     ///
     /// Refusals, in their order: 10 (0), 3 (place in the text put in), 4 (number, in the edited text, of the first
-    /// character behind the 65,536 symbols). The roll is then as it was.
+    /// character behind the 1,048,576 symbols). The roll is then as it was.
     ///
     /// ```
     /// use monterculo::{OwnedRoll, Width};
@@ -363,7 +364,11 @@ impl OwnedRoll {
                     self.set_room(room.saturating_mul(2).max(64));
                 }
                 Err(refusal) => {
-                    self.set_room(before);
+                    if room > before {
+                        self.set_room(before);
+                        self.buf.shrink_to_fit();
+                        self.directory.shrink_to_fit();
+                    }
                     return Err(refusal);
                 }
                 Ok(()) => return Ok(()),
@@ -374,8 +379,8 @@ impl OwnedRoll {
     /// Replaces the characters of a range by a text of any characters: where the table has not all of them, the edited
     /// text is packed anew under the best table for it, in which the old table's characters keep a place.
     ///
-    /// Refusals, in their order: 10 (0), 4 (65,536; the edited text is longer), 4 (number, in the edited text, of the
-    /// first character behind the 65,536 symbols). The roll is then as it was.
+    /// Refusals, in their order: 10 (0), 4 (1,048,576; the edited text is longer), 4 (number, in the edited text, of the
+    /// first character behind the 1,048,576 symbols). The roll is then as it was.
     ///
     /// ```
     /// use monterculo::{OwnedRoll, Width};
@@ -450,13 +455,15 @@ mod tests {
             // One symbol for each of 40 characters.
             let text = [b'a'; 40];
             hold(&OwnedRoll::new(width, &text).unwrap(), 40);
+            assert!(OwnedRoll::new(width, &text).unwrap().buf.capacity() < 100);
             hold(&OwnedRoll::with_spare(width, &text, b"b", 24).unwrap(), 64);
             hold(&OwnedRoll::with_spare(width, &text, b"", usize::MAX).unwrap(), SYMBOLS);
 
             let mut roll = OwnedRoll::new(width, &text).unwrap();
             // A refused edit keeps no room that it made.
-            roll.replace(.., &[b'a'; 65_537]).unwrap_err();
+            roll.replace(.., &vec![b'a'; SYMBOLS + 1]).unwrap_err();
             hold(&roll, 40);
+            assert!(roll.buf.capacity() < 100 && roll.directory.capacity() < 100);
             roll.replace(40.., b"a").unwrap();
             hold(&roll, 80);
             roll.replace(1.., b"").unwrap();
@@ -473,7 +480,7 @@ mod tests {
                 &OwnedRoll::from_parts(record.clone(), buf.clone(), directory.clone()).unwrap(),
                 40 + 64 / usize::from(width.k()),
             );
-            buf.resize(70_000, 0xff);
+            buf.resize(600_000, 0xff);
             hold(&OwnedRoll::from_parts(record, buf, directory).unwrap(), SYMBOLS);
         }
     }

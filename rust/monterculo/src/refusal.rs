@@ -53,7 +53,7 @@ pub enum Refusal {
         /// The first character that does not fit; for an edit, in the edited text.
         character: usize,
     },
-    /// 4, of counting: the text has more than 65,536 characters.
+    /// 4, of counting: the text has more than 1,048,576 characters.
     LongText {
         /// How many it has.
         length: usize,

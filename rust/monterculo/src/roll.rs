@@ -8,7 +8,7 @@ use crate::{sys, Refusal, Table, SYMBOLS};
 /// The record of a roll: its table, the character count n and the symbol count h.
 ///
 /// The symbols themselves lie in a buffer that is lent to each operation, and so does the directory, where used. The
-/// room of a buffer is the smaller of 65,536 and its bytes times 8/k, in symbols; it may be more than the roll takes.
+/// room of a buffer is the smaller of 1,048,576 and its bytes times 8/k, in symbols; it may be more than the roll takes.
 ///
 /// A roll is sound if [`Roll::check`] accepts it. Every operation looks at what it is lent, so that any buffer may come
 /// with any record: what is not sound is refused.
@@ -57,8 +57,8 @@ impl Roll {
     /// Packs a text into the buffer; bytes past the packed ones are unchanged.
     ///
     /// A buffer of [`bytes_for`](crate::bytes_for)(k, total) bytes has room for a text, where the total is that of
-    /// [`Table::choose`] for the text's counts and not over 65,536. It may have more than needed, because there the ten
-    /// digits, + and byte 10 count as at least 1; so a text may be packed though its total is somewhat over 65,536.
+    /// [`Table::choose`] for the text's counts and not over 1,048,576. It may have more than needed, because there the ten
+    /// digits, + and byte 10 count as at least 1; so a text may be packed though its total is somewhat over 1,048,576.
     ///
     /// Refusals, in their order: 1 (0), 3 (place of the first), 4 (number of the first character that does not fit).
     ///

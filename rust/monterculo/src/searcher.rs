@@ -44,7 +44,7 @@ impl Searcher {
     /// Of the record the table and h are looked at here, and n by [`Searcher::finish`]. A pattern with a character that
     /// is not in the table stands nowhere.
     ///
-    /// Refusals, in their order: 1 (0), 5 (h; it is over 65,536), 11 (0).
+    /// Refusals, in their order: 1 (0), 5 (h; it is over 1,048,576), 11 (0).
     pub fn new(roll: &Roll, pattern: &[u8]) -> Result<Searcher, Refusal> {
         let started = sys::start(roll.record(), pattern);
         match started.answer.result(Given { text: pattern, ..roll.given() }) {
@@ -103,8 +103,8 @@ impl Searcher {
     /// # Ok::<(), monterculo::Refusal>(())
     /// ```
     pub fn find(&mut self, piece: &[u8]) -> Result<Vec<usize>, PieceRefusal<Vec<usize>>> {
-        // No roll has more symbols; a piece that has is refused before the entries are asked for.
-        let mut hits = vec![0; hits_for(self.k(), piece.len()).min(SYMBOLS)];
+        // No roll has more symbols; a piece of more than is missing is refused before the entries are asked for.
+        let mut hits = vec![0; hits_for(self.k(), piece.len().min(self.missing())).min(SYMBOLS)];
         let owned = |hits: &[u32]| hits.iter().map(|&hit| hit as usize).collect();
         match self.feed(piece, &mut hits) {
             Ok(hits) => Ok(owned(hits)),

@@ -8,7 +8,7 @@ use crate::{sys, Refusal, LONGEST, PLACES};
 /// The width of a base symbol: two bits or four.
 ///
 /// Two takes fewer bytes where few characters are frequent; four has room for longer texts, as no roll has more than
-/// 65,536 symbols and with four bits most characters take a single one.
+/// 1,048,576 symbols and with four bits most characters take a single one.
 #[derive(Clone, Copy, Debug, PartialEq, Eq, Hash)]
 pub enum Width {
     /// k = 2: four symbols in a byte.
@@ -33,7 +33,7 @@ impl Width {
 
 /// Counts the characters of a text: each of the 256 counts becomes that byte's count.
 ///
-/// Refusals, in their order: 2 (the length of `counts`), 4 (65,536; the text is longer).
+/// Refusals, in their order: 2 (the length of `counts`), 4 (1,048,576; the text is longer).
 ///
 /// ```
 /// let mut counts = [0; 256];

@@ -176,8 +176,8 @@ fn the_longest() {
         let roll = OwnedRoll::new(width, &vec![b'a'; SYMBOLS]).unwrap();
         let text = roll.to_frames();
         let table = roll.table();
-        assert_eq!(text.len(), frame_text_for(width.k(), table.sigma(), 65_536));
-        assert_eq!(lines(&text).len(), 1 + bytes_for(width.k(), 65_536) / FRAME);
+        assert_eq!(text.len(), frame_text_for(width.k(), table.sigma(), 1_048_576));
+        assert_eq!(lines(&text).len(), 1 + bytes_for(width.k(), 1_048_576) / FRAME);
         assert_eq!(OwnedRoll::from_frames(&text).unwrap(), roll);
     }
 }

@@ -188,37 +188,37 @@ fn room_grows_to_the_limit() {
             roll.replace(text.len().., &put).unwrap();
             text.extend(put);
         }
-        assert_eq!(roll.as_parts().0.h(), 65_536);
+        assert_eq!(roll.as_parts().0.h(), 1_048_576);
         let before = roll.clone();
-        assert_eq!(roll.replace(7..7, b"\n"), Err(Refusal::NoRoom { character: 65_536 }));
-        assert_eq!(roll.replace_any(7..7, b"\n"), Err(Refusal::NoRoom { character: 65_536 }));
-        assert_eq!(roll.replace_any(7..7, b"x"), Err(Refusal::LongText { length: 65_537 }));
+        assert_eq!(roll.replace(7..7, b"\n"), Err(Refusal::NoRoom { character: 1_048_576 }));
+        assert_eq!(roll.replace_any(7..7, b"\n"), Err(Refusal::NoRoom { character: 1_048_576 }));
+        assert_eq!(roll.replace_any(7..7, b"x"), Err(Refusal::LongText { length: 1_048_577 }));
         assert_eq!(roll, before);
         roll.replace(7..8, b"\n").unwrap();
         roll.replace(.., b"ba").unwrap();
         hold(&roll, b"ba");
     }
-    // A text that is counted and has no room: the first character behind 65,536 symbols.
-    let many: Vec<u8> = (0..=255).cycle().take(65_536).collect();
+    // A text that is counted and has no room: the first character behind 1,048,576 symbols.
+    let many: Vec<u8> = (0..=255).cycle().take(SYMBOLS).collect();
     assert_eq!(OwnedRoll::new(Width::Two, &many).unwrap_err().number(), 4);
-    assert_eq!(OwnedRoll::new(Width::Two, &[b'a'; 65_537]), Err(Refusal::LongText { length: 65_537 }));
+    assert_eq!(OwnedRoll::new(Width::Two, &vec![b'a'; SYMBOLS + 1]), Err(Refusal::LongText { length: 1_048_577 }));
     // A refused growth leaves the roll as it was.
     let mut roll = OwnedRoll::new(Width::Two, b"abracadabra").unwrap();
-    assert_eq!(roll.replace(0..0, &[b'a'; 70_000]), Err(Refusal::NoRoom { character: 65_536 }));
+    assert_eq!(roll.replace(0..0, &vec![b'a'; 1_050_000]), Err(Refusal::NoRoom { character: 1_048_576 }));
     hold(&roll, b"abracadabra");
 }
 
 /// A text can fill a roll, though its total is over the limit by those of the twelve that it does not hold.
 #[test]
 fn full_with_a_total_over_the_limit() {
-    let text = [b'a'; 65_536];
+    let text = vec![b'a'; SYMBOLS];
     let mut counts = [7; 256];
     count(&text, &mut counts).unwrap();
     for width in [Width::Two, Width::Four] {
         let (table, total) = Table::choose(width.k(), &counts).unwrap();
-        assert!(total > 65_536);
+        assert!(total > 1_048_576);
         let roll = OwnedRoll::new(width, &text).unwrap();
-        assert_eq!((roll.table(), roll.as_parts().0.h()), (&table, 65_536));
+        assert_eq!((roll.table(), roll.as_parts().0.h()), (&table, 1_048_576));
         hold(&roll, &text);
     }
 }

@@ -5,6 +5,7 @@ use std::error::Error;
 
 use monterculo::{
     bytes_for, count, entries_for, read_frame, sys, Codeword, OwnedRoll, Refusal, Roll, Searcher, Table, TableFault,
+    SYMBOLS,
 };
 
 /// A text packed with this table, in a buffer of just its size.
@@ -251,8 +252,8 @@ fn no_newline_in_a_pattern() {
             assert_eq!(refused(wrong.search(&buf, pattern, &mut [])), (7, text.len() as u64));
             assert_eq!(refused(wrong.search_jumping(&buf, pattern, &mut [])), (7, text.len() as u64));
             assert_eq!(refused(Searcher::new(&wrong, pattern)), (11, 0));
-            assert_eq!(refused(Searcher::new(&Roll::new(roll.table().clone(), 0, 65_537), pattern)), (5, 65_537));
-            assert_eq!(refused(Searcher::new(&Roll::new(Table::new(2, 4, b"a"), 0, 65_537), pattern)), (1, 0));
+            assert_eq!(refused(Searcher::new(&Roll::new(roll.table().clone(), 0, 1_048_577), pattern)), (5, 1_048_577));
+            assert_eq!(refused(Searcher::new(&Roll::new(Table::new(2, 4, b"a"), 0, 1_048_577), pattern)), (1, 0));
         }
         assert_eq!(hits_of(&roll, &buf, b"Oda\r"), [6]);
         assert_eq!(hits_of(&roll, &buf, b"\r"), [9]);
@@ -282,7 +283,7 @@ fn no_newline_in_a_searcher() {
             // 1 for the table and 5 come before, and 1 for the other numbers behind.
             searcher.judge.progress.past = 2;
             assert_eq!(sys::finish(searcher).number, 11);
-            searcher.judge.roll.h = 65_537;
+            searcher.judge.roll.h = 1_048_577;
             assert_eq!(sys::finish(searcher).number, 5);
             searcher.judge.roll.table.s = 0;
             assert_eq!(sys::finish(searcher).number, 1);
@@ -382,10 +383,11 @@ fn refusals_of_parts() {
 
     // P14: the last character that fits, and one more.
     let table = Table::new(2, 1, b"a");
-    let mut buf = vec![0xff; 20_000];
-    assert_eq!(Roll::pack(&table, &[b'a'; 65_536], &mut buf), Ok(Roll::new(table.clone(), 65_536, 65_536)));
-    assert_eq!(refused(Roll::pack(&table, &[b'a'; 65_537], &mut buf)), (4, 65_536));
-    assert_eq!(refused(count(&[b'a'; 65_537], &mut [0; 256])), (4, 65_536));
+    let (text, mut buf) = (vec![b'a'; SYMBOLS + 1], vec![0xff; 300_000]);
+    assert_eq!(Roll::pack(&table, &text[..SYMBOLS], &mut buf), Ok(Roll::new(table.clone(), 1_048_576, 1_048_576)));
+    assert_eq!(refused(Roll::pack(&table, &text, &mut buf)), (4, 1_048_576));
+    assert_eq!(refused(count(&text, &mut [0; 256])), (4, 1_048_576));
+    assert_eq!(count(&text[..SYMBOLS], &mut [0; 256]), Ok(()));
 }
 
 #[test]
@@ -406,8 +408,8 @@ fn a_refused_edit_changes_nothing() {
 
 /// A frame text of one symbol more than a roll may have, with all its lines.
 fn over_the_limit() -> Vec<u8> {
-    let mut text = b"0102010001000100010001000161\n".to_vec();
-    for line in [0_u8; 16_385].chunks(32) {
+    let mut text = b"0102010001001000010010000161\n".to_vec();
+    for line in vec![0_u8; 262_145].chunks(32) {
         text.extend(b"02");
         text.extend(line.iter().flat_map(|_| *b"00"));
         text.push(b'\n');
@@ -456,12 +458,12 @@ fn refusals_by_name() {
             "3: the character '\\n' at place 2 is not in the table"),
         (Roll::pack(table, b"abracadabra", &mut [0; 3]).map(|_| ()), Refusal::NoRoom { character: 10 },
             "4: the packed text has no room in the buffer, from its character 10 on"),
-        (count(&[b'a'; 70_000], &mut [0; 256]), Refusal::LongText { length: 70_000 },
-            "4: a text of 70000 characters is too long to be counted: at most 65536 can be"),
+        (count(&vec![b'a'; 1_050_000], &mut [0; 256]), Refusal::LongText { length: 1_050_000 },
+            "4: a text of 1050000 characters is too long to be counted: at most 1048576 can be"),
         (with(11, 17).check(&buf), Refusal::BadSymbolCount { h: 17 },
             "5: h is 17, more symbols than the buffer has room for"),
-        (start(65_537).map(|_| ()), Refusal::LongRoll { h: 65_537 },
-            "5: h is 65537, and a roll has at most 65536 symbols"),
+        (start(1_048_577).map(|_| ()), Refusal::LongRoll { h: 1_048_577 },
+            "5: h is 1048577, and a roll has at most 1048576 symbols"),
         (fed(12, &buf, 16), Refusal::LongPiece { length: 4, missing: 3, h: 12 },
             "5: a piece of 4 bytes reaches past the roll's last: 3 had not come in"),
         (fed(8, &buf[..2], 8), Refusal::BadCodeword { symbol: 7 },
@@ -522,8 +524,8 @@ fn refusals_by_name() {
             "5: h is 17, more symbols than the buffer has room for"),
         (frames(&[&text(2, 5, 12)[..], b"0218c346\n"].concat()), Refusal::BadCharacterCount { read: 10, n: 11 },
             "7: n is 11, and the characters read are 10"),
-        (OwnedRoll::from_frames(&over_the_limit()).map(|_| ()), Refusal::LongRoll { h: 65_537 },
-            "5: h is 65537, and a roll has at most 65536 symbols"),
+        (OwnedRoll::from_frames(&over_the_limit()).map(|_| ()), Refusal::LongRoll { h: 1_048_577 },
+            "5: h is 1048577, and a roll has at most 1048576 symbols"),
     ];
     let mut numbers = HashSet::new();
     for (answer, refusal, words) in cases {

@@ -77,8 +77,8 @@ fn refused_pieces_change_nothing() {
     let short = Refusal::ShortHits { needed: 12 };
     assert_eq!(searcher.feed(&bytes[1..4], &mut hits[..11]), Err(PieceRefusal { refusal: short, hits: none }));
     // Over any roll, and 5 before 14.
-    assert_eq!(searcher.find(&[0; 70_000]).unwrap_err().refusal.number(), 5);
-    assert_eq!(searcher.feed(&[0; 70_000], &mut []).unwrap_err().refusal.number(), 5);
+    assert_eq!(searcher.find(&vec![0; 300_000]).unwrap_err().refusal.number(), 5);
+    assert_eq!(searcher.feed(&vec![0; 300_000], &mut []).unwrap_err().refusal.number(), 5);
     assert_eq!((&searcher, hits[1..].iter().all(|&later| later == 9)), (&before, true));
     assert_eq!(searcher.feed(&bytes[1..4], &mut hits).unwrap(), [7]);
     searcher.finish().unwrap();
@@ -86,11 +86,11 @@ fn refused_pieces_change_nothing() {
     assert_eq!(bytes_for(2, 13), 4);
 
     let record = |n, h| Roll::new(table.clone(), n, h);
-    assert_eq!(Searcher::new(&record(0, 65_537), b"").unwrap_err(), Refusal::LongRoll { h: 65_537 });
-    assert_eq!(Searcher::new(&record(0, 65_536), b"").unwrap_err(), Refusal::BadPattern { length: 0 });
+    assert_eq!(Searcher::new(&record(0, 1_048_577), b"").unwrap_err(), Refusal::LongRoll { h: 1_048_577 });
+    assert_eq!(Searcher::new(&record(0, 1_048_576), b"").unwrap_err(), Refusal::BadPattern { length: 0 });
     assert_eq!(Searcher::new(&record(0, 9), &[b'a'; 65]).unwrap_err(), Refusal::BadPattern { length: 65 });
     assert_eq!(Searcher::new(&record(0, 9), b"abra\n").unwrap_err(), Refusal::NewlineInPattern { place: 4 });
-    assert_eq!(Searcher::new(&Roll::new(Table::new(3, 1, b"a"), 0, 65_537), b"").unwrap_err().number(), 1);
+    assert_eq!(Searcher::new(&Roll::new(Table::new(3, 1, b"a"), 0, 1_048_577), b"").unwrap_err().number(), 1);
     let empty = Searcher::new(&record(1, 0), b"a").unwrap();
     assert_eq!(empty.finish(), Err(Refusal::BadCharacterCount { read: 0, n: 1 }));
     assert_eq!(empty.clone().find(&[0]).unwrap_err().refusal, Refusal::LongPiece { length: 1, missing: 0, h: 0 });
