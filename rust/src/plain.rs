@@ -1,7 +1,8 @@
 //! The roll's operations as ordinary safe Rust for speed, to measure the archive against.
 //!
-//! Nothing is allocated: all memory is lent, but for tables of a few kilobytes on the stack, and for the packed bytes that
-//! reading frames keeps aside until they are checked.
+//! Nothing is allocated: all memory is lent, but for tables of a few kilobytes on the stack, for what is kept aside there
+//! until a roll is checked (up to 128 kilobytes of entries, or a megabyte of text), and for the packed bytes that reading
+//! frames keeps aside.
 //!
 //! Ranks come from one recurrence: x starts at 0, a continuer makes it x·c + (symbol − s) + 1,
 //! and a stopper ends the codeword of rank x·s + symbol.
@@ -262,17 +263,22 @@ fn unpack_in<const K: usize>(roll: &Roll, buf: &[u8], start: usize, end: usize, 
     })
 }
 
+/// Symbols of a roll for which less is kept aside, as clearing what the longest one needs would count in it.
+const SHORT: usize = 65_536;
+
 pub fn make_directory(roll: &Roll, buf: &[u8], directory: &mut [u32]) -> Answer<()> {
     check_table(&roll.table)?;
-    match roll.table.k {
-        2 => make_directory_in::<2>(roll, buf, directory),
-        _ => make_directory_in::<4>(roll, buf, directory),
+    match (roll.table.k, roll.h as usize <= SHORT) {
+        (2, true) => make_directory_in::<2, { SHORT / STRIDE }>(roll, buf, directory),
+        (2, false) => make_directory_in::<2, { LIMIT / STRIDE }>(roll, buf, directory),
+        (_, true) => make_directory_in::<4, { SHORT / STRIDE }>(roll, buf, directory),
+        (_, false) => make_directory_in::<4, { LIMIT / STRIDE }>(roll, buf, directory),
     }
 }
 
-fn make_directory_in<const K: usize>(roll: &Roll, buf: &[u8], directory: &mut [u32]) -> Answer<()> {
+fn make_directory_in<const K: usize, const ASIDE: usize>(roll: &Roll, buf: &[u8], directory: &mut [u32]) -> Answer<()> {
     // Kept aside until the roll is known to be sound.
-    let mut entries = [0; LIMIT / STRIDE];
+    let mut entries = [0; ASIDE];
     check_with::<K>(roll, buf, |number, first| {
         if number % STRIDE == 0 {
             entries[number / STRIDE] = first as u32;
@@ -801,12 +807,26 @@ pub fn check_straight(roll: &Roll, buf: &[u8]) -> Answer<()> {
     }
 }
 
-/// In one pass, with 64 kilobytes of stack that a small box would not have.
+/// In one pass, with a byte of stack for each symbol, which a small box would not have.
 pub fn unpack_straight(roll: &Roll, buf: &[u8], start: usize, end: usize, out: &mut [u8]) -> Answer<()> {
     check_table(&roll.table)?;
+    if roll.h as usize <= SHORT {
+        unpack_straight_in::<SHORT>(roll, buf, start, end, out)
+    } else {
+        unpack_straight_in::<LIMIT>(roll, buf, start, end, out)
+    }
+}
+
+fn unpack_straight_in<const ASIDE: usize>(
+    roll: &Roll,
+    buf: &[u8],
+    start: usize,
+    end: usize,
+    out: &mut [u8],
+) -> Answer<()> {
     let table = &roll.table;
     let s = u32::from(table.s);
-    let mut text = [0; LIMIT];
+    let mut text = [0; ASIDE];
     // Each symbol writes its character's place; the stopper, the last to do so, is right.
     let write = |number: usize, x: u32, symbol: u32| {
         text[number] = table.places[(x * s + symbol) as usize & 255];
@@ -987,6 +1007,31 @@ mod tests {
             assert_eq!(made, expected);
         }
         assert!([0, 1, 5, 6, 7, 8, 9, 10, 12, 13].iter().all(|&number| numbers[number] > 5), "{:?}", numbers);
+    }
+
+    #[test]
+    fn long_rolls_are_the_reference() {
+        let mut dice = Dice(7);
+        for symbols in [SHORT, SHORT + 1, LIMIT] {
+            let mut table = dice.table();
+            table.sigma = table.sigma.max(u16::from(table.s));
+            // Of characters that take one symbol each.
+            let text: Vec<u8> = (0..symbols).map(|_| table.places[dice.below(usize::from(table.s))]).collect();
+            let k = usize::from(table.k);
+            let (mut buf, mut expected) = (vec![0xAA; bytes_for(k, symbols)], vec![0xAA; bytes_for(k, symbols)]);
+            let (_, roll) = reference::pack(&table, &text, &mut expected);
+            assert!(pack(&table, &text, &mut buf) == Ok(roll.clone()) && buf == expected);
+            assert_eq!((roll.h as usize, check(&roll, &buf), check_straight(&roll, &buf)), (symbols, Ok(()), Ok(())));
+            for (start, end) in [(0, symbols), (symbols - 9, symbols)] {
+                let (mut out, mut straight) = (vec![7; end - start], vec![7; end - start]);
+                assert_eq!(unpack(&roll, &buf, start, end, &mut out), Ok(()));
+                assert_eq!(unpack_straight(&roll, &buf, start, end, &mut straight), Ok(()));
+                assert!(out == text[start..end] && straight == out);
+            }
+            let mut directory = vec![7; entries_for(symbols)];
+            assert_eq!(make_directory(&roll, &buf, &mut directory), Ok(()));
+            assert!(directory.iter().zip((0..).step_by(STRIDE)).all(|(&entry, first)| entry == first));
+        }
     }
 
     #[test]

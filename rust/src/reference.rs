@@ -7,7 +7,7 @@ use std::collections::HashMap;
 use std::rc::Rc;
 
 /// No symbol count, and no text to be counted, exceeds this.
-pub const LIMIT: usize = 65_536;
+pub const LIMIT: usize = 1_048_576;
 /// Symbols of the longest codeword there is (P9).
 pub const LONGEST: usize = 86;
 /// Characters of a text for each directory entry.
@@ -1289,25 +1289,59 @@ mod tests {
 
     #[test]
     fn p14() {
-        let text = vec![b'a'; 65_537];
+        let text = vec![b'a'; LIMIT + 1];
         for k in [2, 4] {
             let mut table = with_places(k, 1, 1);
             table.places[0] = b'a';
-            let mut buf = vec![0xAA; 40_000];
-            let (answer, roll) = pack(&table, &text[..65_536], &mut buf);
+            let mut buf = vec![0xAA; bytes_for(k, LIMIT) + 9];
+            let (answer, roll) = pack(&table, &text[..LIMIT], &mut buf);
             assert!(answer.is_ok());
-            assert_eq!((roll.n, roll.h), (65_536, 65_536));
+            assert_eq!((roll.n, roll.h), (1_048_576, 1_048_576));
+            assert_eq!(check(&roll, &buf), Ok(()));
             let before = buf.clone();
             let (answer, roll) = pack(&table, &text, &mut buf);
-            assert_eq!(refused(answer), (4, 65_536));
+            assert_eq!(refused(answer), (4, 1_048_576));
             assert_eq!((roll.n, roll.h), (0, 0));
             assert_eq!(buf, before);
         }
         let mut counts = [7; 256];
-        assert_eq!(refused(count(&text, &mut counts)), (4, 65_536));
+        assert_eq!(refused(count(&text, &mut counts)), (4, 1_048_576));
         assert_eq!(counts, [7; 256]);
-        assert!(count(&text[..65_536], &mut counts).is_ok());
-        assert_eq!(counts[usize::from(b'a')], 65_536);
+        assert!(count(&text[..LIMIT], &mut counts).is_ok());
+        assert_eq!(counts[usize::from(b'a')], 1_048_576);
+    }
+
+    #[test]
+    fn rolls_at_the_limit() {
+        for k in [2, 4] {
+            // As many codewords of one symbol, and in a longer buffer; one symbol over it.
+            let full = Roll { table: with_places(k, 1, 2), n: 1_048_576, h: 1_048_576 };
+            let over = Roll { n: 1_048_577, h: 1_048_577, ..full.clone() };
+            let mut buf = vec![0; bytes_for(k, LIMIT)];
+            assert_eq!([check(&full, &buf), start(&full, b"a").0], [Ok(()), Ok(())]);
+            assert_eq!(refused(check(&over, &buf)), (5, 1_048_577));
+            buf.push(0);
+            assert_eq!(check(&full, &buf), Ok(()));
+            assert_eq!([refused(check(&over, &buf)), refused(start(&over, b"a").0)], [(5, 1_048_577); 2]);
+
+            // One for another at the front leaves as many; there is no room for more.
+            let mut directory = directory_of(&full, &buf);
+            assert_eq!((directory.len(), directory[32_767]), (32_768, 1_048_544));
+            let before = buf.clone();
+            let (answer, after) = edit(&full, &mut buf, &mut directory, 0, 2, &[1]);
+            assert_eq!((answer, after.n, after.h), (Ok(()), 1_048_575, 1_048_576));
+            assert_eq!(check(&after, &buf), Ok(()));
+            assert_eq!(refused(edit(&after, &mut buf, &mut directory, 9, 9, &[0]).0), (4, 1_048_575));
+            let (answer, again) = edit(&after, &mut buf, &mut directory, 0, 1, &[0, 0]);
+            assert_eq!((answer, again, &buf), (Ok(()), full.clone(), &before));
+
+            // Continuers, closed and open.
+            let run = vec![1; LIMIT - 1];
+            let closed = bytes_of(k, &[&run[..], &[0]].concat());
+            let open = bytes_of(k, &[&[0], &run[..]].concat());
+            assert_eq!(refused(check(&full, &closed)), (6, 0));
+            assert_eq!(refused(check(&full, &open)), (6, 1));
+        }
     }
 
     #[test]
@@ -1622,7 +1656,7 @@ mod tests {
             assert_eq!(start(&roll, pattern).1, start(&roll, b"").1);
             // What is asked before it.
             assert_eq!(refused(search(&Roll { n: 7, ..roll.clone() }, &buf, pattern, &mut hits)), (7, 8));
-            assert_eq!(refused(start(&Roll { h: 65_537, ..roll.clone() }, pattern).0), (5, 65_537));
+            assert_eq!(refused(start(&Roll { h: 1_048_577, ..roll.clone() }, pattern).0), (5, 1_048_577));
         }
         // Byte 13 is a character as any other.
         assert_eq!([found(&roll, &buf, b"b\r"), found(&roll, &buf, b"ab")], [vec![1], vec![0, 4]]);
@@ -1756,12 +1790,12 @@ mod tests {
         let (roll, buf) = rolled(&of_word(), WORD, 5);
         let mut bad = roll.clone();
         bad.table.places[1] = b'a';
-        bad.h = 65_537;
+        bad.h = 1_048_577;
         let empty = |roll: &Roll| Searcher { length: 0, pattern: [0; PATTERN], ..start(roll, b"a").1 };
         assert_eq!((refused(start(&bad, b"").0), start(&bad, b"a").1), ((1, 0), empty(&bad)));
         bad.table = roll.table.clone();
-        assert_eq!((refused(start(&bad, b"").0), start(&bad, b"a").1), ((5, 65_537), empty(&bad)));
-        bad.h = 65_536;
+        assert_eq!((refused(start(&bad, b"").0), start(&bad, b"a").1), ((5, 1_048_577), empty(&bad)));
+        bad.h = 1_048_576;
         assert_eq!(start(&bad, &[b'x'; 64]).0, Ok(()));
         assert_eq!((refused(start(&bad, b"").0), start(&bad, &[b'x'; 65]).1), ((11, 0), empty(&bad)));
         bad.table.k = 0;
@@ -1826,13 +1860,13 @@ mod tests {
         assert_eq!(with(|searcher| searcher.ends = 8), (1, 1));
         assert_eq!(with(|searcher| (searcher.progress.count, searcher.ends) = (2, 4)), (1, 1));
         assert_eq!(with(|searcher| searcher.roll.table.s = 4), (1, 1));
-        assert_eq!(with(|searcher| (searcher.roll.h, searcher.length) = (65_537, 0)), (5, 5));
+        assert_eq!(with(|searcher| (searcher.roll.h, searcher.length) = (1_048_577, 0)), (5, 5));
         assert_eq!(with(|searcher| (searcher.length, searcher.progress.past) = (0, 2)), (11, 11));
         assert_eq!(with(|searcher| searcher.length = 65), (11, 11));
         assert_eq!(with(|searcher| searcher.pattern[0] = 10), (11, 11));
         assert_eq!(with(|searcher| searcher.pattern[3] = 10), (11, 11));
         assert_eq!(with(|searcher| (searcher.pattern[3], searcher.progress.past) = (10, 2)), (11, 11));
-        assert_eq!(with(|searcher| (searcher.pattern[3], searcher.roll.h) = (10, 65_537)), (5, 5));
+        assert_eq!(with(|searcher| (searcher.pattern[3], searcher.roll.h) = (10, 1_048_577)), (5, 5));
         assert_eq!(with(|searcher| (searcher.pattern[3], searcher.roll.table.s) = (10, 4)), (1, 1));
         // Within their bounds all are taken as they are.
         assert_eq!(with(|searcher| (searcher.progress.read, searcher.progress.bad) = (9, 1)), (6, 6));

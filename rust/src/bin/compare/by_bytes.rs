@@ -124,7 +124,11 @@ impl Way {
 /// How many codewords the first h symbols are, or the first symbol of the first that is bad.
 fn codewords(table: &Table, buf: &[u8], h: usize, error: &str) -> Result<usize, usize> {
     let per = per_byte(table.k);
-    let h = if error == "takes 65,536 symbols for none" { h % LIMIT } else { h };
+    let h = match error {
+        "takes 65,536 symbols for none" => h % 65_536,
+        "takes 1,048,576 symbols for none" => h % LIMIT,
+        _ => h,
+    };
     let symbols = symbols_of(table.k, buf, h);
     // Behind the last stopper before this symbol.
     let opened = |at: usize, least: usize| {

@@ -1,13 +1,13 @@
 //! Rolls that come in pieces: what comes and how it is cut, and searchers that nothing made.
 
-use monterculo::sys::{Judge, Progress, Roll, Searcher};
+use monterculo::sys::{Judge, Progress, Roll, Searcher, Table};
 use monterculo_reference::library::searcher_of;
 use monterculo_reference::reference::{self, Received, LIMIT, PATTERN};
 
 use crate::faults::{bad_pattern, faults, Fault};
-use crate::long_rolls::long_roll;
+use crate::long_rolls::{long_roll, long_roll_of};
 use crate::rng::Rng;
-use crate::rolls::{self, bytes_for, per_byte};
+use crate::rolls::{self, bytes_for, per_byte, roll_of_limit, Made};
 use crate::tables::{good_table, spoil_table, table_to_search};
 use crate::texts::pattern;
 
@@ -20,12 +20,17 @@ pub struct Coming {
 
 /// A roll of about so many characters and what comes of it; with none, one or several faults.
 pub fn coming(rng: &mut Rng, length: usize) -> Coming {
+    coming_of(rng, |rng, table, faults| rolls::roll_of(rng, table, length, faults))
+}
+
+/// The same of a roll made in some way.
+fn coming_of(rng: &mut Rng, make: impl Fn(&mut Rng, Table, &[Fault]) -> Made) -> Coming {
     use Fault::*;
     // Room twice, so that 5 comes in a few thousand calls too.
     #[rustfmt::skip]
     let faults = faults(rng, &[Table, OtherTable, Room, Room, Rank, Rank, Rank, Unfinished, Unfinished, Count, Length, Unused, Unused, Unused, Bits, Pattern]);
     let table = table_to_search(rng);
-    let made = rolls::roll_of(rng, table, length, &faults);
+    let made = make(rng, table, &faults);
     let text = made.cut().0;
     let mut pattern = pattern(rng, &made.under, &text);
     if faults.contains(&Pattern) {
@@ -37,6 +42,19 @@ pub fn coming(rng: &mut Rng, length: usize) -> Coming {
 /// The same of a long roll.
 pub fn coming_long(rng: &mut Rng) -> Coming {
     let (roll, buf) = long_roll(rng);
+    of_long(rng, roll, buf)
+}
+
+/// The same of one as long as there may be.
+pub fn coming_at_limit(rng: &mut Rng) -> Coming {
+    if rng.one_in(2) {
+        return coming_of(rng, roll_of_limit);
+    }
+    let (roll, buf) = long_roll_of(rng, LIMIT);
+    of_long(rng, roll, buf)
+}
+
+fn of_long(rng: &mut Rng, roll: Roll, buf: Vec<u8>) -> Coming {
     let whole = Received { roll: roll.into(), pattern: Vec::new(), bytes: buf.clone() };
     let pattern = pattern(rng, &roll.table, &whole.text());
     cut_off(rng, roll, buf, pattern)
@@ -155,7 +173,7 @@ pub fn any_searcher(rng: &mut Rng) -> Searcher {
 fn small_searcher(rng: &mut Rng) -> Searcher {
     let table = if rng.one_in(3) { good_table(rng) } else { table_to_search(rng) };
     let (any, most) = (rng.between(0, LIMIT), rng.pick(&[1, 9, 40, 40, 300]));
-    let h = if rng.one_in(5) { any } else { rng.between(0, most) };
+    let h = if rng.one_in(5) { rng.pick(&[any, LIMIT]) } else { rng.between(0, most) };
     // Mostly so that few bytes are missing.
     let due = bytes_for(table.k, h);
     let missing = rng.pick(&[0, 1, 2, 3, 9, due]).min(due);
@@ -171,7 +189,9 @@ fn small_searcher(rng: &mut Rng) -> Searcher {
     pattern.iter_mut().filter(|character| **character == 10).for_each(|character| *character = 13);
     let (bits, fewer) = (rng.next(), rng.next() & rng.next());
     let ends = rng.pick(&[u64::MAX, bits, fewer, 0]) & ((1 << count.min(length - 1)) - 1);
-    let near = rng.pick(&[count, count, count, count + 1, count + 65_536]) as u32;
+    // The same in 16 or 20 bits.
+    let over = count + (1 << rng.pick(&[16, 20]));
+    let near = rng.pick(&[count, count, count, count + 1, over, over]) as u32;
     let any = rng.next() as u32;
     let n = rng.pick(&[near, near, near, any]);
     let mut progress = Progress {

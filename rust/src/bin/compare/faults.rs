@@ -58,10 +58,11 @@ pub fn faults(rng: &mut Rng, from: &[Fault]) -> Vec<Fault> {
     (0..number).map(|_| rng.pick(from)).collect()
 }
 
-/// A number that is not this one, mostly a near one.
+/// A number that is not this one, mostly a near one, or the same once 16 or 20 bits have lost what is over.
 pub fn wrong(rng: &mut Rng, n: u32) -> u32 {
     let any = rng.next() as u32;
-    let other = rng.pick(&[n.wrapping_add(1), n.wrapping_sub(1), n.wrapping_add(65_536), 0, u32::MAX, any]);
+    let over = n.wrapping_add(1 << rng.pick(&[16, 20]));
+    let other = rng.pick(&[n.wrapping_add(1), n.wrapping_sub(1), over, 0, u32::MAX, any]);
     if other == n {
         n.wrapping_add(1)
     } else {
@@ -83,11 +84,12 @@ pub fn bad_range(rng: &mut Rng, n: usize, start: usize, end: usize) -> (usize, u
     }
 }
 
-/// Another entry: near, inside a codeword, at h, over it, or the same once 16 or 31 bits have lost what is over.
+/// Another entry: near, inside a codeword, at h, over it, or the same once 16, 20 or 31 bits have lost what is over.
 pub fn wrong_entry(rng: &mut Rng, entry: u32, h: u32) -> u32 {
     let any = rng.below(h.max(1) as usize) as u32;
     let below = [any, any, any, entry.wrapping_add(1), entry.wrapping_sub(1), 0, h.wrapping_sub(1)];
-    let over = [h, h, h.wrapping_add(1), u32::MAX, entry.wrapping_add(65_536), entry.wrapping_add(1 << 31)];
+    let lost = entry.wrapping_add(1 << rng.pick(&[16, 20]));
+    let over = [h, h, h.wrapping_add(1), u32::MAX, lost, entry.wrapping_add(1 << 31)];
     if rng.one_in(2) {
         rng.pick(&below)
     } else {

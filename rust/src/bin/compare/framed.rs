@@ -1,11 +1,11 @@
 //! Frame texts: of rolls as they stand, sound or not, and damaged ones.
 
 use monterculo::sys::Roll;
-use monterculo_reference::reference::{listing, FRAME, LIMIT};
+use monterculo_reference::reference::{listing, FRAME};
 
 use crate::faults::Fault;
 use crate::rng::Rng;
-use crate::rolls::{packed_roll, per_byte, roll_of, roll_of_codewords, Made};
+use crate::rolls::{per_byte, roll_of, roll_of_codewords, roll_of_symbols, Made};
 use crate::tables::good_table;
 use crate::texts::ranks;
 
@@ -42,11 +42,12 @@ pub fn packed_line(packed: &[u8]) -> Vec<u8> {
     line_of(&[&[2], packed].concat())
 }
 
-/// A roll whose packed bytes often fill their last frame, or but for a byte; seldom one as long as there may be.
+/// A roll whose packed bytes often fill their last frame, or but for a byte; seldom one of some 65,536 symbols.
 pub fn roll_to_frame(rng: &mut Rng, faults: &[Fault]) -> Made {
     let table = good_table(rng);
     if rng.one_in(60) {
-        return packed_roll(rng, table, LIMIT, true, faults);
+        let symbols = rng.near_16_bits();
+        return roll_of_symbols(rng, table, symbols, faults);
     }
     if table.sigma == 0 || rng.one_in(5) {
         let length = rng.length();
@@ -62,11 +63,11 @@ pub fn roll_to_frame(rng: &mut Rng, faults: &[Fault]) -> Made {
             break;
         }
         left -= list.codewords[rank].len();
-        codewords.push(list.codewords[rank].clone());
+        codewords.push(&list.codewords[rank][..]);
     }
     // Rank 0 takes one symbol.
-    codewords.resize(codewords.len() + left, list.codewords[0].clone());
-    roll_of_codewords(rng, table, codewords, false, faults)
+    codewords.resize(codewords.len() + left, &list.codewords[0]);
+    roll_of_codewords(rng, table, codewords, faults)
 }
 
 /// The bytes next to digits and to capitals.

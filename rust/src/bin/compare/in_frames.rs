@@ -38,7 +38,7 @@ pub fn write(roll: &Roll, buf: &[u8], out: &mut [u8], error: &str) -> Answer {
     let needed = match error {
         "asks 13 of the digits alone" => text.iter().filter(|&&byte| byte != 10).count(),
         "asks one byte more" => text.len() + 1,
-        "asks 13 of the longest text" => text.len().max(69_147),
+        "asks 13 of the longest text" => text.len().max(1_098_267),
         _ => text.len(),
     };
     if out.len() < needed {
@@ -100,6 +100,7 @@ fn first_frame(roll: &Roll, error: &str) -> Vec<u8> {
         "changes k for s" => std::mem::swap(&mut k, &mut s),
         "writes 8 bits of sigma" => sigma &= 0xFF,
         "writes 16 bits of h" => h &= 0xFFFF,
+        "writes 20 bits of h" => h &= 0xF_FFFF,
         _ => {}
     }
     let mut frame = vec![if error == "begins with kind 0" { 0 } else { 1 }, k, s];
@@ -120,6 +121,7 @@ fn text_of(roll: &Roll, buf: &[u8], error: &str) -> Vec<u8> {
     let used = match error {
         "writes the whole buffer" => buf.len(),
         "writes whole bytes alone" => h / per_byte(k),
+        "writes 65,536 bytes at most" => bytes_for(k, h).min(65_536),
         _ => bytes_for(k, h),
     };
     let mut bytes = buf[..used].to_vec();
@@ -258,6 +260,8 @@ fn first_record(line: &[u8], error: &str) -> Option<Roll> {
         "changes k for s" => std::mem::swap(&mut k, &mut s),
         "keeps 16 bits of n" => n &= 0xFFFF,
         "keeps 16 bits of h" => h &= 0xFFFF,
+        "keeps 20 bits of n" => n &= 0xF_FFFF,
+        "keeps 20 bits of h" => h &= 0xF_FFFF,
         _ => {}
     }
     Some(Roll { table: Table { k, s, sigma, places }, n, h })
@@ -490,7 +494,8 @@ pub fn read(text: &[u8], buf: &mut [u8], error: &str) -> Rolled {
     if width {
         return Rolled { answer: shaped.unwrap_or(says(1, 0)), roll: NO_ROLL };
     }
-    if due <= 40_000 {
+    // Not as many as h may say.
+    if due <= LIMIT {
         packed.resize(due, 0);
     }
 
@@ -498,7 +503,8 @@ pub fn read(text: &[u8], buf: &mut [u8], error: &str) -> Rolled {
     let bytes = if error == "asks h of the bytes that came" { came } else { buf.len() };
     let limit = match error {
         "knows no limit" => usize::MAX,
-        "refuses 65,536 symbols" => LIMIT - 1,
+        "keeps a limit of 65,536" => 65_536,
+        "refuses 1,048,576 symbols" => LIMIT - 1,
         _ => LIMIT,
     };
     let room = limit.min(bytes * per_byte(k))

@@ -2,7 +2,7 @@
 
 use monterculo::sys::{Answer, Fed, Judge, Progress, Searcher};
 use monterculo_reference::library::done;
-use monterculo_reference::reference::{self, symbols_of};
+use monterculo_reference::reference::{self, symbols_of, LIMIT};
 
 use crate::coming::held;
 use crate::planted::{says, takes_byte_10};
@@ -236,6 +236,8 @@ impl Way {
                     fed.answer = finished;
                 }
             }
+            "keeps 16 bits of what was read" => fed.searcher.judge.progress.read &= 0xFFFF,
+            "keeps 20 bits of what was read" => fed.searcher.judge.progress.read &= 0xF_FFFF,
             "counts two for a hit over a border" if hits.first().map_or(false, |&hit| hit < entered.count) => {
                 fed.hits += 1
             }
@@ -252,7 +254,12 @@ pub fn finish(searcher: Searcher, error: &str) -> Answer {
     }
     let Judge { roll, progress } = searcher.judge;
     let (bad, too_soon) = (progress.bad == 1, progress.read < roll.h);
-    let (n, stained) = (progress.count != roll.n, progress.stained == 1);
+    let bits = match error {
+        "asks 16 bits of n" => 0xFFFF,
+        "asks 20 bits of n" => 0xF_FFFF,
+        _ => u32::MAX,
+    };
+    let (n, stained) = ((progress.count ^ roll.n) & bits != 0, progress.stained == 1);
     match error {
         "passes every roll" => says(0, 0),
         "asks 7 before 6" if n => says(7, progress.count as usize),
@@ -277,7 +284,7 @@ fn asked(searcher: &Searcher, error: &str) -> Option<Answer> {
     let right = of_itself(searcher);
     let out_of_bounds = || {
         let mut started = *searcher;
-        started.judge.roll.h = roll.h.min(65_536);
+        started.judge.roll.h = roll.h.min(LIMIT as u32);
         started.length = (*length).clamp(1, 64);
         started.pattern = [0; 64];
         of_itself(&started).number == 1
@@ -286,6 +293,7 @@ fn asked(searcher: &Searcher, error: &str) -> Option<Answer> {
     let over_lines = is_over_lines(held);
     let is_fresh = progress.place == 0 && progress.shorter == 0 && progress.rows == 1 && progress.value == 0;
     match (error, right.number) {
+        ("keeps a limit of 65,536", 0) if roll.h > 65_536 => Some(says(5, roll.h as usize)),
         ("asks bounds before 11", 11) if out_of_bounds() => Some(says(1, 0)),
         ("asks bounds before 5", 5) if out_of_bounds() => Some(says(1, 0)),
         ("asks 11 before 5", 5) if *length == 0 || *length > 64 => Some(says(11, 0)),
@@ -335,7 +343,7 @@ fn forgiven(searcher: &Searcher, error: &str) -> bool {
         "asks no whole bytes" if progress.bad == 0 => progress.bad = 1,
         "asks no beginnings of characters" if *ends < 1 << short => *ends = 0,
         "asks no beginnings of the pattern" if *ends < 1 << few => *ends = 0,
-        "asks no limit" => roll.h = 65_536,
+        "asks no limit" => roll.h = LIMIT as u32,
         // What lies behind a pattern may have byte 10.
         "asks no length" => (*pattern, *length) = ([0; 64], 64),
         _ if takes_byte_10(error, &roll.table, held(searcher).0) => pattern.fill(0),

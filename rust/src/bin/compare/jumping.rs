@@ -158,11 +158,13 @@ pub fn hits(roll: &Roll, buf: &[u8], packed: &[u8], entries: usize, error: &str)
     let symbols = symbols_of(k, buf, buf.len() * per);
     let h = match error {
         "keeps h in 16 bits" => roll.h as usize % (1 << 16),
+        "keeps h in 20 bits" => roll.h as usize % (1 << 20),
         "reads behind h" => symbols.len(),
         _ => roll.h as usize,
     };
     let full = match error {
         "leaves out the last byte" => (h / per).saturating_sub(1),
+        "keeps 16 bits of a byte" => (h / per) % (1 << 16),
         _ => h / per,
     };
     let mut counting = Counting { symbols: &symbols, s, per, n: roll.n, h: roll.h as usize, next: 0, ended: 0 };

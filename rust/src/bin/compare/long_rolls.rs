@@ -2,7 +2,7 @@
 //! The first symbols it may take one by one, so where bytes begin is such a border too.
 
 use monterculo::sys::{Roll, Table};
-use monterculo_reference::reference::{bytes_of, codeword_by_rule, listing, LIMIT};
+use monterculo_reference::reference::{bytes_of, codeword_by_rule, listing};
 
 use crate::faults::Fault;
 use crate::rng::Rng;
@@ -21,9 +21,15 @@ pub const MANY: usize = 2_048;
 
 /// A long roll and its buffer, or one just too short for that; sound, or with one fault.
 pub fn long_roll(rng: &mut Rng) -> (Roll, Vec<u8>) {
+    let h = long_length(rng);
+    long_roll_of(rng, h)
+}
+
+/// One of so many symbols, which are 1,023 at least.
+pub fn long_roll_of(rng: &mut Rng, h: usize) -> (Roll, Vec<u8>) {
     use Fault::*;
     let table = table_at_bounds(rng);
-    let (k, h) = (table.k, long_length(rng));
+    let k = table.k;
     let fault = match rng.below(12) {
         0..=2 => None,
         _ => Some(rng.pick(&[Rank, Rank, Rank, Rank, Unfinished, Endless, Turned, Turned, Count, Unused])),
@@ -98,10 +104,11 @@ fn table_at_bounds(rng: &mut Rng) -> Table {
     table_with(rng, k, s, sigma)
 }
 
-/// Around the first long one with each rest that two bytes leave, around where bytes begin, some thousands, or the limit.
+/// Around the first long one with each rest that two bytes leave, around where bytes begin, some thousands, or next to
+/// where 16 bits wrap.
 fn long_length(rng: &mut Rng) -> usize {
     match rng.below(30) {
-        0 => rng.pick(&[LIMIT - 1, LIMIT]),
+        0 => rng.near_16_bits(),
         1..=7 => rng.between(LONG, 8_000),
         8..=9 => rng.between(FIRST - 1, FIRST + 1),
         _ => rng.between(LONG - 2, LONG + 17),
@@ -121,8 +128,8 @@ fn near_border(rng: &mut Rng, k: u8, h: usize) -> usize {
     (byte * per + rng.pick(&[0, per - 1, any])).min(h - 1)
 }
 
-/// A sound roll of so many characters, and its buffer.
-pub fn roll_of_characters(rng: &mut Rng, n: usize) -> (Roll, Vec<u8>) {
+/// A sound roll of so many characters in no more than so many symbols, and its buffer.
+pub fn roll_of_characters(rng: &mut Rng, n: usize, most: usize) -> (Roll, Vec<u8>) {
     let (mut table, habit) = (table_at_bounds(rng), Habit::of(rng));
     table.sigma = table.sigma.max(1);
     let list = listing(table.k, table.s);
@@ -131,7 +138,7 @@ pub fn roll_of_characters(rng: &mut Rng, n: usize) -> (Roll, Vec<u8>) {
     for behind in (0..n).rev() {
         let rank = habit.rank(rng, usize::from(table.sigma));
         // Rank 0 takes one symbol: room for it is kept for each of those behind.
-        let rank = if taken + list.codewords[rank].len() + behind > LIMIT { 0 } else { rank };
+        let rank = if taken + list.codewords[rank].len() + behind > most { 0 } else { rank };
         taken += list.codewords[rank].len();
         ranks.push(rank);
     }

@@ -94,6 +94,15 @@ fn table_of(operations: &[Listed], counts: &Counts) -> (String, Vec<String>) {
     (text, faults)
 }
 
+/// The calls by which every corner that is due has come.
+const ALL_DUE: u64 = 1_000_000;
+
+/// What is due and was never come to.
+fn missing(operations: &[Listed], reached: &Reached) -> Vec<String> {
+    let due = operations.iter().flat_map(|operation| operation.due);
+    due.filter(|&corner| !reached.contains_key(corner)).map(|corner| format!("never came to: {}", corner)).collect()
+}
+
 /// Ends the run if one call does not come back.
 fn watch(seed: u64) {
     std::thread::spawn(move || {
@@ -155,7 +164,10 @@ fn main() {
             exit(1);
         }
         Ok((counts, reached)) => {
-            let (text, faults) = table_of(&operations, &counts);
+            let (text, mut faults) = table_of(&operations, &counts);
+            if calls >= ALL_DUE {
+                faults.extend(missing(&operations, &reached));
+            }
             let held_to = if with_self { "a second copy of the reference" } else { "the archive" };
             print!("{} calls, seed {}: {} answers as the reference\n{}", calls, seed, held_to, text);
             println!("A chain of calls on the same slices is one call; the table counts each of its calls.");
@@ -175,7 +187,7 @@ fn main() {
 #[cfg(test)]
 mod tests {
     use super::*;
-    use crate::operation::name_of;
+    use crate::operation::kind_of;
 
     #[test]
     fn the_reference_answers_as_itself_and_every_number_comes() {
@@ -193,14 +205,28 @@ mod tests {
     #[test]
     fn every_planted_error_is_found() {
         let operations = operations::all();
-        let mut found = 0;
         for planted in &operations {
             assert!(!planted.errors.is_empty(), "{} has no planted error", planted.name);
-            for error in planted.errors {
+        }
+        println!("{} planted errors are found", found_within(&operations, 5, 26_000, false));
+    }
+
+    #[test]
+    fn every_planted_error_at_the_limit_is_found() {
+        println!("{} planted errors at the limit are found", found_within(&operations::all(), 3, 50_000, true));
+    }
+
+    /// How many planted errors, those at the limit or the others, are found within so many calls: all. A call at the limit
+    /// takes long, and is made for those alone that nothing shorter shows.
+    fn found_within(operations: &[Listed], seed: u64, calls: u64, at_limit: bool) -> usize {
+        let kinds: Vec<(&str, bool)> = (0..calls).map(|call| kind_of(operations, seed, call)).collect();
+        let mut found = 0;
+        for planted in operations {
+            for error in if at_limit { planted.errors_at_limit } else { planted.errors } {
                 // The calls of its own operation alone: the others would be the reference held to itself.
-                let text = (0..26_000)
-                    .filter(|&call| name_of(&operations, 3, call) == planted.name)
-                    .find_map(|call| make(&operations, 3, call).1.compare(Library::WithError(error)).err())
+                let text = (0..calls)
+                    .filter(|&call| kinds[call as usize] == (planted.name, at_limit))
+                    .find_map(|call| make(operations, seed, call).1.compare(Library::WithError(error)).err())
                     .unwrap_or_else(|| panic!("not found: {} {}", planted.name, error));
                 // By its answer or what it leaves, and not by a panic.
                 assert_eq!(text.contains("the library panicked"), *error == "panics", "{} {}", planted.name, error);
@@ -208,7 +234,7 @@ mod tests {
                 found += 1;
             }
         }
-        println!("{} planted errors are found", found);
+        found
     }
 
     #[test]
@@ -216,5 +242,15 @@ mod tests {
         let (_, faults) = table_of(&operations::all(), &Counts::from([(("count", 0), 1), (("count", 13), 1)]));
         assert!(faults.contains(&"count never answered 4".to_string()));
         assert!(faults.contains(&"count answered 13, which its order does not list".to_string()));
+    }
+
+    #[test]
+    fn a_corner_that_is_due_and_never_came_is_an_error() {
+        let operations = operations::all();
+        let all: Reached = operations.iter().flat_map(|operation| operation.due).map(|&corner| (corner, 1)).collect();
+        assert_eq!(missing(&operations, &all), Vec::<String>::new());
+        let mut few = all;
+        few.remove("runs of 1,048,575 continuers, open");
+        assert_eq!(missing(&operations, &few), ["never came to: runs of 1,048,575 continuers, open"]);
     }
 }

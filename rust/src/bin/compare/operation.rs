@@ -18,6 +18,12 @@ pub trait Operation: Clone + Debug + PartialEq + 'static {
     /// The ways in which its cases are made, each with its share of all calls.
     const CASES: Cases<Self>;
 
+    /// The same for rolls and texts as long as there may be. They take long and so are few: one call in [`SELDOM`].
+    const AT_LIMIT: Cases<Self> = &[];
+
+    /// Corners that a million calls must come to.
+    const DUE: &'static [&'static str] = &[];
+
     /// What it answers, in the archive's own struct.
     type Answer: Answered;
 
@@ -48,10 +54,17 @@ pub trait Operation: Clone + Debug + PartialEq + 'static {
     #[cfg(test)]
     const ERRORS: &'static [&'static str];
 
+    /// Those that its cases at the limit alone show.
+    #[cfg(test)]
+    const ERRORS_AT_LIMIT: &'static [&'static str] = &[];
+
     /// The reference with one of these errors.
     #[cfg(test)]
     fn with_error(&mut self, error: &str) -> Self::Answer;
 }
+
+/// One call in so many is at the limit.
+const SELDOM: usize = 500;
 
 /// Shares, and a way to make a case.
 pub type Cases<O> = &'static [(usize, fn(&mut Rng) -> O)];
@@ -152,10 +165,21 @@ impl<O: Operation> Case for O {
 pub struct Listed {
     pub name: &'static str,
     pub numbers: &'static [u32],
+    pub due: &'static [&'static str],
     #[cfg(test)]
     pub errors: &'static [&'static str],
+    #[cfg(test)]
+    pub errors_at_limit: &'static [&'static str],
     shares: usize,
-    make: fn(&mut Rng, usize) -> Box<dyn Case>,
+    shares_at_limit: usize,
+    make: fn(&mut Rng, Share) -> Box<dyn Case>,
+}
+
+/// One of an operation's shares.
+#[derive(Clone, Copy)]
+struct Share {
+    at_limit: bool,
+    number: usize,
 }
 
 impl Listed {
@@ -163,11 +187,16 @@ impl Listed {
         Listed {
             name: O::NAME,
             numbers: O::LISTED,
+            due: O::DUE,
             #[cfg(test)]
             errors: O::ERRORS,
+            #[cfg(test)]
+            errors_at_limit: O::ERRORS_AT_LIMIT,
             shares: O::CASES.iter().map(|&(shares, _)| shares).sum(),
-            make: |rng, share| {
-                let ((_, make), _) = share_of(O::CASES, share, |&(shares, _)| shares);
+            shares_at_limit: O::AT_LIMIT.iter().map(|&(shares, _)| shares).sum(),
+            make: |rng, Share { at_limit, number }| {
+                let cases = if at_limit { O::AT_LIMIT } else { O::CASES };
+                let ((_, make), _) = share_of(cases, number, |&(shares, _)| shares);
                 Box::new(make(rng))
             },
         }
@@ -181,17 +210,20 @@ pub fn make(operations: &[Listed], seed: u64, call: u64) -> (&Listed, Box<dyn Ca
 }
 
 /// The operation of a call, which of its shares, and the numbers for its case.
-fn drawn(operations: &[Listed], seed: u64, call: u64) -> (&Listed, usize, Rng) {
+fn drawn(operations: &[Listed], seed: u64, call: u64) -> (&Listed, Share, Rng) {
     let mut rng = Rng::of_call(seed, call);
-    let share = rng.below(operations.iter().map(|operation| operation.shares).sum());
-    let (operation, share) = share_of(operations, share, |operation| operation.shares);
-    (operation, share, rng)
+    let at_limit = rng.one_in(SELDOM);
+    let shares = |operation: &Listed| if at_limit { operation.shares_at_limit } else { operation.shares };
+    let share = rng.below(operations.iter().map(shares).sum());
+    let (operation, number) = share_of(operations, share, shares);
+    (operation, Share { at_limit, number }, rng)
 }
 
-/// The name of a call's operation; no case is made.
+/// The name of a call's operation, and whether it is at the limit; no case is made.
 #[cfg(test)]
-pub fn name_of(operations: &[Listed], seed: u64, call: u64) -> &'static str {
-    drawn(operations, seed, call).0.name
+pub fn kind_of(operations: &[Listed], seed: u64, call: u64) -> (&'static str, bool) {
+    let (operation, Share { at_limit, .. }, _) = drawn(operations, seed, call);
+    (operation.name, at_limit)
 }
 
 /// Which of these a share of all falls to, and which of its own shares that is.

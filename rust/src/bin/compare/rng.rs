@@ -1,5 +1,13 @@
 //! The generator (splitmix64).
 
+use std::ops::RangeInclusive;
+
+/// The first number that 16 bits cannot tell.
+pub const OVER_16_BITS: usize = 1 << 16;
+
+/// Next to where 16 bits wrap.
+pub const NEAR_16_BITS: RangeInclusive<usize> = OVER_16_BITS - 1..=OVER_16_BITS + 1;
+
 pub struct Rng(u64);
 
 impl Rng {
@@ -68,7 +76,12 @@ impl Rng {
         self.below(longest + 1)
     }
 
-    /// As above, next to where a directory gains an entry, or some thousands.
+    /// One of [`NEAR_16_BITS`].
+    pub fn near_16_bits(&mut self) -> usize {
+        self.between(*NEAR_16_BITS.start(), *NEAR_16_BITS.end())
+    }
+
+    /// Mostly short, next to where a directory gains an entry, or some thousands.
     pub fn border_length(&mut self) -> usize {
         match self.below(90) {
             0 => self.between(2_000, 6_000),

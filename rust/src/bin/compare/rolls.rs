@@ -4,9 +4,9 @@ use monterculo::sys::{Roll, Table};
 use monterculo_reference::reference::{bytes_of, listing, symbols_of, LIMIT, STRIDE};
 
 use crate::faults::{wrong, Fault};
-use crate::rng::Rng;
+use crate::rng::{Rng, OVER_16_BITS};
 use crate::tables::{good_table, other_table, spoil_table};
-use crate::texts::{ranks, run_of_continuers, strange_codeword};
+use crate::texts::{continuers, ranks, run_of_continuers, strange_codeword};
 
 pub fn per_byte(k: u8) -> usize {
     8 / usize::from(k)
@@ -76,50 +76,91 @@ pub fn roll(rng: &mut Rng, faults: &[Fault]) -> Made {
     roll_of(rng, table, length, faults)
 }
 
+/// A roll as long as there may be.
+pub fn roll_at_limit(rng: &mut Rng, faults: &[Fault]) -> Made {
+    let table = good_table(rng);
+    roll_of_limit(rng, table, faults)
+}
+
 /// A roll of about this many characters.
 pub fn roll_of(rng: &mut Rng, table: Table, length: usize, faults: &[Fault]) -> Made {
     if rng.one_in(12) {
         return wild_roll(rng, table, length, faults);
     }
-    // Seldom a roll as long as there may be: the limit alone then decides.
-    let full = rng.one_in(500);
-    packed_roll(rng, table, if full { LIMIT } else { length }, full, faults)
+    if rng.one_in(500) {
+        let symbols = rng.near_16_bits();
+        return roll_of_symbols(rng, table, symbols, faults);
+    }
+    packed_roll(rng, table, length, faults)
 }
 
-/// A roll of so many characters, or up to the limit; sound without faults.
-pub fn packed_roll(rng: &mut Rng, table: Table, length: usize, full: bool, faults: &[Fault]) -> Made {
+/// A roll of so many characters, or of fewer where they would take over some 65,536 symbols; sound without faults.
+pub fn packed_roll(rng: &mut Rng, table: Table, length: usize, faults: &[Fault]) -> Made {
     let list = listing(table.k, table.s);
-    let mut codewords: Vec<Vec<u8>> = Vec::new();
-    let mut taken = 0;
-    for rank in ranks(rng, usize::from(table.sigma), length) {
-        taken += list.codewords[rank].len();
-        if taken > LIMIT {
-            break;
-        }
-        codewords.push(list.codewords[rank].clone());
+    let ranks = ranks_within(rng, &table, length, OVER_16_BITS + 1).0;
+    let codewords = ranks.iter().map(|&rank| &list.codewords[rank][..]).collect();
+    roll_of_codewords(rng, table, codewords, faults)
+}
+
+/// A roll of so many symbols, or of none under a table without characters; sound without faults.
+pub fn roll_of_symbols(rng: &mut Rng, table: Table, symbols: usize, faults: &[Fault]) -> Made {
+    let list = listing(table.k, table.s);
+    let (mut ranks, taken) = ranks_within(rng, &table, symbols, symbols);
+    if table.sigma > 0 {
+        // Rank 0 takes one symbol.
+        ranks.resize(ranks.len() + symbols - taken, 0);
     }
-    if full && table.sigma > 0 {
-        // Rank 0 takes one symbol: up to the limit itself.
-        taken = codewords.iter().map(Vec::len).sum();
-        codewords.resize(codewords.len() + LIMIT - taken, list.codewords[0].clone());
+    let codewords = ranks.iter().map(|&rank| &list.codewords[rank][..]).collect();
+    roll_of_codewords(rng, table, codewords, faults)
+}
+
+/// A roll as long as there may be: of as many symbols or some fewer, or of some 65,536 bytes; with Rank or Unfinished
+/// often a run of continuers as long.
+pub fn roll_of_limit(rng: &mut Rng, mut table: Table, faults: &[Fault]) -> Made {
+    table.sigma = table.sigma.max(1);
+    let (rank, unfinished) = (faults.contains(&Fault::Rank), faults.contains(&Fault::Unfinished));
+    if (rank || unfinished) && !rng.one_in(3) {
+        let run = continuers(rng, &table, LIMIT - 1);
+        let stopper = [rng.below(usize::from(table.s)) as u8];
+        // Closed by the stopper, or open and behind a codeword of rank 0 or none.
+        let codewords = match rng.below(2) {
+            _ if rank => vec![&run[..], &stopper[..]],
+            0 => vec![&[0][..], &run[..]],
+            _ => vec![&run[..]],
+        };
+        let others: Vec<Fault> =
+            faults.iter().copied().filter(|&fault| ![Fault::Rank, Fault::Unfinished].contains(&fault)).collect();
+        return roll_of_codewords(rng, table, codewords, &others);
     }
-    roll_of_codewords(rng, table, codewords, full, faults)
+    let in_bytes = OVER_16_BITS * per_byte(table.k) + rng.below(3) - 1;
+    // With a codeword put in it may still have no more than the limit.
+    let near = LIMIT - rng.below(600);
+    let symbols = rng.pick(&[LIMIT, LIMIT, LIMIT, LIMIT, LIMIT - 1, in_bytes, near]);
+    roll_of_symbols(rng, table, symbols, faults)
+}
+
+/// So many ranks, or as many as take no more than so many symbols; and the symbols that they take.
+fn ranks_within(rng: &mut Rng, table: &Table, length: usize, most: usize) -> (Vec<usize>, usize) {
+    let list = listing(table.k, table.s);
+    let mut ranks = ranks(rng, usize::from(table.sigma), length);
+    let (mut kept, mut taken) = (0, 0);
+    while kept < ranks.len() && taken + list.codewords[ranks[kept]].len() <= most {
+        taken += list.codewords[ranks[kept]].len();
+        kept += 1;
+    }
+    ranks.truncate(kept);
+    (ranks, taken)
 }
 
 /// A roll of these codewords; sound without faults.
-pub fn roll_of_codewords(
-    rng: &mut Rng,
-    mut table: Table,
-    mut codewords: Vec<Vec<u8>>,
-    full: bool,
-    faults: &[Fault],
-) -> Made {
+pub fn roll_of_codewords(rng: &mut Rng, mut table: Table, codewords: Vec<&[u8]>, faults: &[Fault]) -> Made {
     let has = |fault| faults.contains(&fault);
-    let mut strange = 0;
+    let put_in = if has(Fault::Rank) { strange_codeword(rng, &table) } else { Vec::new() };
+    let (mut codewords, mut strange) = (codewords, 0);
     if has(Fault::Rank) {
         let any = rng.between(0, codewords.len());
         strange = rng.pick(&[0, codewords.len(), any]);
-        codewords.insert(strange, strange_codeword(rng, &table));
+        codewords.insert(strange, &put_in);
     }
     let mut symbols = codewords.concat();
     if has(Fault::Unfinished) {
@@ -152,9 +193,6 @@ pub fn roll_of_codewords(
     }
     let behind = rng.pick(&[0, 0, 1, 3, 20]);
     buf.extend(rng.bytes(behind));
-    if full && rng.one_in(2) {
-        buf.resize(bytes_for(k, LIMIT) + rng.below(40), 0x5A);
-    }
     if has(Fault::Length) {
         let any = rng.between(0, symbols.len()) as u32;
         h = rng.pick(&[any, h.saturating_sub(1), h.saturating_sub(1), h + 1, h + 2]);
@@ -177,8 +215,9 @@ pub fn roll_of_codewords(
                 buf.resize(bytes_for(k, LIMIT) + 8, 0);
             }
             let room = room(k, buf.len()) as u32;
-            // The great ones are h again once 32 bits have lost what is over.
-            h = rng.pick(&[room + 1, room + 1, room + 4, 65_537, 0x8000_0000 + h, 0x4000_0000 + h, u32::MAX]);
+            // It is h again in 16 or 20 bits, or, times 2 or 4, in 32.
+            let lost = (h + (1 << rng.pick(&[16, 20, 30, 31]))).max(room + 1);
+            h = rng.pick(&[room + 1, room + 1, room + 4, LIMIT as u32 + 1, lost, lost, u32::MAX]);
         }
     }
     let under = table;

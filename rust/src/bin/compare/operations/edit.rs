@@ -11,8 +11,8 @@ use crate::lent::Lent;
 use crate::operation::{Cases, Corners, Operation};
 #[cfg(test)]
 use crate::planted::{good_if_wrapped, says};
-use crate::rng::Rng;
-use crate::rolls::{bytes_for, entries_for, packed_roll, per_byte, roll_of, room, starts};
+use crate::rng::{Rng, OVER_16_BITS};
+use crate::rolls::{bytes_for, entries_for, packed_roll, per_byte, roll_of, roll_of_symbols, room, starts, Made};
 use crate::tables::{characters, chosen_table, lengths, symbols_in, table_to_search};
 use crate::texts::{put_foreign, ranks, telephone_number};
 
@@ -35,10 +35,18 @@ struct Change {
     text: Lent<u8>,
 }
 
+const TO_LIMIT: &str = "edits to a roll of 1,048,576 symbols";
+const BY_LIMIT: &str = "edits refused 4 by the limit and not the buffer";
+const AT_FRONT: &str = "edits of a roll of 1,048,576 symbols at its front";
+const AS_MANY: &str = "edits of a roll of 1,048,576 symbols that leave as many";
+const FEWER: &str = "edits of a roll of 1,048,576 symbols that leave fewer";
+
 impl Operation for Edit {
     const NAME: &'static str = "edit";
     const LISTED: &'static [u32] = &[0, 1, 3, 4, 5, 6, 7, 8, 9, 10, 12];
     const CASES: Cases<Self> = &[(15, make), (5, make_chain)];
+    const AT_LIMIT: Cases<Self> = &[(4, make_at_limit)];
+    const DUE: &'static [&'static str] = &[TO_LIMIT, BY_LIMIT, AT_FRONT, AS_MANY, FEWER];
     type Answer = Rolled;
 
     fn archive(&mut self) -> Rolled {
@@ -127,7 +135,11 @@ impl Operation for Edit {
                 let takes_last = new_entries > old_entries && new_entries == directory.len();
                 met.meet(takes_last, "edits that take the last entry lent");
                 met.meet(directory.len() > old_entries, "edits with entries behind the used ones");
-                met.meet(new_h == LIMIT, "edits to a roll of 65,536 symbols");
+                met.meet(new_h == LIMIT, TO_LIMIT);
+                met.meet(new_h > OVER_16_BITS && h <= OVER_16_BITS, "edits from up to 65,536 symbols to more");
+                met.meet(h == LIMIT && *end > *start && *start == 0 && tail, AT_FRONT);
+                met.meet(h == LIMIT && new_h == LIMIT && put_in > 0, AS_MANY);
+                met.meet(h == LIMIT && new_h < LIMIT, FEWER);
                 let of_twelve = |text: &[u8]| text.iter().all(|character| ALWAYS.contains(character));
                 met.meet(text.len() > 6 && of_twelve(text), "edits that put in a telephone number");
                 met.meet(text.len() > 6 && of_twelve(text) && end > start, "edits of a run by a telephone number");
@@ -137,7 +149,8 @@ impl Operation for Edit {
                 met.meet(value < start + text.len(), "edits refused 4 in the text put in");
                 met.meet(value >= start + text.len(), "edits refused 4 behind the text put in");
                 met.meet(new_h == room + 1, "edits refused 4 for one symbol");
-                met.meet(buf.len() >= bytes_for(k, LIMIT), "edits refused 4 by the limit and not the buffer");
+                met.meet(buf.len() > bytes_for(k, LIMIT), BY_LIMIT);
+                met.meet(h == LIMIT, "edits of a roll of 1,048,576 symbols refused 4");
                 met.meet(new_entries > directory.len(), "edits refused 4 with the directory too short too");
             }
             _ => met.meet(value == directory.len() + 1, "edits refused 12 for one entry"),
@@ -190,7 +203,7 @@ impl Operation for Edit {
         "answers 4 behind the text at its end",
         "answers the entries lent",
         "answers the entries missing",
-        "knows no limit",
+        "keeps a room of 65,536",
         "swaps start and end",
         "cuts the end to n",
         "cuts numbers to 32 bits",
@@ -201,6 +214,16 @@ impl Operation for Edit {
         "writes n though refused",
         "writes h though refused",
         "panics",
+    ];
+
+    #[cfg(test)]
+    const ERRORS_AT_LIMIT: &'static [&'static str] = &[
+        "knows no limit",
+        "refuses to fill 1,048,576 symbols",
+        "refuses a roll of 1,048,576 symbols",
+        "keeps 16 bits of an entry",
+        "keeps 20 bits of h",
+        "moves 65,536 bytes at most",
     ];
 
     #[rustfmt::skip]
@@ -215,6 +238,10 @@ impl Operation for Edit {
         match error {
             "refuses everything" => return refused(10, 0),
             "answers an empty roll always" => return Rolled { answer: says(0, 0), roll: Roll { table, n: 0, h: 0 } },
+            "keeps a room of 65,536" => {
+                let bytes = buf.len().min(bytes_for(if table.k == 4 { 4 } else { 2 }, 65_536));
+                return by_reference(roll, &mut buf[..bytes], directory, start, end, text);
+            }
             _ => {}
         }
         let (old_buf, old_directory) = (buf.to_vec(), directory.to_vec());
@@ -277,7 +304,7 @@ impl Operation for Edit {
             ("answers 4 behind the text at its end", 4) if value > start + text.len() => refused(4, start + text.len()),
             ("answers the entries lent", 12) => refused(12, directory.len()),
             ("answers the entries missing", 12) => refused(12, value - directory.len()),
-            ("knows no limit", 4) if buf.len() >= bytes_for(table.k, LIMIT) => refused(0, 0),
+            ("knows no limit", 4) if buf.len() > bytes_for(table.k, LIMIT) => refused(0, 0),
             ("swaps start and end", 10) if start > end && start <= n as usize => {
                 by_reference(roll, buf, directory, end, start, text)
             }
@@ -399,9 +426,9 @@ fn change(rng: &mut Rng, table: &Table, text: &[u8], bounds: &[u32], faults: &[F
     } else if rng.one_in(2) && ALWAYS.iter().all(|character| characters(table).contains(character)) {
         telephone_number(rng)
     } else if rng.one_in(200) {
-        // As many symbols as there may be, or more.
-        let most = LIMIT - (h - run);
-        let symbols = rng.pick(&[most, most, most + 1, most + 1, most + 2, LIMIT + 1]);
+        // Up to where 16 bits wrap, or over it.
+        let most = OVER_16_BITS.saturating_sub(h - run);
+        let symbols = rng.pick(&[most, most, most + 1, most + 1, most + 2, OVER_16_BITS + 1]);
         text_of_symbols(rng, table, symbols)
     } else {
         let symbols = match rng.below(16) {
@@ -472,17 +499,54 @@ fn resize_buf(rng: &mut Rng, buf: &mut Vec<u8>, length: usize) {
     buf.truncate(length);
 }
 
+/// How a change is made for a table, a text and where its codewords start.
+type Changing = fn(&mut Rng, &Table, &[u8], &[u32], &[Fault]) -> Change;
+
 fn make(rng: &mut Rng) -> Edit {
-    use Fault::*;
     let faults = edit_faults(rng);
-    let has = |fault| faults.contains(&fault);
     let (table, length) = (table_to_edit(rng), rng.border_length());
-    let mut made = roll_of(rng, table, length, &faults);
+    let made = roll_of(rng, table, length, &faults);
+    of(rng, made, &faults, change)
+}
+
+/// A roll that has all the symbols there may be or some fewer, or a short one; edited, it often has just as many, or more.
+fn make_at_limit(rng: &mut Rng) -> Edit {
+    use Fault::*;
+    let faults: &[Fault] = if rng.one_in(4) { rng.pick(&[&[Entry], &[Range], &[Foreign], &[Directory]]) } else { &[] };
+    let mut table = table_to_edit(rng);
+    table.sigma = table.sigma.max(1);
+    let (near, few) = (LIMIT - rng.below(600), rng.below(2_000));
+    let symbols = rng.pick(&[LIMIT, LIMIT, LIMIT, near, near, few]);
+    let made = roll_of_symbols(rng, table, symbols, faults);
+    of(rng, made, faults, change_at_limit)
+}
+
+/// As `change` for a roll at the limit; the front comes often, as all behind it then moves.
+fn change_at_limit(rng: &mut Rng, table: &Table, text: &[u8], bounds: &[u32], faults: &[Fault]) -> Change {
+    let h = bounds[text.len()] as usize;
+    let front = (0, rng.below(40).min(text.len()));
+    let any = range(rng, table.k, bounds);
+    let (start, end) = if rng.one_in(2) { front } else { any };
+    let run = (bounds[end] - bounds[start]) as usize;
+    // As many symbols as there may be, one or two more, as many as before, or fewer.
+    let fewer = h.saturating_sub(rng.below(200));
+    let edited = rng.pick(&[LIMIT, LIMIT, LIMIT + 1, LIMIT + 1, LIMIT + 2, h, h, fewer]);
+    let mut new = text_of_symbols(rng, table, edited.saturating_sub(h - run));
+    if faults.contains(&Fault::Foreign) {
+        put_foreign(rng, table, &mut new);
+    }
+    Change { start, end, text: new.into() }
+}
+
+/// An edit of a roll, for which the change is made, with buffer and directory.
+fn of(rng: &mut Rng, mut made: Made, faults: &[Fault], change: Changing) -> Edit {
+    use Fault::*;
+    let has = |fault| faults.contains(&fault);
     let (text, mut bounds) = made.cut();
     let mut directory: Vec<u32> = bounds.iter().copied().step_by(STRIDE).collect();
     bounds.push(made.symbols.len() as u32);
     let k = made.under.k;
-    let mut change = change(rng, &made.under, &text, &bounds, &faults);
+    let mut change = change(rng, &made.under, &text, &bounds, faults);
     let run = (bounds[change.end] - bounds[change.start]) as usize;
 
     // Room for the edited text and perhaps more, or with Short for the old one and perhaps more.
@@ -539,7 +603,7 @@ fn make_chain(rng: &mut Rng) -> Edit {
     use Fault::*;
     let table = table_to_edit(rng);
     let length = rng.border_length().min(3_000);
-    let made = packed_roll(rng, table, length, false, &[]);
+    let made = packed_roll(rng, table, length, &[]);
     let (record, table) = (made.roll(), made.table);
     let (mut text, starts) = made.cut();
     let mut directory: Vec<u32> = starts.iter().copied().step_by(STRIDE).collect();
@@ -669,6 +733,21 @@ fn wrong_edit(name: &str, roll: Roll, before: (&[u8], &[u32]), range: (usize, us
             restore(buf, directory);
             return answer(4, u64::from(new_n) - 1, n, h);
         }
+        "refuses to fill 1,048,576 symbols" if new_h > h && new_h as usize == LIMIT => {
+            restore(buf, directory);
+            return answer(4, u64::from(new_n) - 1, n, h);
+        }
+        "refuses a roll of 1,048,576 symbols" if h as usize == LIMIT => {
+            restore(buf, directory);
+            return answer(5, u64::from(h), n, h);
+        }
+        "keeps 16 bits of an entry" => directory[..new_entries].iter_mut().for_each(|entry| *entry &= 0xFFFF),
+        "keeps 20 bits of h" => return answer(0, 0, new_n, new_h & 0xF_FFFF),
+        // Those behind stay as they were.
+        "moves 65,536 bytes at most" if new_bytes > put_to / per + 65_536 => {
+            let kept = put_to / per + 65_536..new_bytes;
+            buf[kept.clone()].copy_from_slice(&before.0[kept]);
+        }
         "refuses to fill the directory" if new_entries > old_entries && new_entries == directory.len() => {
             restore(buf, directory);
             return answer(12, new_entries as u64, n, h);
@@ -740,7 +819,7 @@ mod tests {
         let mut rng = Rng::new(3);
         for _ in 0..400 {
             let (table, length) = (chosen_table(&mut rng), rng.length());
-            let made = packed_roll(&mut rng, table, length, false, &[]);
+            let made = packed_roll(&mut rng, table, length, &[]);
             let (_, starts) = made.cut();
             let (record, mut buf) = (made.roll(), made.buf);
             let mut directory: Vec<u32> = starts.into_iter().step_by(STRIDE).collect();

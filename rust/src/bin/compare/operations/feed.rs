@@ -4,7 +4,7 @@ use monterculo::sys::{self, Answer, Fed, Searcher};
 use monterculo_reference::library::{done, fed, started};
 use monterculo_reference::reference::{self, Received, LIMIT};
 
-use crate::coming::{any_searcher, coming, coming_long, cut, held, Coming};
+use crate::coming::{any_searcher, coming, coming_at_limit, coming_long, cut, held, Coming};
 #[cfg(test)]
 use crate::in_pieces;
 use crate::lent::Lent;
@@ -44,10 +44,15 @@ impl Answered for Told {
     }
 }
 
+const FED: &str = "rolls of 1,048,576 symbols fed";
+const ENDED: &str = "rolls of 1,048,576 symbols fed to their end by a searcher that nothing made";
+
 impl Operation for Feed {
     const NAME: &'static str = "feed";
     const LISTED: &'static [u32] = &[0, 1, 5, 6, 11, 14];
     const CASES: Cases<Self> = &[(6, make), (1, make_long), (5, make_any)];
+    const AT_LIMIT: Cases<Self> = &[(1, make_at_limit)];
+    const DUE: &'static [&'static str] = &[FED, ENDED];
     type Answer = Told;
 
     fn archive(&mut self) -> Told {
@@ -100,6 +105,7 @@ impl Operation for Feed {
         if self.received.is_none() {
             met.meet(number == 0 && !bytes.is_empty(), "pieces fed to a searcher that nothing made");
             met.meet(number == 0 && told.fed.hits > 0, "hits named by a searcher that nothing made");
+            met.meet(number == 0 && before.read < after.read && after.read as usize == LIMIT, ENDED);
             met.meet(self.may_change(told.fed.answer), "bad codewords met by a searcher that nothing made");
             let (held, behind) = held(&self.searcher);
             met.meet(number == 11 && is_over_lines(held), "pieces refused for byte 10 in the searcher");
@@ -128,7 +134,7 @@ impl Operation for Feed {
                     "pieces behind which a codeword is open",
                 );
                 met.meet(bytes.len() as u32 * per >= LONG as u32, "pieces of 2,048 symbols or more");
-                met.meet(h as usize == LIMIT && after.read == h, "rolls of 65,536 symbols fed");
+                met.meet(h as usize == LIMIT && after.read == h, FED);
             }
             6 if before.bad == 1 => met.meet(true, "pieces behind a bad codeword"),
             6 => {
@@ -245,6 +251,9 @@ impl Operation for Feed {
         "clears what is behind the pattern",
         "wants a fresh state where no codeword is open",
         "answers h with 1",
+        "keeps a limit of 65,536",
+        "keeps 16 bits of what was read",
+        "keeps 20 bits of what was read",
         "panics",
     ];
 
@@ -284,12 +293,18 @@ fn make_long(rng: &mut Rng) -> Feed {
     chain(rng, &coming, most)
 }
 
+fn make_at_limit(rng: &mut Rng) -> Feed {
+    let coming = coming_at_limit(rng);
+    chain(rng, &coming, 1)
+}
+
 fn chain(rng: &mut Rng, coming: &Coming, most: usize) -> Feed {
     let searcher = started(reference::start(&coming.roll.into(), &coming.pattern)).searcher;
     let received = Received::new(&coming.roll.into(), &coming.pattern).ok();
     // Under a bad table any width will do.
     let k = if coming.roll.table.k == 4 { 4 } else { 2 };
-    let due = bytes_for(k, (coming.roll.h as usize).min(LIMIT));
+    // With h over the limit every piece is refused.
+    let due = if coming.roll.h as usize > LIMIT { 0 } else { bytes_for(k, coming.roll.h as usize) };
     let mut pieces = Vec::new();
     let mut fed = 0;
     for bytes in cut(&coming.bytes, &coming.cuts(rng, most)) {

@@ -2,7 +2,7 @@
 
 use monterculo::sys::{self, Answer, Searcher};
 use monterculo_reference::library::done;
-use monterculo_reference::reference;
+use monterculo_reference::reference::{self, LIMIT};
 
 use crate::coming::{any_searcher, fed_searcher, held};
 #[cfg(test)]
@@ -16,10 +16,13 @@ pub struct Finish {
     searcher: Searcher,
 }
 
+const OF_LIMIT: &str = "finishings of a roll of 1,048,576 symbols";
+
 impl Operation for Finish {
     const NAME: &'static str = "finish";
     const LISTED: &'static [u32] = &[0, 1, 5, 6, 7, 8, 11];
     const CASES: Cases<Self> = &[(3, make), (3, make_any)];
+    const DUE: &'static [&'static str] = &[OF_LIMIT];
     type Answer = Answer;
 
     fn archive(&mut self) -> Answer {
@@ -50,6 +53,7 @@ impl Operation for Finish {
             11 => met.meet(is_over_lines(held), "finishings refused for byte 10 in the searcher"),
             0 => {
                 met.meet(roll.h == 0, "finishings of a roll without symbols");
+                met.meet(roll.h as usize == LIMIT, OF_LIMIT);
                 met.meet(behind.contains(&10), "finishings with byte 10 behind the pattern");
             }
             _ => {}
@@ -103,6 +107,9 @@ impl Operation for Finish {
         "looks behind the pattern",
         "wants a fresh state where no codeword is open",
         "answers h with 1",
+        "keeps a limit of 65,536",
+        "asks 16 bits of n",
+        "asks 20 bits of n",
     ];
 
     #[cfg(test)]

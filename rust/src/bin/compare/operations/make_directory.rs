@@ -1,6 +1,6 @@
 //! Making a roll's directory.
 
-use monterculo::sys::{self, Answer, Roll};
+use monterculo::sys::{self, Answer, Roll, Table};
 use monterculo_reference::library::done;
 use monterculo_reference::reference::{self, LIMIT, STRIDE};
 
@@ -10,7 +10,7 @@ use crate::operation::{Cases, Corners, Operation};
 #[cfg(test)]
 use crate::planted::says;
 use crate::rng::Rng;
-use crate::rolls::{entries_for, roll_of};
+use crate::rolls::{entries_for, roll_of, roll_of_limit, Made};
 use crate::tables::good_table;
 
 #[derive(Clone, Debug, PartialEq)]
@@ -20,10 +20,14 @@ pub struct MakeDirectory {
     directory: Lent<u32>,
 }
 
+const OF_LIMIT: &str = "directories of rolls of 1,048,576 symbols";
+
 impl Operation for MakeDirectory {
     const NAME: &'static str = "make_directory";
     const LISTED: &'static [u32] = &[0, 1, 5, 6, 7, 8, 12];
     const CASES: Cases<Self> = &[(9, make)];
+    const AT_LIMIT: Cases<Self> = &[(2, make_at_limit)];
+    const DUE: &'static [&'static str] = &[OF_LIMIT];
     type Answer = Answer;
 
     fn archive(&mut self) -> Answer {
@@ -43,7 +47,8 @@ impl Operation for MakeDirectory {
         if answer.number == 0 {
             met.meet(n > 0 && n % STRIDE < 2, "directories with a last entry of 1 or 32 characters");
             met.meet(n > 2_000, "directories of rolls of over 2,000 characters");
-            met.meet(h == LIMIT, "directories of rolls of 65,536 symbols");
+            met.meet(h == LIMIT, OF_LIMIT);
+            met.meet(n == LIMIT, "directories of rolls of 1,048,576 characters");
         }
     }
 
@@ -58,6 +63,9 @@ impl Operation for MakeDirectory {
     ];
 
     #[cfg(test)]
+    const ERRORS_AT_LIMIT: &'static [&'static str] = &["keeps 16 bits of an entry", "has 2,048 entries at most"];
+
+    #[cfg(test)]
     fn with_error(&mut self, error: &str) -> Answer {
         let answer = self.reference();
         let Roll { n, h, .. } = self.roll;
@@ -69,6 +77,8 @@ impl Operation for MakeDirectory {
                     *entry = (number * STRIDE) as u32;
                 }
             }
+            ("keeps 16 bits of an entry", 0) => directory[..needed].iter_mut().for_each(|entry| *entry &= 0xFFFF),
+            ("has 2,048 entries at most", 0) if needed > 2_048 => return says(12, needed),
             ("has an entry more", 0) if n as usize % STRIDE == 0 && needed < directory.len() => directory[needed] = h,
             ("clears what is behind", 0) => directory[needed..].fill(0),
             ("writes before it refuses", 12) if !directory.is_empty() => directory[0] = 0,
@@ -81,11 +91,21 @@ impl Operation for MakeDirectory {
 }
 
 fn make(rng: &mut Rng) -> MakeDirectory {
+    let length = rng.border_length();
+    of(rng, |rng, table, faults| roll_of(rng, table, length, faults))
+}
+
+fn make_at_limit(rng: &mut Rng) -> MakeDirectory {
+    of(rng, roll_of_limit)
+}
+
+/// Of a roll that is made so.
+fn of(rng: &mut Rng, make: impl Fn(&mut Rng, Table, &[Fault]) -> Made) -> MakeDirectory {
     use Fault::*;
     #[rustfmt::skip]
     let faults = faults(rng, &[Table, OtherTable, Room, Rank, Unfinished, Count, Length, Unused, Unused, Bits, Directory, Directory]);
-    let (table, length) = (good_table(rng), rng.border_length());
-    let made = roll_of(rng, table, length, &faults);
+    let table = good_table(rng);
+    let made = make(rng, table, &faults);
     let needed = entries_for(made.cut().1.len());
     let entries = if faults.contains(&Directory) && needed > 0 {
         let any = rng.below(needed);

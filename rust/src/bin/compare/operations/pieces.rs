@@ -4,13 +4,13 @@ use monterculo::sys::{self, Answer, Fed, Roll, Searcher};
 use monterculo_reference::library::{done, searcher_of, started, told};
 use monterculo_reference::reference::{self, bytes_of, symbols_of, Received, LIMIT};
 
-use crate::coming::{coming, coming_long, cut, Coming};
+use crate::coming::{coming, coming_at_limit, coming_long, cut, Coming};
 #[cfg(test)]
 use crate::in_pieces;
 use crate::lent::Lent;
 use crate::long_rolls::LONG;
 use crate::operation::{Answered, Cases, Corners, Operation};
-use crate::rng::Rng;
+use crate::rng::{Rng, NEAR_16_BITS};
 use crate::rolls::{bytes_for, per_byte};
 
 #[derive(Clone, Debug, PartialEq)]
@@ -83,10 +83,14 @@ impl Pieces {
     }
 }
 
+const OF_LIMIT: &str = "rolls of 1,048,576 symbols fed in pieces";
+
 impl Operation for Pieces {
     const NAME: &'static str = "pieces";
     const LISTED: &'static [u32] = &[0, 1, 5, 6, 7, 8, 11];
     const CASES: Cases<Self> = &[(4, make), (2, make_long)];
+    const AT_LIMIT: Cases<Self> = &[(2, make_at_limit)];
+    const DUE: &'static [&'static str] = &[OF_LIMIT];
     type Answer = Whole;
 
     fn archive(&mut self) -> Whole {
@@ -140,7 +144,8 @@ impl Operation for Pieces {
         let every = self.cuttings.len() == (bytes + 1) * (bytes + 2) / 2;
         met.meet(every && bytes > 1, "rolls cut in every way into up to three pieces");
         met.meet(h >= LONG, "long rolls fed in pieces");
-        met.meet(h == LIMIT, "rolls of 65,536 symbols fed in pieces");
+        met.meet(NEAR_16_BITS.contains(&h), "rolls of 65,535 to 65,537 symbols fed in pieces");
+        met.meet(h == LIMIT, OF_LIMIT);
         met.meet(whole.answer.number == 6 && progress.bad == 0, "rolls fed in pieces that end too soon");
         met.meet(whole.answer.number == 6 && progress.bad == 1, "rolls fed in pieces with a bad codeword");
         met.meet(whole.hits > 1, "rolls fed in pieces with several hits");
@@ -215,6 +220,13 @@ fn make(rng: &mut Rng) -> Pieces {
     if rng.one_in(3) {
         cuttings = vec![Vec::new(), (0..=bytes).flat_map(|cut| [cut, cut]).collect()];
     }
+    of(rng, coming, cuttings)
+}
+
+/// One as long as there may be, whole and cut.
+fn make_at_limit(rng: &mut Rng) -> Pieces {
+    let coming = coming_at_limit(rng);
+    let cuttings = vec![Vec::new(), coming.cuts(rng, 300)];
     of(rng, coming, cuttings)
 }
 

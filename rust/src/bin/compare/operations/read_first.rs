@@ -2,7 +2,7 @@
 
 use monterculo::sys::{self, Answer, Roll, Rolled};
 use monterculo_reference::library::rolled;
-use monterculo_reference::reference::{self, HEAD};
+use monterculo_reference::reference::{self, HEAD, LIMIT};
 
 use crate::faults::{faults, Fault};
 use crate::framed::{first_frame, line_of, packed_line, spoil_head, spoil_line};
@@ -91,6 +91,8 @@ impl Operation for ReadFirst {
         "keeps 8 bits of sigma",
         "keeps 16 bits of n",
         "keeps 16 bits of h",
+        "keeps 20 bits of n",
+        "keeps 20 bits of h",
         "keeps 255 characters",
         "cuts sigma to 256",
         "leaves something behind sigma",
@@ -116,7 +118,7 @@ fn make(rng: &mut Rng) -> ReadFirst {
     use Fault::*;
     let faults = faults(rng, &[Table, Table, Length, Bits, Bits, Bits, Bits]);
     let mut table = good_table(rng);
-    let numbers = [rng.next() as u32, rng.below(70_000) as u32, rng.below(300) as u32, 65_536, 0];
+    let numbers = [rng.next() as u32, rng.below(70_000) as u32, rng.below(300) as u32, 65_536, LIMIT as u32, 0];
     let (n, h) = (rng.pick(&numbers), rng.pick(&numbers));
     if faults.contains(&Table) {
         spoil_table(rng, &mut table);

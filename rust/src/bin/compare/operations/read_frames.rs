@@ -11,8 +11,8 @@ use crate::framed::{damaged, lines_of, roll_to_frame};
 use crate::in_frames;
 use crate::lent::Lent;
 use crate::operation::{Cases, Corners, Operation};
-use crate::rng::Rng;
-use crate::rolls::bytes_for;
+use crate::rng::{Rng, OVER_16_BITS};
+use crate::rolls::{bytes_for, roll_at_limit, Made};
 use crate::tables::{bad_width, good_table};
 
 #[derive(Clone, Debug, PartialEq)]
@@ -21,10 +21,15 @@ pub struct ReadFrames {
     buf: Lent<u8>,
 }
 
+const OF_LIMIT: &str = "frame texts of 1,048,576 symbols read";
+const ONE_OVER: &str = "frame texts of 1,048,577 symbols refused";
+
 impl Operation for ReadFrames {
     const NAME: &'static str = "read_frames";
     const LISTED: &'static [u32] = &[0, 1, 5, 6, 7, 8, 15];
     const CASES: Cases<Self> = &[(18, make), (1, make_long)];
+    const AT_LIMIT: Cases<Self> = &[(1, make_at_limit), (2, make_long_at_limit)];
+    const DUE: &'static [&'static str] = &[OF_LIMIT, ONE_OVER];
     type Answer = Rolled;
 
     fn archive(&mut self) -> Rolled {
@@ -49,14 +54,15 @@ impl Operation for ReadFrames {
                 met.meet(h == 0, "frame texts of one line read");
                 met.meet(bytes > 0 && bytes % FRAME == 0, "frame texts read whose last frame is full");
                 met.meet(bytes % FRAME == 1 && bytes > FRAME, "frame texts read with one byte in the last frame");
-                met.meet(h == LIMIT, "frame texts of 65,536 symbols read");
+                met.meet(h == LIMIT, OF_LIMIT);
+                met.meet(h > OVER_16_BITS, "frame texts of over 65,536 symbols read");
                 met.meet(read.roll.table.sigma == 256, "frame texts of 256 characters read");
                 met.meet(bytes == self.buf.len(), "frame texts read into just their bytes");
             }
             1 => met.meet(lines == 1, "frame texts of one line refused 1"),
             5 => {
                 met.meet(value > LIMIT, "frame texts refused 5 by the limit");
-                met.meet(value == LIMIT + 1, "frame texts of 65,537 symbols refused");
+                met.meet(value == LIMIT + 1, ONE_OVER);
                 met.meet(value <= LIMIT, "frame texts refused 5 by the buffer");
             }
             15 => {
@@ -130,8 +136,7 @@ impl Operation for ReadFrames {
         "asks the codewords before h",
         "asks n before the codewords",
         "asks h of the bytes that came",
-        "knows no limit",
-        "refuses 65,536 symbols",
+        "keeps a limit of 65,536",
         "refuses an exact buffer",
         "passes a bad table",
         "passes a bad codeword",
@@ -149,30 +154,43 @@ impl Operation for ReadFrames {
     ];
 
     #[cfg(test)]
+    const ERRORS_AT_LIMIT: &'static [&'static str] =
+        &["knows no limit", "refuses 1,048,576 symbols", "keeps 20 bits of n", "keeps 20 bits of h"];
+
+    #[cfg(test)]
     fn with_error(&mut self, error: &str) -> Rolled {
         in_frames::read(&self.text, &mut self.buf, error)
     }
 }
 
 fn make(rng: &mut Rng) -> ReadFrames {
+    of(rng, roll_to_frame)
+}
+
+fn make_at_limit(rng: &mut Rng) -> ReadFrames {
+    of(rng, roll_at_limit)
+}
+
+/// Of a roll that is made so.
+fn of(rng: &mut Rng, make: fn(&mut Rng, &[Fault]) -> Made) -> ReadFrames {
     use Fault::*;
     #[rustfmt::skip]
     let faults = faults(rng, &[Table, Table, OtherTable, Rank, Rank, Unfinished, Count, Length, Unused, Unused, Bits, Room, Short, Short]);
     let for_roll: Vec<Fault> = faults.iter().copied().filter(|&fault| fault != Room && fault != Short).collect();
-    let made = roll_to_frame(rng, &for_roll);
+    let made = make(rng, &for_roll);
     let mut roll = made.roll();
     if rng.one_in(16) {
         roll.table.k = bad_width(rng);
     }
     if faults.contains(&Room) {
         // Far more than can come, or a few more.
-        roll.h = rng.pick(&[u32::MAX, 0x8000_0000 + roll.h, 65_537, roll.h + 1, roll.h + 130]);
+        roll.h = rng.pick(&[u32::MAX, 0x8000_0000 + roll.h, LIMIT as u32 + 1, roll.h + 1, roll.h + 130]);
     }
     // Under a bad width any will do.
     let k = if let 2 | 4 = roll.table.k { roll.table.k } else { made.under.k };
     let mut bytes = made.buf;
     let due = bytes_for(k, roll.h as usize);
-    if due < 40_000 && !rng.one_in(20) {
+    if due <= bytes.len().max(40_000) && !rng.one_in(20) {
         let fill = rng.pick(&[0, 0, 0x55]);
         bytes.resize(due, fill);
     }
@@ -193,11 +211,22 @@ fn lent(rng: &mut Rng, bytes: usize, short: bool) -> Lent<u8> {
     rng.bytes(length).into()
 }
 
-/// All lines of a roll at the limit or over it, sound but for that.
+/// All lines of a roll that 16 bits cannot count.
 fn make_long(rng: &mut Rng) -> ReadFrames {
+    let h = OVER_16_BITS + rng.pick(&[0, 0, 1, 1, 2, 4, 5, 128, 3_000]);
+    of_symbols(rng, h)
+}
+
+/// All lines of a roll at the limit or over it.
+fn make_long_at_limit(rng: &mut Rng) -> ReadFrames {
+    let h = LIMIT + rng.pick(&[0, 0, 0, 0, 1, 1, 2, 4, 5, 128, 3_000]);
+    of_symbols(rng, h)
+}
+
+/// All lines of a roll of so many symbols, all of rank 0; seldom damaged.
+fn of_symbols(rng: &mut Rng, h: usize) -> ReadFrames {
     let mut table = good_table(rng);
     table.sigma = table.sigma.max(1);
-    let h = LIMIT + rng.pick(&[0, 0, 1, 1, 2, 4, 5, 128, 3_000]);
     let roll = Roll { table, n: h as u32, h: h as u32 };
     // Rank 0 is one symbol 0.
     let bytes = vec![0; bytes_for(table.k, h)];

@@ -1,8 +1,8 @@
 //! Reading one character by the directory.
 
-use monterculo::sys::{self, Answer, Roll};
+use monterculo::sys::{self, Answer, Roll, Table};
 use monterculo_reference::library::{done, told};
-use monterculo_reference::reference::{self, symbols_of, STRIDE};
+use monterculo_reference::reference::{self, symbols_of, LIMIT, STRIDE};
 
 use crate::faults::{faults, wrong_entry, Fault};
 use crate::lent::Lent;
@@ -10,9 +10,9 @@ use crate::operation::{Cases, Corners, Operation};
 #[cfg(test)]
 use crate::planted::{good_if_wrapped, says};
 use crate::rng::Rng;
-use crate::rolls::roll_of;
 #[cfg(test)]
 use crate::rolls::{entries_for, starts};
+use crate::rolls::{roll_of, roll_of_limit, Made};
 use crate::tables::good_table;
 
 #[derive(Clone, Debug, PartialEq)]
@@ -30,10 +30,14 @@ impl ReadOne {
     }
 }
 
+const OF_LIMIT: &str = "characters read of rolls of 1,048,576 symbols, behind 65,536 of them";
+
 impl Operation for ReadOne {
     const NAME: &'static str = "read_one";
     const LISTED: &'static [u32] = &[0, 1, 5, 6, 9, 10];
     const CASES: Cases<Self> = &[(13, make)];
+    const AT_LIMIT: Cases<Self> = &[(2, make_at_limit)];
+    const DUE: &'static [&'static str] = &[OF_LIMIT];
     type Answer = Answer;
 
     fn archive(&mut self) -> Answer {
@@ -55,6 +59,7 @@ impl Operation for ReadOne {
                 let entry = directory[place / STRIDE] as usize;
                 let inside = entry > 0 && symbols_of(roll.table.k, buf, entry)[entry - 1] >= roll.table.s;
                 met.meet(inside, "characters read from an entry inside a codeword");
+                met.meet(roll.h as usize == LIMIT && entry >= 65_536, OF_LIMIT);
                 met.meet(*place >= STRIDE && place % STRIDE == 0, "characters read right at an entry behind the first");
                 let unsound = self.check().number;
                 met.meet(unsound == 6, "characters read with a bad codeword elsewhere");
@@ -93,7 +98,12 @@ impl Operation for ReadOne {
         "wraps at 8 bits",
         "wraps at 32 bits",
         "wraps at 64 bits",
+        "cuts the place to 16 bits",
+        "cuts the place to 20 bits",
     ];
+
+    #[cfg(test)]
+    const ERRORS_AT_LIMIT: &'static [&'static str] = &["keeps 16 bits of an entry", "keeps 20 bits of h"];
 
     #[rustfmt::skip]
     #[cfg(test)]
@@ -118,6 +128,10 @@ impl Operation for ReadOne {
             ("takes an entry at h", 9) if directory.get(number) == Some(&h) => says(6, h as usize),
             ("checks the whole directory", 0) if directory.iter().any(|&entry| entry >= h) => says(9, 0),
             ("wants no entry behind", 0) if directory.len() > entries_for(n as usize) => says(9, 0),
+            ("cuts the place to 16 bits", 10) => read(n, directory, place & 0xFFFF),
+            ("cuts the place to 20 bits", 10) => read(n, directory, place & 0xF_FFFF),
+            ("keeps 16 bits of an entry", 0) => read(n, &directory.iter().map(|entry| entry & 0xFFFF).collect::<Vec<_>>(), place),
+            ("keeps 20 bits of h", 0) if h as usize == LIMIT => says(9, number),
             ("cuts the place to 32 bits", 10) => read(n, directory, place & 0xFFFF_FFFF),
             ("takes place n", 10) if n < u32::MAX && place == n as usize => read(n + 1, directory, place),
             // All entries as a whole reading would find them, whatever is lent.
@@ -149,11 +163,21 @@ impl Operation for ReadOne {
 }
 
 fn make(rng: &mut Rng) -> ReadOne {
+    let length = rng.border_length();
+    of(rng, |rng, table, faults| roll_of(rng, table, length, faults))
+}
+
+fn make_at_limit(rng: &mut Rng) -> ReadOne {
+    of(rng, roll_of_limit)
+}
+
+/// Of a roll that is made so.
+fn of(rng: &mut Rng, make: impl Fn(&mut Rng, Table, &[Fault]) -> Made) -> ReadOne {
     use Fault::*;
     #[rustfmt::skip]
     let faults = faults(rng, &[Table, OtherTable, Room, Rank, Rank, Unfinished, Count, Count, Length, Unused, Bits, Place, Place, Entry, Entry, Entry]);
-    let (table, length) = (good_table(rng), rng.border_length());
-    let made = roll_of(rng, table, length, &faults);
+    let table = good_table(rng);
+    let made = make(rng, table, &faults);
     let starts = made.cut().1;
     let mut directory: Vec<u32> = starts.iter().copied().step_by(STRIDE).collect();
     let (n, read) = (made.n as usize, starts.len());
@@ -168,7 +192,7 @@ fn make(rng: &mut Rng) -> ReadOne {
         _ => rng.below(read.max(1)),
     };
     if faults.contains(&Place) {
-        let far = rng.pick(&[1 << 32, 1 << 37, 1 << 63, 65_536]);
+        let far = rng.pick(&[1 << 32, 1 << 37, 1 << 63, 1 << 16, 1 << 20]);
         place = rng.pick(&[n, n, n + 1, n + 31, n + 32, place + far, usize::MAX, usize::MAX - 31, u32::MAX as usize]);
     } else if n > 0 {
         place %= n;

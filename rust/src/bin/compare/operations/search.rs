@@ -1,6 +1,6 @@
 //! Searching a roll for a pattern, by both engines: from codeword to codeword, and by jumping over most of the bytes.
 
-use monterculo::sys::{self, Answer, Roll};
+use monterculo::sys::{self, Answer, Roll, Table};
 use monterculo_reference::library::told;
 use monterculo_reference::reference::{self, listing, symbols_of, LIMIT, LONGEST, PATTERN};
 
@@ -9,8 +9,8 @@ use crate::lent::Lent;
 use crate::operation::{Answered, Cases, Corners, Operation};
 #[cfg(test)]
 use crate::planted::{good_if_wrapped, says, takes_byte_10};
-use crate::rng::Rng;
-use crate::rolls::{fills_window, per_byte, roll_of, starts};
+use crate::rng::{Rng, NEAR_16_BITS};
+use crate::rolls::{fills_window, per_byte, roll_of, roll_of_limit, starts, Made};
 use crate::tables::{characters, lengths, table_to_search};
 use crate::texts::{is_over_lines, pattern, LineEnds};
 
@@ -92,6 +92,7 @@ impl Search {
             }
             "lists the last hit first" if !all.is_empty() => all.rotate_right(1),
             "lists backwards" => all.reverse(),
+            "keeps 16 bits of a hit" => all.iter_mut().for_each(|hit| *hit &= 0xFFFF),
             "lists symbol numbers" => {
                 let starts = starts(roll, buf);
                 all = all.iter().map(|&hit| starts[hit as usize]).collect();
@@ -170,10 +171,15 @@ impl Search {
     }
 }
 
+const IN_LIMIT: &str = "searches with hits in a roll of 1,048,576 symbols";
+const FAR: &str = "searches with hits behind 65,536 characters";
+
 impl Operation for Search {
     const NAME: &'static str = "search";
     const LISTED: &'static [u32] = &[0, 1, 5, 6, 7, 8, 11];
     const CASES: Cases<Self> = &[(7, make)];
+    const AT_LIMIT: Cases<Self> = &[(2, make_at_limit)];
+    const DUE: &'static [&'static str] = &[IN_LIMIT, FAR];
     type Answer = Both;
 
     fn archive(&mut self) -> Both {
@@ -220,7 +226,10 @@ impl Operation for Search {
         met.meet(total > 0 && total == hits.len(), "lists as long as the hits");
         met.meet(total < hits.len(), "lists longer than the hits");
         met.meet(all.windows(2).any(|two| two[1] - two[0] < pattern.len() as u32), "searches with overlapping hits");
-        met.meet(total > 0 && roll.h as usize == LIMIT, "searches with hits in a roll of 65,536 symbols");
+        let near = NEAR_16_BITS.contains(&(roll.h as usize));
+        met.meet(total > 0 && near, "searches with hits in a roll of 65,535 to 65,537 symbols");
+        met.meet(total > 0 && roll.h as usize == LIMIT, IN_LIMIT);
+        met.meet(all.last().map_or(false, |&hit| hit > 65_535), FAR);
         if let Some(packed) = packed {
             let lengths = lengths(roll.table.k, roll.table.s, characters(&roll.table));
             let longest = pattern.iter().any(|&character| lengths[usize::from(character)] == LONGEST);
@@ -284,6 +293,9 @@ impl Operation for Search {
     ];
 
     #[cfg(test)]
+    const ERRORS_AT_LIMIT: &'static [&'static str] = &["keeps 16 bits of a hit", "jumping: keeps 16 bits of a hit"];
+
+    #[cfg(test)]
     fn with_error(&mut self, error: &str) -> Both {
         let mut slice = self.hits.clone();
         let in_jumping = error.strip_prefix("jumping: ");
@@ -316,11 +328,21 @@ pub fn entries_lent(rng: &mut Rng, total: usize) -> usize {
 }
 
 fn make(rng: &mut Rng) -> Search {
+    let length = rng.border_length();
+    of(rng, |rng, table, faults| roll_of(rng, table, length, faults))
+}
+
+fn make_at_limit(rng: &mut Rng) -> Search {
+    of(rng, roll_of_limit)
+}
+
+/// Of a roll that is made so.
+fn of(rng: &mut Rng, make: impl Fn(&mut Rng, Table, &[Fault]) -> Made) -> Search {
     use Fault::*;
     #[rustfmt::skip]
     let faults = faults(rng, &[Table, OtherTable, Room, Rank, Unfinished, Count, Length, Unused, Unused, Bits, Pattern, Pattern, Pattern]);
-    let (table, length) = (table_to_search(rng), rng.border_length());
-    let made = roll_of(rng, table, length, &faults);
+    let table = table_to_search(rng);
+    let made = make(rng, table, &faults);
     let text = made.cut().0;
     let mut pattern = pattern(rng, &made.under, &text);
     if faults.contains(&Pattern) {

@@ -23,6 +23,7 @@ impl Operation for SearchJumping {
     const NAME: &'static str = "search_jumping";
     const LISTED: &'static [u32] = Search::LISTED;
     const CASES: Cases<Self> = &[(7, make)];
+    const AT_LIMIT: Cases<Self> = &[(2, make_at_limit)];
     type Answer = Both;
 
     fn archive(&mut self) -> Both {
@@ -123,6 +124,10 @@ impl Operation for SearchJumping {
         "by jumps: keeps h in 16 bits",
         "by jumps: finds nothing of too few symbols",
     ];
+
+    #[cfg(test)]
+    const ERRORS_AT_LIMIT: &'static [&'static str] =
+        &["by jumps: keeps h in 20 bits", "by jumps: keeps 16 bits of a byte", "keeps 16 bits of a hit"];
 
     /// The error is in the one that jumps; the plain search is right.
     #[cfg(test)]
@@ -260,20 +265,28 @@ fn piece(rng: &mut Rng, table: &Table, sought: &[usize], longest: usize) -> Vec<
 }
 
 fn make(rng: &mut Rng) -> SearchJumping {
+    let full = if rng.one_in(30) { Some(rng.near_16_bits()) } else { None };
+    of(rng, full)
+}
+
+fn make_at_limit(rng: &mut Rng) -> SearchJumping {
+    let symbols = rng.pick(&[LIMIT - 1, LIMIT, LIMIT]);
+    of(rng, Some(symbols))
+}
+
+/// Of a roll of so many symbols, or mostly a short one.
+fn of(rng: &mut Rng, full: Option<usize>) -> SearchJumping {
     use Fault::*;
     let mut table = table(rng);
     let (k, list) = (table.k, listing(table.k, table.s));
     let taken = |ranks: &[usize]| ranks.iter().map(|&rank| list.codewords[rank].len()).sum::<usize>();
     let sought = sought(rng, &table);
     place_line_ends(rng, &mut table, &sought);
-    // Seldom as many symbols as there may be, or one less.
-    let full = rng.one_in(30);
-    let most = match rng.below(20) {
-        _ if full => rng.pick(&[LIMIT - 1, LIMIT, LIMIT]),
+    let most = full.unwrap_or_else(|| match rng.below(20) {
         0 => rng.between(1_000, 6_000),
         1..=4 => rng.below(1_000),
         _ => rng.below(120),
-    };
+    });
 
     // At the front the pattern or one to three symbols, and then any pieces.
     let mut text = if rng.one_in(2) { sought.clone() } else { vec![0; rng.below(4)] };
@@ -286,9 +299,9 @@ fn make(rng: &mut Rng) -> SearchJumping {
     };
     let end = &sought[..cut];
     while length + taken(end) < most {
-        let piece = piece(rng, &table, &sought, if full { 2_000 } else { 40 });
+        let piece = piece(rng, &table, &sought, if full.is_some() { 2_000 } else { 40 });
         let more = taken(&piece);
-        if length + more + taken(end) > LIMIT {
+        if length + more + taken(end) > full.unwrap_or(LIMIT) {
             break;
         }
         length += more;
@@ -296,7 +309,7 @@ fn make(rng: &mut Rng) -> SearchJumping {
     }
     // Filled up by rank 0: as far as was said, or to the end of a byte if something is to go on behind it.
     let goes_on = 0 < cut && cut < sought.len();
-    let mut fill = if full { most.saturating_sub(length + taken(end)) } else { 0 };
+    let mut fill = full.map_or(0, |most| most.saturating_sub(length + taken(end)));
     if goes_on {
         let per = per_byte(k);
         fill += (per - (length + fill + taken(end)) % per) % per;
@@ -310,8 +323,8 @@ fn make(rng: &mut Rng) -> SearchJumping {
     if rng.one_in(3) {
         faults.clear();
     }
-    let codewords = |ranks: &[usize]| ranks.iter().map(|&rank| list.codewords[rank].clone()).collect::<Vec<_>>();
-    let mut made = roll_of_codewords(rng, table, codewords(&text), false, &faults);
+    let codewords = |ranks: &[usize]| ranks.iter().map(|&rank| &list.codewords[rank][..]).collect::<Vec<_>>();
+    let mut made = roll_of_codewords(rng, table, codewords(&text), &faults);
     if goes_on && faults.is_empty() {
         made.buf.truncate(bytes_for(k, made.symbols.len()));
         made.buf.extend(bytes_of(k, &codewords(&sought[cut..]).concat()));

@@ -49,10 +49,14 @@ const LINE_ENDS: LineEnds = LineEnds {
     behind_13: "starts refused for byte 10: behind byte 13",
 };
 
+const IN_LIMIT: &str = "searches started in 1,048,576 symbols";
+const ONE_OVER: &str = "starts refused for 1,048,577 symbols";
+
 impl Operation for Start {
     const NAME: &'static str = "start";
     const LISTED: &'static [u32] = &[0, 1, 5, 11];
     const CASES: Cases<Self> = &[(4, make)];
+    const DUE: &'static [&'static str] = &[IN_LIMIT, ONE_OVER];
     type Answer = Started;
 
     fn archive(&mut self) -> Started {
@@ -75,7 +79,7 @@ impl Operation for Start {
                 let foreign = self.pattern.iter().any(|byte| !characters(&self.roll.table).contains(byte));
                 met.meet(foreign, "searches started for a character not in the table");
                 met.meet(self.pattern.len() == PATTERN, "searches started for 64 characters");
-                met.meet(self.roll.h as usize == LIMIT, "searches started in 65,536 symbols");
+                met.meet(self.roll.h as usize == LIMIT, IN_LIMIT);
                 met.meet(self.pattern.contains(&13), "searches started for byte 13");
             }
             1 => {
@@ -83,6 +87,7 @@ impl Operation for Start {
                 met.meet(over_lines, "starts refused 1 with byte 10 in the pattern too");
             }
             5 => {
+                met.meet(self.roll.h as usize == LIMIT + 1, ONE_OVER);
                 met.meet(bad_length, "starts refused 5 with a bad pattern too");
                 met.meet(over_lines, "starts refused 5 with byte 10 in the pattern too");
             }
@@ -97,7 +102,11 @@ impl Operation for Start {
         "asks 11 before 5",
         "asks no table",
         "knows no limit",
-        "refuses 65,536 symbols",
+        "keeps a limit of 65,536",
+        "refuses 1,048,576 symbols",
+        "takes 1,048,577 symbols",
+        "keeps 16 bits of h",
+        "keeps 20 bits of h",
         "refuses 64 characters",
         "takes 65 characters",
         "takes the empty pattern",
@@ -139,7 +148,11 @@ impl Operation for Start {
             ("asks 11 before 5", 5) if bad_length => *answer = says(11, 0),
             ("asks no table", 1) => *answer = says(0, 0),
             ("knows no limit", 5) => *answer = says(0, 0),
-            ("refuses 65,536 symbols", 0) if roll.h as usize == LIMIT => return self.refused(says(5, LIMIT)),
+            ("keeps a limit of 65,536", 0) if roll.h > 65_536 => return self.refused(says(5, roll.h as usize)),
+            ("refuses 1,048,576 symbols", 0) if roll.h as usize == LIMIT => return self.refused(says(5, LIMIT)),
+            ("takes 1,048,577 symbols", 5) if roll.h as usize == LIMIT + 1 => *answer = says(0, 0),
+            ("keeps 16 bits of h", _) => searcher.judge.roll.h &= 0xFFFF,
+            ("keeps 20 bits of h", 0) => searcher.judge.roll.h &= 0xF_FFFF,
             ("refuses 64 characters", 0) if pattern.len() == PATTERN => return self.refused(says(11, 0)),
             ("takes 65 characters", 11) if pattern.len() == PATTERN + 1 => return self.of(&pattern[..PATTERN]),
             ("takes the empty pattern", 11) if pattern.is_empty() => *answer = says(0, 0),
@@ -182,13 +195,15 @@ fn make(rng: &mut Rng) -> Start {
     let (any, few) = (rng.between(0, LIMIT), rng.below(150));
     let text: Vec<u8> = characters(&table).iter().copied().cycle().take(few).collect();
     let mut pattern = pattern(rng, &table, &text);
-    let mut h = rng.pick(&[any, any, 0, few, LIMIT]) as u32;
+    let near = rng.near_16_bits();
+    let mut h = rng.pick(&[any, any, 0, few, near, LIMIT]) as u32;
     let mut n = rng.between(0, h as usize) as u32;
     if faults.contains(&Pattern) {
         pattern = bad_pattern(rng, &pattern, &text);
     }
     if faults.contains(&Room) {
-        h = rng.pick(&[65_537, 65_537, 65_538, 0x8000_0000 + h, u32::MAX, 131_072]);
+        let over = LIMIT as u32 + 1;
+        h = rng.pick(&[over, over, over + 1, 0x8000_0000 + h, u32::MAX, 2 * LIMIT as u32]);
     }
     if faults.contains(&Count) {
         n = wrong(rng, n);

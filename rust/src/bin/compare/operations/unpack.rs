@@ -12,8 +12,8 @@ use crate::long_rolls::{roll_of_characters, MANY};
 use crate::operation::{Cases, Corners, Operation};
 #[cfg(test)]
 use crate::planted::says;
-use crate::rng::Rng;
-use crate::rolls::{self, per_byte, starts};
+use crate::rng::{Rng, OVER_16_BITS};
+use crate::rolls::{self, per_byte, roll_at_limit, starts, Made};
 
 #[derive(Clone, Debug, PartialEq)]
 pub struct Unpack {
@@ -24,10 +24,15 @@ pub struct Unpack {
     out: Lent<u8>,
 }
 
+const UNPACKED: &str = "rolls of 1,048,576 symbols unpacked";
+const ALL: &str = "1,048,576 characters unpacked";
+
 impl Operation for Unpack {
     const NAME: &'static str = "unpack";
     const LISTED: &'static [u32] = &[0, 1, 5, 6, 7, 8, 10, 13];
     const CASES: Cases<Self> = &[(11, make), (1, make_long)];
+    const AT_LIMIT: Cases<Self> = &[(2, make_at_limit), (1, make_long_at_limit)];
+    const DUE: &'static [&'static str] = &[UNPACKED, ALL];
     type Answer = Answer;
 
     fn archive(&mut self) -> Answer {
@@ -43,7 +48,7 @@ impl Operation for Unpack {
     }
 
     fn corners(&self, answer: &Answer, met: &mut Corners) {
-        met.meet(answer.number == 0 && self.roll.h as usize == LIMIT, "rolls of 65,536 symbols read");
+        met.meet(answer.number == 0 && self.roll.h as usize == LIMIT, UNPACKED);
         if !self.is_long() || self.end > self.roll.n as usize {
             return;
         }
@@ -51,6 +56,7 @@ impl Operation for Unpack {
         if answer.number == 0 {
             let first = starts(&self.roll, &self.buf)[self.start] as usize;
             met.meet(true, "long ranges unpacked");
+            met.meet(self.end - self.start == LIMIT, ALL);
             met.meet(first % per_byte(self.roll.table.k) != 0, "long ranges unpacked from inside a byte on");
             met.meet(self.end < self.roll.n as usize, "long ranges unpacked with characters behind");
             met.meet(self.end - self.start < self.out.len(), "long ranges unpacked with output behind");
@@ -73,6 +79,10 @@ impl Operation for Unpack {
     ];
 
     #[cfg(test)]
+    const ERRORS_AT_LIMIT: &'static [&'static str] =
+        &["keeps 16 bits of a place", "keeps 20 bits of a length", "leaves out the last character"];
+
+    #[cfg(test)]
     fn with_error(&mut self, error: &str) -> Answer {
         let before = self.out.clone();
         let answer = self.reference();
@@ -86,6 +96,14 @@ impl Operation for Unpack {
         let length = self.end.saturating_sub(self.start);
         match (error, answer.number) {
             ("asks 13 first", 10) if length > self.out.len() => return says(13, length),
+            // From a place over 65,535 on it goes on with those that have the same number in 16 bits.
+            ("keeps 16 bits of a place", 0) if self.start == 0 && length > 65_536 => {
+                let (first, behind) = self.out.split_at_mut(65_536);
+                let many = (length - 65_536).min(65_536);
+                behind[..many].copy_from_slice(&first[..many]);
+            }
+            ("keeps 20 bits of a length", 0) if length == LIMIT => self.out = before,
+            ("leaves out the last character", 0) if length > 65_536 => self.out[length - 1] = before[length - 1],
             ("writes one behind", 0) if length < self.out.len() => self.out[length] = !self.out[length],
             _ => {}
         }
@@ -101,10 +119,19 @@ impl Unpack {
 }
 
 fn make(rng: &mut Rng) -> Unpack {
+    of(rng, rolls::roll)
+}
+
+fn make_at_limit(rng: &mut Rng) -> Unpack {
+    of(rng, roll_at_limit)
+}
+
+/// Of a roll that is made so.
+fn of(rng: &mut Rng, make: fn(&mut Rng, &[Fault]) -> Made) -> Unpack {
     use Fault::*;
     #[rustfmt::skip]
     let faults = faults(rng, &[Table, OtherTable, Room, Rank, Unfinished, Count, Length, Unused, Unused, Bits, Range, Range, Output, Output]);
-    let made = rolls::roll(rng, &faults);
+    let made = make(rng, &faults);
     let n = made.n as usize;
     let (mut start, mut end) = match rng.below(5) {
         0 => (0, n),
@@ -140,19 +167,29 @@ fn make(rng: &mut Rng) -> Unpack {
     Unpack { roll: made.roll(), buf: made.buf.into(), start, end, out: rng.bytes(out).into() }
 }
 
-/// A range that is long, or just too short for that, of a sound roll; seldom with one fault.
 fn make_long(rng: &mut Rng) -> Unpack {
-    use Fault::*;
     let length = match rng.below(30) {
         0 => rng.between(20_000, 60_000),
         1..=9 => rng.between(MANY, 6_000),
         _ => rng.between(MANY - 2, MANY + 4),
     };
+    of_long(rng, length, OVER_16_BITS)
+}
+
+fn make_long_at_limit(rng: &mut Rng) -> Unpack {
+    let any = rng.between(100_000, LIMIT);
+    let length = rng.pick(&[any, LIMIT]);
+    of_long(rng, length, LIMIT)
+}
+
+/// A range that is long, or just too short for that, of a sound roll of no more than so many symbols; seldom with one fault.
+fn of_long(rng: &mut Rng, length: usize, most: usize) -> Unpack {
+    use Fault::*;
     let (near, any) = (rng.below(9), rng.below(1_000));
-    let before = rng.pick(&[0, near, any, any]);
+    let before = rng.pick(&[0, near, any, any]).min(most - length);
     let (near, any) = (rng.below(9), rng.below(1_000));
-    let behind = rng.pick(&[0, near, near, any]);
-    let (mut roll, mut buf) = roll_of_characters(rng, before + length + behind);
+    let behind = rng.pick(&[0, near, near, any]).min(most - length - before);
+    let (mut roll, mut buf) = roll_of_characters(rng, before + length + behind, most);
     let n = roll.n as usize;
     let (mut start, mut end, mut out) = (before, before + length, length + rng.pick(&[0, 0, 1, 2, 3, 4, 9]));
     let fault = if rng.one_in(5) { Some(rng.pick(&[Range, Output, Output, Count, Bits])) } else { None };

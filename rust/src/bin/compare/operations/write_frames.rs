@@ -10,8 +10,8 @@ use crate::framed::roll_to_frame;
 use crate::in_frames;
 use crate::lent::Lent;
 use crate::operation::{Cases, Corners, Operation};
-use crate::rng::Rng;
-use crate::rolls::{bytes_for, per_byte};
+use crate::rng::{Rng, NEAR_16_BITS};
+use crate::rolls::{bytes_for, per_byte, roll_at_limit, Made};
 
 #[derive(Clone, Debug, PartialEq)]
 pub struct WriteFrames {
@@ -20,10 +20,14 @@ pub struct WriteFrames {
     out: Lent<u8>,
 }
 
+const OF_LIMIT: &str = "rolls of 1,048,576 symbols written as frames";
+
 impl Operation for WriteFrames {
     const NAME: &'static str = "write_frames";
     const LISTED: &'static [u32] = &[0, 1, 5, 6, 7, 8, 13];
     const CASES: Cases<Self> = &[(9, make)];
+    const AT_LIMIT: Cases<Self> = &[(2, make_at_limit)];
+    const DUE: &'static [&'static str] = &[OF_LIMIT];
     type Answer = Answer;
 
     fn archive(&mut self) -> Answer {
@@ -47,7 +51,8 @@ impl Operation for WriteFrames {
                 met.meet(h == 0, "rolls without symbols written as frames");
                 met.meet(bytes > 0 && bytes % FRAME == 0, "rolls that fill their last frame written");
                 met.meet(bytes % FRAME == 1 && bytes > FRAME, "rolls with one byte in their last frame written");
-                met.meet(h as usize == LIMIT, "rolls of 65,536 symbols written as frames");
+                met.meet(NEAR_16_BITS.contains(&(h as usize)), "rolls of 65,535 to 65,537 symbols written as frames");
+                met.meet(h as usize == LIMIT, OF_LIMIT);
                 met.meet(table.sigma == 256, "rolls of 256 characters written as frames");
                 met.meet(out == value, "frame texts written into just their bytes");
                 met.meet(h as usize % per_byte(table.k) != 0, "rolls with unused symbols written as frames");
@@ -106,16 +111,28 @@ impl Operation for WriteFrames {
     ];
 
     #[cfg(test)]
+    const ERRORS_AT_LIMIT: &'static [&'static str] = &["writes 20 bits of h", "writes 65,536 bytes at most"];
+
+    #[cfg(test)]
     fn with_error(&mut self, error: &str) -> Answer {
         in_frames::write(&self.roll, &self.buf, &mut self.out, error)
     }
 }
 
 fn make(rng: &mut Rng) -> WriteFrames {
+    of(rng, roll_to_frame)
+}
+
+fn make_at_limit(rng: &mut Rng) -> WriteFrames {
+    of(rng, roll_at_limit)
+}
+
+/// Of a roll that is made so.
+fn of(rng: &mut Rng, make: fn(&mut Rng, &[Fault]) -> Made) -> WriteFrames {
     use Fault::*;
     #[rustfmt::skip]
     let faults = faults(rng, &[Table, OtherTable, Room, Rank, Unfinished, Count, Length, Unused, Unused, Bits, Output, Output, Output, Output]);
-    let made = roll_to_frame(rng, &faults);
+    let made = make(rng, &faults);
     let (roll, k) = (made.roll(), made.under.k);
     let bytes = bytes_for(k, (made.h as usize).min(LIMIT));
     let frames = (bytes + FRAME - 1) / FRAME;
