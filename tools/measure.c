@@ -5,6 +5,8 @@
  *
  * Stack: each call runs on a painted stack of its own, under the table whose longest codeword has 86 symbols (k 2, s 3,
  * sigma 256), and on a text that has it; counted is what lies below the caller's frame and was written, arguments too.
+ * For two rolls: of the table's 256 characters once, and of these as often as fits into MONTERCULO_SYMBOLS and leaves room
+ * for the edit. Both have the 2,048 symbols from which on a roll is read by bytes.
  * Faults: a made roll of member lines; each bit of its packed bytes is turned over in its turn. */
 #define _GNU_SOURCE
 #include <stdio.h>
@@ -15,11 +17,12 @@
 
 #define ROOM(array) (sizeof(array) / sizeof((array)[0]))
 
-enum { STACK = 1 << 18, PAINT = 0xA5 };
+/* The edit takes more symbols than it replaces, and fewer than GROWTH. */
+enum { STACK = 1 << 18, PAINT = 0xA5, GROWTH = 80 * 86 };
 
-static uint8_t stack[STACK], text[20000], buf[32768], out[65536];
-static uint8_t frames[MONTERCULO_FRAME_TEXT(256, MONTERCULO_SYMBOLS, 4)], next[32768];
-static uint32_t counts[256], dir[2048], hits[65536];
+static uint8_t stack[STACK], text[MONTERCULO_SYMBOLS], buf[MONTERCULO_BYTES(MONTERCULO_SYMBOLS, 2)], next[sizeof buf];
+static uint8_t frames[MONTERCULO_FRAME_TEXT(256, MONTERCULO_SYMBOLS, 2)], out[MONTERCULO_SYMBOLS];
+static uint32_t counts[256], dir[MONTERCULO_ENTRIES(MONTERCULO_SYMBOLS)], hits[MONTERCULO_SYMBOLS];
 static struct monterculo_table table;
 static struct monterculo_roll roll;
 static struct monterculo_codeword word;
@@ -56,7 +59,33 @@ CALL(read_first, monterculo_read_first(frames, MONTERCULO_FRAME_TEXT(256, 0, 2))
 CALL(read_frame, monterculo_read_frame(frames + MONTERCULO_FRAME_TEXT(256, 0, 2), 67, out, sizeof out))
 CALL(edit, monterculo_edit(roll, buf, sizeof buf, dir, ROOM(dir), 3, 60, text + length - 80, 80).answer)
 
-static void measure(const char *name, void (*call)(void))
+#define MEASURED(name) {#name, name}
+static const struct {
+    const char *name;
+    void (*call)(void);
+} calls[] = {
+    MEASURED(count),
+    MEASURED(choose),
+    MEASURED(codeword_of),
+    MEASURED(character_of),
+    MEASURED(pack),
+    MEASURED(check),
+    MEASURED(unpack),
+    MEASURED(make_directory),
+    MEASURED(read_one),
+    MEASURED(search),
+    MEASURED(search_jumping),
+    MEASURED(start),
+    MEASURED(feed),
+    MEASURED(finish),
+    MEASURED(write_frames),
+    MEASURED(read_frames),
+    MEASURED(read_first),
+    MEASURED(read_frame),
+    MEASURED(edit)
+};
+
+static long taken(void (*call)(void))
 {
     static size_t lowest;
     lowest = 0;
@@ -69,7 +98,40 @@ static void measure(const char *name, void (*call)(void))
     swapcontext(&back, &there);
     while (stack[lowest] == PAINT)
         lowest++;
-    printf("%-16s %6ld bytes\n", name, (long)(top - &stack[lowest]));
+    return (long)(top - &stack[lowest]);
+}
+
+/* The roll of so many times the table's characters, and all that is made of it. */
+static void prepare(size_t times)
+{
+    size_t i;
+    length = 256 * times;
+    for (i = 0; i < length; i++)
+        text[i] = table.places[i % 256];
+    roll = monterculo_pack(table, text, length, buf, sizeof buf).roll;
+    fresh = monterculo_start(roll, text + length - 64, 64).searcher;
+    whole = monterculo_feed(fresh, buf, MONTERCULO_BYTES(roll.h, 2), hits, ROOM(hits)).searcher;
+    framed = (size_t)monterculo_write_frames(roll, buf, sizeof buf, frames, sizeof frames).value;
+}
+
+static void stacks(void)
+{
+    static long bytes[2][ROOM(calls)];
+    uint32_t symbols[2];
+    size_t i, size, differ = 0;
+    for (size = 0; size < 2; size++) {
+        prepare(size == 0 ? 1 : (MONTERCULO_SYMBOLS - GROWTH) / symbols[0]);
+        symbols[size] = roll.h;
+        for (i = 0; i < ROOM(calls); i++)
+            bytes[size][i] = taken(calls[i].call);
+    }
+    printf("%-16s %10lu %10lu symbols\n", "", (unsigned long)symbols[0], (unsigned long)symbols[1]);
+    for (i = 0; i < ROOM(calls); i++)
+        printf("%-16s %10ld %10ld bytes\n", calls[i].name, bytes[0][i], bytes[1][i]);
+    for (i = 0; i < ROOM(calls); i++)
+        if (bytes[0][i] != bytes[1][i])
+            printf("%s%s", differ++ == 0 ? "not the same for both: " : ", ", calls[i].name);
+    printf("%s\n", differ == 0 ? "the same for both, to the byte" : "");
 }
 
 static void faults(uint8_t k)
@@ -104,33 +166,9 @@ int main(void)
     table.s = 3;
     table.sigma = 256;
     for (i = 0; i < 256; i++)
-        table.places[i] = text[i] = (uint8_t)i;
-    length = 256;
+        table.places[i] = (uint8_t)i;
     word = monterculo_codeword_of(table, 255).word;
-    roll = monterculo_pack(table, text, length, buf, sizeof buf).roll;
-    fresh = monterculo_start(roll, text + length - 64, 64).searcher;
-    whole = monterculo_feed(fresh, buf, MONTERCULO_BYTES(roll.h, 2), hits, ROOM(hits)).searcher;
-    framed = (size_t)monterculo_write_frames(roll, buf, sizeof buf, frames, sizeof frames).value;
-#define MEASURE(name) measure(#name, name)
-    MEASURE(count);
-    MEASURE(choose);
-    MEASURE(codeword_of);
-    MEASURE(character_of);
-    MEASURE(pack);
-    MEASURE(check);
-    MEASURE(unpack);
-    MEASURE(make_directory);
-    MEASURE(read_one);
-    MEASURE(search);
-    MEASURE(search_jumping);
-    MEASURE(start);
-    MEASURE(feed);
-    MEASURE(finish);
-    MEASURE(write_frames);
-    MEASURE(read_frames);
-    MEASURE(read_first);
-    MEASURE(read_frame);
-    MEASURE(edit);
+    stacks();
     faults(2);
     faults(4);
     return 0;

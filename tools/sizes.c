@@ -2,16 +2,16 @@
  *
  *   gcc -I include -o sizes tools/sizes.c target/staticlib/libmonterculo.a && python3 tools/members.py 1000 | ./sizes
  *
- * Each roll takes whole lines until one more does not fit into 65,536 symbols under the table chosen for just these.
+ * Each roll takes whole lines until one more does not fit into 1,048,576 symbols under the table chosen for just these.
  * The symbols are those of packing: the total that choosing answers may be more. A file is what examples/members.c
  * saves: 24 bytes, the characters of the table, the packed bytes and the directory. Frames are the text that sends a roll. */
 #include <stdio.h>
 
 #include "monterculo.h"
 
-enum { LINES = 1 << 16 };
+enum { LINES = 1 << 19 };
 
-static uint8_t text[1 << 22], buf[MONTERCULO_BYTES(MONTERCULO_SYMBOLS, 4)];
+static uint8_t text[1 << 24], buf[MONTERCULO_BYTES(MONTERCULO_SYMBOLS, 4)];
 static size_t ends[LINES + 1];
 
 /* The roll of a part of the text, under the table chosen for it; number 4 if the part does not fit into one. */

@@ -2,10 +2,11 @@
  *
  *   rust/run turns EARLIER.a
  *
- * renames the earlier archive's functions from monterculo_ to earlier_, and runs this on the bench's texts. Nanoseconds of
- * a call: medians of ROUNDS rounds of CALLS calls each, after a round that is not measured. No call may be refused, and
- * both must answer alike as far as is looked: s and the total, a codeword's length and first symbol, h and the first byte.
- * Codewords are asked of the table's characters in turn; a table is chosen for all of a text, and its beginning packed. */
+ * renames the earlier archive's functions from monterculo_ to earlier_, and runs this on the texts of the bench's short
+ * rolls. Nanoseconds of a call: medians of ROUNDS rounds of CALLS calls each, after a round that is not measured. No call
+ * may be refused, and both must answer alike as far as is looked: s and the total, a codeword's length and first symbol, h
+ * and the first byte. Codewords are asked of the table's characters in turn; a table is chosen for all of a text, and its
+ * beginning packed. */
 #define _POSIX_C_SOURCE 199309L
 #include <stdio.h>
 #include <stdlib.h>

@@ -1,7 +1,9 @@
-//! Times the archive's operations against plain Rust on full rolls, in turn and on the same buffers.
+//! Times the archive's operations against plain Rust, in turn and on the same buffers: on full rolls, and on short ones,
+//! which were full when a roll had 65,536 symbols.
 //!
-//! `bench [SVG]` prints tables in Markdown and, with a file name, draws the ratios into it. `bench texts FOLDER` writes the
-//! texts of the rolls with k = 2 there, and measures nothing.
+//! `bench [SVG]` prints tables in Markdown and, with a file name, draws the ratios of the full rolls into it. `bench
+//! sizes` times the archive alone on rolls of five sizes. `bench texts FOLDER` writes the texts of the short rolls with
+//! k = 2 there, and measures nothing.
 
 #![forbid(unsafe_code)]
 
@@ -17,9 +19,27 @@ use monterculo_reference::memory;
 use monterculo_reference::plain;
 use monterculo_reference::reference::{self, Roll, Table, FRAME, LIMIT, STRIDE};
 
-/// Measured calls of each operation, on either side.
-const REPETITIONS: usize = 201;
-/// Calls before them that are not measured.
+/// The most symbols of a roll, and how often each call is measured on it.
+struct Size {
+    symbols: usize,
+    /// Measured calls of each operation, on either side.
+    repetitions: usize,
+    /// Rounds of a search that jumps: more of them, as it takes little beside its check.
+    rounds: usize,
+}
+
+static FULL: Size = Size { symbols: LIMIT, repetitions: 101, rounds: 201 };
+/// What a full roll was before LIMIT was raised.
+static SHORT: Size = Size { symbols: 65_536, repetitions: 201, rounds: 401 };
+/// Rolls of these sizes show what a symbol costs as they grow; no search is measured in rounds of its own there.
+static GROWING: [Size; 5] = [growing(65_536), growing(131_072), growing(262_144), growing(524_288), growing(LIMIT)];
+
+const fn growing(symbols: usize) -> Size {
+    Size { symbols, repetitions: 201, rounds: 0 }
+}
+
+const WIDTHS: [u8; 2] = [2, 4];
+/// Calls before the measured ones.
 const WARM_UP: usize = 5;
 /// Places read for one figure of reading one character.
 const PLACES: usize = 2_000;
@@ -28,12 +48,10 @@ const FILL: u8 = 0xAA;
 const MARK: f64 = 1.5;
 /// Characters of the patterns searched for.
 const PATTERNS: [usize; 4] = [4, 8, 16, 32];
-/// Bytes of the pieces that a roll comes in, and how they are shown.
-const PIECES: [(usize, &str); 2] = [(64, "64"), (1_024, "1,024")];
+/// Bytes of the pieces that a roll comes in.
+const PIECES: [usize; 2] = [64, 1_024];
 /// A roll searched as it comes in, beside the whole search of the archive.
 const MARK_IN_PIECES: f64 = 1.0;
-/// Rounds of a search that jumps: more of them, as it takes little beside its check.
-const ROUNDS: usize = 401;
 /// Patterns of each length that are sought by jumping: so many stand in the text, and so many do not.
 const STANDING: usize = 6;
 const ABSENT: usize = 2;
@@ -84,7 +102,7 @@ const LAST: [&str; 24] = [
     "Fonda",
 ];
 
-/// Lines of pan number, name and telephone number.
+/// Lines of pan number, name and telephone number. Behind some 150,000 characters a pan has five digits.
 fn member_roll() -> Vec<u8> {
     let mut rng = Rng(1);
     let mut text = String::new();
@@ -247,6 +265,7 @@ fn chosen(k: u8, text: &[u8]) -> (usize, Table) {
 /// A roll with all that is measured on it.
 struct Case {
     name: String,
+    size: &'static Size,
     text: Vec<u8>,
     roll: Roll,
     buf: Vec<u8>,
@@ -254,12 +273,12 @@ struct Case {
 }
 
 impl Case {
-    /// The longest beginning of the text that leaves one symbol of the limit free.
-    fn new(name: &str, k: u8, long: &[u8]) -> Case {
-        let (mut fits, mut over) = (0, long.len().min(LIMIT) + 1);
+    /// The longest beginning of the text that leaves one symbol of the size free.
+    fn new(name: &str, k: u8, long: &[u8], size: &'static Size) -> Case {
+        let (mut fits, mut over) = (0, long.len().min(size.symbols) + 1);
         while over - fits > 1 {
             let middle = (fits + over) / 2;
-            if chosen(k, &long[..middle]).0 < LIMIT {
+            if chosen(k, &long[..middle]).0 < size.symbols {
                 fits = middle;
             } else {
                 over = middle;
@@ -267,19 +286,19 @@ impl Case {
         }
         let text = long[..fits].to_vec();
         let table = chosen(k, &text).1;
-        let mut buf = vec![FILL; LIMIT * usize::from(k) / 8];
+        let mut buf = vec![FILL; size.symbols * usize::from(k) / 8];
         let (answer, roll) = reference::pack(&table, &text, &mut buf);
         answer.expect("it was seen to fit");
         let mut directory = vec![0; (text.len() + STRIDE - 1) / STRIDE + 1];
         reference::make_directory(&roll, &buf, &mut directory).expect("a sound roll");
-        Case { name: format!("{}, k {}", name, k), text, roll, buf, directory }
+        Case { name: format!("{}, k {}", name, k), size, text, roll, buf, directory }
     }
 
     /// The run of so many characters of one line that is nearest to a place, as no pattern has byte 10.
     fn run(&self, place: usize, length: usize) -> &[u8] {
-        let run = |start: usize| &self.text[start..start + length];
-        let starts = (0..=self.text.len() - length).filter(|&start| !run(start).contains(&b'\n'));
-        run(starts.min_by_key(|start| start.abs_diff(place)).expect("some line is long enough"))
+        let starts = (0..self.text.len()).flat_map(|away| [place.checked_sub(away), place.checked_add(away)]).flatten();
+        let mut runs = starts.filter_map(|start| self.text.get(start..start + length));
+        runs.find(|run| !run.contains(&b'\n')).expect("some line is long enough")
     }
 
     /// A run of its text, at two thirds of it.
@@ -287,8 +306,9 @@ impl Case {
         self.run(self.text.len() * 2 / 3, length)
     }
 
-    /// The runs of its text nearest to places spread over it; and some that stand nowhere: two runs of half the length, the
-    /// later first. Few lines of the member roll have 32 characters, so runs of 32 come again, and not near their places.
+    /// The runs of its text nearest to places spread over it; and some that stand nowhere: two runs of half the length,
+    /// the later first. Few lines of the short member rolls have 32 characters, so runs of 32 come again there, and not
+    /// near their places; in the full ones all differ, and none is more than 12,000 characters away.
     fn patterns(&self, length: usize) -> Vec<Vec<u8>> {
         let last = self.text.len() - length;
         let run = |place: usize| self.run(place, length).to_vec();
@@ -319,6 +339,11 @@ fn timed<T>(call: impl FnOnce() -> T) -> (f64, T) {
     (start.elapsed().as_nanos() as f64 / 1_000.0, answer)
 }
 
+fn mean(times: impl ExactSizeIterator<Item = f64>) -> f64 {
+    let count = times.len() as f64;
+    times.sum::<f64>() / count
+}
+
 fn median(mut times: Vec<f64>) -> f64 {
     times.sort_by(|a, b| a.partial_cmp(b).expect("times are numbers"));
     times[times.len() / 2]
@@ -327,26 +352,28 @@ fn median(mut times: Vec<f64>) -> f64 {
 /// A measured call answers its time and what it found.
 type Call<'a, T> = &'a mut dyn FnMut() -> (f64, T);
 
-/// The medians of calls made in turn, each time another one first. What they find must be the same of all
-/// and always.
-fn medians<const N: usize, T: PartialEq + std::fmt::Debug>(calls: [Call<T>; N]) -> [f64; N] {
-    let mut times = vec![Vec::new(); N];
-    let expected = calls[0]().1;
-    for round in 0..WARM_UP + REPETITIONS {
-        for turn in 0..N {
-            let which = (round + turn) % N;
-            let (time, answer) = calls[which]();
-            assert_eq!(answer, expected, "answers differ");
-            if round >= WARM_UP {
-                times[which].push(time);
+impl Case {
+    /// The medians of calls made in turn, each time another one first. What they find must be the same of all
+    /// and always.
+    fn medians<const N: usize, T: PartialEq + std::fmt::Debug>(&self, calls: [Call<T>; N]) -> [f64; N] {
+        let mut times = vec![Vec::new(); N];
+        let expected = calls[0]().1;
+        for round in 0..WARM_UP + self.size.repetitions {
+            for turn in 0..N {
+                let which = (round + turn) % N;
+                let (time, answer) = calls[which]();
+                assert_eq!(answer, expected, "answers differ");
+                if round >= WARM_UP {
+                    times[which].push(time);
+                }
             }
         }
+        let mut medians = [0.0; N];
+        for (median_of, times) in medians.iter_mut().zip(times) {
+            *median_of = median(times);
+        }
+        medians
     }
-    let mut medians = [0.0; N];
-    for (median_of, times) in medians.iter_mut().zip(times) {
-        *median_of = median(times);
-    }
-    medians
 }
 
 struct Row {
@@ -392,7 +419,7 @@ fn measure(case: &Case) -> Vec<Row> {
     let mut rows = Vec::new();
 
     let (mut ours, mut theirs) = (vec![FILL; buf.len()], vec![FILL; buf.len()]);
-    let times = medians([
+    let times = case.medians([
         &mut || {
             ours.fill(FILL);
             let (time, packed) = timed(|| sys::pack(record.table, text, &mut ours));
@@ -408,7 +435,7 @@ fn measure(case: &Case) -> Vec<Row> {
     assert_eq!(&ours, buf);
     rows.push(Row::new("pack", times));
 
-    let [ours, theirs, tuned] = medians([
+    let [ours, theirs, tuned] = case.medians([
         &mut || timed(|| sys::check(record, buf).number),
         &mut || timed(|| number_of(&plain::check(roll, buf))),
         &mut || timed(|| number_of(&plain::check_straight(roll, buf))),
@@ -416,7 +443,7 @@ fn measure(case: &Case) -> Vec<Row> {
     rows.push(Row { tuned: Some(tuned), ..Row::new("check", [ours, theirs]) });
 
     let (mut ours, mut theirs, mut tuned) = (vec![FILL; text.len()], vec![FILL; text.len()], vec![FILL; text.len()]);
-    let times = medians([
+    let times = case.medians([
         &mut || {
             ours.fill(FILL);
             let (time, number) = timed(|| sys::unpack(record, buf, 0, n as usize, &mut ours).number);
@@ -438,7 +465,7 @@ fn measure(case: &Case) -> Vec<Row> {
     rows.push(Row { tuned: Some(tuned), ..Row::new("unpack, whole", [ours, theirs]) });
 
     let (mut ours, mut theirs) = (vec![9; directory.len()], vec![9; directory.len()]);
-    let times = medians([
+    let times = case.medians([
         &mut || {
             ours.fill(9);
             let (time, number) = timed(|| sys::make_directory(record, buf, &mut ours).number);
@@ -454,7 +481,7 @@ fn measure(case: &Case) -> Vec<Row> {
 
     let mut rng = Rng(3);
     let to_read: Vec<usize> = (0..PLACES).map(|_| rng.below(text.len())).collect();
-    let times = medians([
+    let times = case.medians([
         &mut || timed(|| sum(to_read.iter().map(|&place| sys::read_one(record, buf, directory, place).value))),
         &mut || {
             timed(|| {
@@ -476,7 +503,7 @@ fn measure(case: &Case) -> Vec<Row> {
         let found = (0, u64::from(hits), sum_entries(&ours[..hits as usize]));
         let seen = |hits: u32, list: &[u32]| (0, u64::from(hits), sum_entries(&list[..hits as usize]));
         let checked = |(time, number): (f64, u32)| (time, (number, found.1, found.2));
-        let [ours, theirs, tuned, unpacked, our_check, their_check, tuned_check] = medians([
+        let [ours, theirs, tuned, unpacked, our_check, their_check, tuned_check] = case.medians([
             &mut || {
                 let (time, answer) = timed(|| sys::search(record, buf, pattern, &mut ours));
                 (time, (answer.number, answer.value, sum_entries(&ours[..answer.value as usize])))
@@ -518,7 +545,7 @@ fn measure(case: &Case) -> Vec<Row> {
         // The copies that are edited; making them is not timed.
         let (mut ours, mut our_entries) = (buf.clone(), directory.clone());
         let (mut theirs, mut their_entries) = (buf.clone(), directory.clone());
-        let times = medians([
+        let times = case.medians([
             &mut || {
                 ours.copy_from_slice(buf);
                 our_entries.copy_from_slice(directory);
@@ -561,25 +588,25 @@ struct InPieces {
 
 fn measure_in_pieces(case: &Case) -> Vec<InPieces> {
     let (record, k) = (roll_of(&case.roll), usize::from(case.roll.table.k));
-    let bytes = &case.buf[..(case.roll.h as usize * k + 7) / 8];
+    let bytes = &case.buf[..bytes_of(&case.roll)];
     let mut rows = Vec::new();
     for length in PATTERNS {
         let pattern = case.pattern(length);
         // No piece has more hits than symbols.
-        let mut whole = vec![9; case.text.len() + PIECES[1].0 * 8 / k];
+        let mut whole = vec![9; case.text.len() + PIECES[1] * 8 / k];
         let (mut small, mut great) = (whole.clone(), whole.clone());
         let feed = |size: usize, hits: &mut [u32]| {
             let (time, (number, total)) = timed(|| fed(record, bytes, pattern, size, hits));
             (time, (number, total, sum_entries(&hits[..total])))
         };
-        let [whole, small, great] = medians([
+        let [whole, small, great] = case.medians([
             &mut || {
                 let (time, answer) = timed(|| sys::search(record, bytes, pattern, &mut whole));
                 let total = answer.value as usize;
                 (time, (answer.number, total, sum_entries(&whole[..total])))
             },
-            &mut || feed(PIECES[0].0, &mut small),
-            &mut || feed(PIECES[1].0, &mut great),
+            &mut || feed(PIECES[0], &mut small),
+            &mut || feed(PIECES[1], &mut great),
         ]);
         rows.push(InPieces { length, whole, fed: [small, great] });
     }
@@ -599,35 +626,50 @@ struct Jumping {
 }
 
 impl Jumping {
+    fn means(patterns: &[Jumping]) -> Jumping {
+        let mean = |time: fn(&Jumping) -> f64| mean(patterns.iter().map(time));
+        Jumping {
+            jumping: mean(|one| one.jumping),
+            plain: mean(|one| one.plain),
+            rust: mean(|one| one.rust),
+            unpacked: mean(|one| one.unpacked),
+            memmem: mean(|one| one.memmem),
+        }
+    }
+
     /// Beside the plain search, plain Rust, and memmem.
     fn ratios(&self) -> [f64; 3] {
         [self.plain, self.rust, self.memmem].map(|other| self.jumping / other)
     }
 }
 
-/// One pattern, by all in turn. What the archive's searches take after their check is the difference of a search and of a
-/// check that comes right behind it, in the same round, and the median is that of these differences: the search that jumps
-/// takes little beside its check, and a difference of two medians would have too much of the check's own wavering in it.
+type Search = fn(sys::Roll, &[u8], &[u8], &mut [u32]) -> sys::Answer;
+
+/// What a search of the archive takes after its check, and how many hits it has: the difference of the search and of a
+/// check that comes right behind it, of which the median is taken. The search that jumps takes little beside its check,
+/// and a difference of two medians would have too much of the check's own wavering in it.
+fn after_check(case: &Case, search: Search, pattern: &[u8], list: &mut [u32]) -> (f64, usize) {
+    let record = roll_of(&case.roll);
+    let (whole, answer) = timed(|| search(record, &case.buf, pattern, list));
+    let (check, checked) = timed(|| sys::check(record, &case.buf));
+    assert_eq!((answer.number, checked.number), (0, 0), "a sound roll");
+    (whole - check, answer.value as usize)
+}
+
+/// One pattern, by all in turn.
 fn measure_jump(case: &Case, pattern: &[u8]) -> Jumping {
     let (roll, text, buf) = (&case.roll, &case.text, &case.buf);
-    let record = roll_of(roll);
     let mut lists = vec![vec![9; text.len()]; 5];
     let total = reference::search(roll, buf, pattern, &mut lists[0]).expect("a sound roll") as usize;
     let expected = (total, sum_entries(&lists[0][..total]));
-    let after = |search: fn(sys::Roll, &[u8], &[u8], &mut [u32]) -> sys::Answer, list: &mut [u32]| {
-        let (whole, answer) = timed(|| search(record, buf, pattern, list));
-        let (check, checked) = timed(|| sys::check(record, buf));
-        assert_eq!((answer.number, checked.number), (0, 0), "a sound roll");
-        (whole - check, answer.value as usize)
-    };
     let mut times = vec![Vec::new(); lists.len()];
-    for round in 0..WARM_UP + ROUNDS {
+    for round in 0..WARM_UP + case.size.rounds {
         for turn in 0..lists.len() {
             let which = (round + turn) % lists.len();
             let list = &mut lists[which];
             let (time, found) = match which {
-                0 => after(sys::search_jumping, list),
-                1 => after(sys::search, list),
+                0 => after_check(case, sys::search_jumping, pattern, list),
+                1 => after_check(case, sys::search, pattern, list),
                 2 => timed(|| plain::search_sound(roll, buf, pattern, list) as usize),
                 3 => timed(|| plain::search_text(text, pattern, list).expect("a good pattern") as usize),
                 _ => timed(|| memory::search_text(text, pattern, list) as usize),
@@ -648,6 +690,17 @@ fn measure_jumping(case: &Case) -> Vec<(usize, Vec<Jumping>)> {
     PATTERNS.iter().map(|&length| (length, of_length(length))).collect()
 }
 
+/// The packed bytes of a roll.
+fn bytes_of(roll: &Roll) -> usize {
+    (roll.h as usize * usize::from(roll.table.k) + 7) / 8
+}
+
+/// The bytes of its frame text.
+fn frame_text(roll: &Roll) -> usize {
+    let bytes = bytes_of(roll);
+    27 + 2 * usize::from(roll.table.sigma) + 2 * bytes + 3 * ((bytes + FRAME - 1) / FRAME)
+}
+
 /// A roll written as a frame text, or read from one, and what of it is the check.
 struct Framed {
     name: &'static str,
@@ -663,9 +716,9 @@ struct Framed {
 /// accepted reads them once more to store them.
 fn measure_frames(case: &Case) -> Vec<Framed> {
     let (roll, buf) = (&case.roll, &case.buf);
-    let (record, k, sigma) = (roll_of(roll), usize::from(roll.table.k), usize::from(roll.table.sigma));
-    let bytes = &buf[..(roll.h as usize * k + 7) / 8];
-    let mut text = vec![FILL; 27 + 2 * sigma + 2 * bytes.len() + 3 * ((bytes.len() + FRAME - 1) / FRAME)];
+    let record = roll_of(roll);
+    let bytes = &buf[..bytes_of(roll)];
+    let mut text = vec![FILL; frame_text(roll)];
     let length = reference::write_frames(roll, buf, &mut text).expect("a sound roll");
     assert_eq!(length as usize, text.len());
     let our_check = || timed(|| sys::check(record, buf).number);
@@ -674,7 +727,7 @@ fn measure_frames(case: &Case) -> Vec<Framed> {
     let (mut ours, mut theirs) = (vec![FILL; text.len()], vec![FILL; text.len()]);
     let found = (0, length, sum_bytes(&text));
     let checked = |(time, number): (f64, u32)| (time, (number, found.1, found.2));
-    let [archive, plain, our_time, their_time] = medians([
+    let [archive, plain, our_time, their_time] = case.medians([
         &mut || {
             ours.fill(FILL);
             let (time, answer) = timed(|| sys::write_frames(record, buf, &mut ours));
@@ -706,7 +759,7 @@ fn measure_frames(case: &Case) -> Vec<Framed> {
         let (time, read) = timed(|| sys::read_frames(text, &mut lent));
         checked((time, read.answer.number - number))
     };
-    let [archive, plain, their_time, shape, unjudged] = medians([
+    let [archive, plain, their_time, shape, unjudged] = case.medians([
         &mut || {
             ours.fill(FILL);
             let (time, read) = timed(|| sys::read_frames(&text, &mut ours));
@@ -749,13 +802,123 @@ fn edits(case: &Case) -> Vec<(&'static str, usize, usize, Vec<u8>)> {
     ]
 }
 
+/// All that is measured of a roll by default.
+struct Measured {
+    rows: Vec<Row>,
+    framed: Vec<Framed>,
+    in_pieces: Vec<InPieces>,
+    jumping: Vec<(usize, Vec<Jumping>)>,
+}
+
+impl Measured {
+    fn new(case: &Case) -> Measured {
+        Measured {
+            rows: measure(case),
+            framed: measure_frames(case),
+            in_pieces: measure_in_pieces(case),
+            jumping: measure_jumping(case),
+        }
+    }
+}
+
+/// An operation of the archive and the same of plain Rust, where there is one: picoseconds for each symbol of the roll,
+/// or nanoseconds for a call where it does not go through the roll.
+struct Cost {
+    name: String,
+    archive: f64,
+    plain: Option<f64>,
+}
+
+fn costs(case: &Case, measured: &Measured) -> Vec<Cost> {
+    let each = |micros: f64| micros * 1e6 / f64::from(case.roll.h);
+    let cost = |name: &str, archive, plain: Option<f64>| Cost {
+        name: name.to_string(),
+        archive: each(archive),
+        plain: plain.map(each),
+    };
+    let mut costs = Vec::new();
+    for row in &measured.rows {
+        match &row.name[..] {
+            "read one" => costs.push(Cost {
+                name: "read one, ns a call".to_string(),
+                archive: row.archive * 1e3,
+                plain: Some(row.plain * 1e3),
+            }),
+            // Its searching is shown without the check, which has a row of its own.
+            name if name.starts_with("search") && !name.ends_with("less the check") => (),
+            name => costs.push(cost(name, row.archive, Some(row.plain))),
+        }
+    }
+    for (length, patterns) in &measured.jumping {
+        let Jumping { jumping, rust, .. } = Jumping::means(patterns);
+        costs.push(cost(&format!("search by jumps for {} characters, less the check", length), jumping, Some(rust)));
+    }
+    for (number, &size) in PIECES.iter().enumerate() {
+        let fed = mean(measured.in_pieces.iter().map(|pattern| pattern.fed[number]));
+        costs.push(cost(&format!("fed in pieces of {} bytes", grouped(size)), fed, None));
+    }
+    costs.extend(measured.framed.iter().map(|row| cost(row.name, row.archive, Some(row.plain))));
+    costs
+}
+
+const GROWING_CALLS: [&str; 8] = [
+    "check",
+    "unpack, whole",
+    "make a directory",
+    "plain search",
+    "search by jumps",
+    "the same, less the check",
+    "read from frames",
+    "edit: a character of one symbol put in front",
+];
+
+/// The archive's calls of these names.
+fn measure_growing(case: &Case, pattern: &[u8]) -> [f64; GROWING_CALLS.len()] {
+    let (roll, buf, directory) = (&case.roll, &case.buf, &case.directory);
+    let record = roll_of(roll);
+    let (mut text, mut entries) = (vec![FILL; case.text.len()], vec![9; directory.len()]);
+    let mut lists = [vec![9; text.len()], vec![9; text.len()], vec![9; text.len()]];
+    let [plain, jumping, difference] = &mut lists;
+    let mut frames = vec![FILL; frame_text(roll)];
+    reference::write_frames(roll, buf, &mut frames).expect("a sound roll");
+    let (mut read, mut edited, mut edited_entries) = (buf.clone(), buf.clone(), directory.clone());
+    let first = &roll.table.places[..1];
+    case.medians([
+        &mut || timed(|| sys::check(record, buf).number),
+        &mut || timed(|| sys::unpack(record, buf, 0, roll.n as usize, &mut text).number),
+        &mut || timed(|| sys::make_directory(record, buf, &mut entries).number),
+        &mut || timed(|| sys::search(record, buf, pattern, plain).number),
+        &mut || timed(|| sys::search_jumping(record, buf, pattern, jumping).number),
+        &mut || (after_check(case, sys::search_jumping, pattern, difference).0, 0),
+        &mut || timed(|| sys::read_frames(&frames, &mut read).answer.number),
+        &mut || {
+            edited.copy_from_slice(buf);
+            edited_entries.copy_from_slice(directory);
+            timed(|| sys::edit(record, &mut edited, &mut edited_entries, 0, 0, first).answer.number)
+        },
+    ])
+}
+
 // What is shown.
+
+/// A number with a comma before each three digits.
+fn grouped(number: usize) -> String {
+    match number {
+        0..=999 => number.to_string(),
+        _ => format!("{},{:03}", grouped(number / 1_000), number % 1_000),
+    }
+}
 
 fn table_of(case: &Case, rows: &[Row]) -> String {
     let table = &case.roll.table;
     let mut lines = format!(
-        "{}: {} characters, {} in the table, s {}, {} symbols\n\n",
-        case.name, case.roll.n, table.sigma, table.s, case.roll.h
+        "{}, up to {} symbols: {} characters, {} in the table, s {}, {} symbols\n\n",
+        case.name,
+        grouped(case.size.symbols),
+        case.roll.n,
+        table.sigma,
+        table.s,
+        case.roll.h
     );
     lines.push_str("| operation | archive µs | plain Rust µs | ratio | tuned Rust µs | ratio | unpacked text µs |\n");
     lines.push_str("|---|--:|--:|--:|--:|--:|--:|\n");
@@ -780,14 +943,20 @@ fn table_of(case: &Case, rows: &[Row]) -> String {
 
 fn table_in_pieces(rows: &[InPieces]) -> String {
     let mut lines = String::from("| as it comes in | archive µs | whole search µs | ratio |\n|---|--:|--:|--:|\n");
-    for (number, (_, size)) in PIECES.iter().enumerate() {
+    for (number, &size) in PIECES.iter().enumerate() {
         for InPieces { length, whole, fed } in rows {
             let ratio = fed[number] / whole;
             let bold = if ratio > MARK_IN_PIECES { "**" } else { "" };
             let _ = writeln!(
                 lines,
                 "| search for {} characters, fed in pieces of {} bytes, finishing included | {:.1} | {:.1} | {}{:.2}{} |",
-                length, size, fed[number], whole, bold, ratio, bold
+                length,
+                grouped(size),
+                fed[number],
+                whole,
+                bold,
+                ratio,
+                bold
             );
         }
     }
@@ -828,14 +997,7 @@ fn table_of_jumping(rows: &[(usize, Vec<Jumping>)]) -> String {
          |---|--:|--:|--:|--:|--:|--:|--:|--:|--:|--:|--:|\n",
     );
     for (length, patterns) in rows {
-        let mean = |time: fn(&Jumping) -> f64| patterns.iter().map(time).sum::<f64>() / patterns.len() as f64;
-        let means = Jumping {
-            jumping: mean(|one| one.jumping),
-            plain: mean(|one| one.plain),
-            rust: mean(|one| one.rust),
-            unpacked: mean(|one| one.unpacked),
-            memmem: mean(|one| one.memmem),
-        };
+        let means = Jumping::means(patterns);
         let _ = write!(
             lines,
             "| {} patterns of {} characters | {:.2} | {:.1} | {:.1} | {:.1} | {:.2} |",
@@ -854,6 +1016,46 @@ fn table_of_jumping(rows: &[(usize, Vec<Jumping>)]) -> String {
                 let bold = if mark.map_or(false, |mark| ratio > mark) { "**" } else { "" };
                 let _ = write!(lines, " {}{:.2}{} |", bold, ratio, bold);
             }
+        }
+        lines.push('\n');
+    }
+    lines
+}
+
+/// What a symbol costs in the short roll and in the full one, of a text with each width; the full roll's costs come first.
+fn table_of_costs(name: &str, widths: &[[Vec<Cost>; 2]]) -> String {
+    let mut lines = format!("| {}, ps a symbol |", name);
+    for k in WIDTHS {
+        let (short, full) = (grouped(SHORT.symbols), grouped(FULL.symbols));
+        let _ = write!(lines, " k {}: {} | {} | ratio | plain Rust's ratio |", k, short, full);
+    }
+    lines.push_str("\n|---|");
+    lines.push_str(&"--:|".repeat(4 * WIDTHS.len()));
+    lines.push('\n');
+    for number in 0..widths[0][0].len() {
+        let _ = write!(lines, "| {} |", widths[0][0][number].name);
+        for [full, short] in widths {
+            let (full, short) = (&full[number], &short[number]);
+            for cost in [short.archive, full.archive] {
+                let _ = write!(lines, " {:.*} |", if cost < 100.0 { 1 } else { 0 }, cost);
+            }
+            let plain = full.plain.zip(short.plain).map(|(full, short)| format!("{:.2}", full / short));
+            let _ = write!(lines, " {:.2} | {} |", full.archive / short.archive, plain.unwrap_or_default());
+        }
+        lines.push('\n');
+    }
+    lines
+}
+
+/// A row for each roll: microseconds of each call, and nanoseconds for each symbol.
+fn table_of_growing(name: &str, rows: &[(Roll, [f64; GROWING_CALLS.len()])]) -> String {
+    let mut lines = format!("| {}, symbols | s | {} |\n|--:|--:|", name, GROWING_CALLS.join(" | "));
+    lines.push_str(&"--:|".repeat(GROWING_CALLS.len()));
+    lines.push('\n');
+    for (roll, times) in rows {
+        let _ = write!(lines, "| {} | {} |", grouped(roll.h as usize), roll.table.s);
+        for time in times {
+            let _ = write!(lines, " {:.1} ({:.3}) |", time, time * 1e3 / f64::from(roll.h));
         }
         lines.push('\n');
     }
@@ -897,7 +1099,12 @@ fn drawing(cases: &[Case], rows: &[Vec<Row>]) -> String {
         let _ = writeln!(svg, "<rect x=\"{}\" y=\"46\" width=\"12\" height=\"12\" fill=\"{}\"/>", left, colour);
         let _ = writeln!(svg, "<text x=\"{}\" y=\"57\">{}</text>", left + 18, case.name);
     }
-    let _ = writeln!(svg, "<text x=\"16\" y=\"80\" fill=\"#555555\">Measured on {}.</text>", machine());
+    let _ = writeln!(
+        svg,
+        "<text x=\"16\" y=\"80\" fill=\"#555555\">Rolls of {} symbols or just under. Measured on {}.</text>",
+        grouped(FULL.symbols),
+        machine()
+    );
     let step = if most > 12.0 { 2.0 } else { 1.0 };
     let mut tick = 0.0;
     while tick <= most {
@@ -970,68 +1177,112 @@ fn written(path: &Path, content: impl AsRef<[u8]>) {
     }
 }
 
-fn main() {
-    let texts = [("member roll", member_roll()), ("English-like text", english_like())];
-    let words: Vec<String> = std::env::args().skip(1).collect();
-    let picture = match &words[..] {
-        [] => None,
-        [word, folder] if word == "texts" => {
-            for (name, text) in &texts {
-                written(&Path::new(folder).join(name), Case::new(name, 2, text).text);
-            }
-            return;
-        }
-        [picture] if picture != "texts" => Some(Path::new(picture)),
-        _ => {
-            eprintln!("usage: bench [SVG] | bench texts FOLDER");
-            exit(2);
-        }
-    };
-    let mut cases = Vec::new();
-    for (name, text) in &texts {
-        for k in [2, 4] {
-            cases.push(Case::new(name, k, text));
-        }
-    }
+type Texts = [(&'static str, Vec<u8>); 2];
+
+/// Prints what the default run measures; the full rolls and their rows are for the picture.
+fn run(texts: &Texts) -> (Vec<Case>, Vec<Vec<Row>>) {
     println!(
-        "Medians of {} calls on either side, in turn, after {} that were not measured. Outputs of pack, unpack, make a\n\
-         directory and frames were not cleared but filled with other values before each call, and each edit had a fresh copy\n\
-         of buffer and directory; neither is timed. A hit list keeps the hits of the call before. Reading one is the\n\
+        "Rolls of up to {} symbols, and of up to {}: the short ones, from the beginnings of the same texts. Medians of {}\n\
+         calls on either side, and of {} in the short rolls, in turn, after {} that were not measured. Outputs of pack, unpack,\n\
+         make a directory and frames were not cleared but filled with other values before each call, and each edit had a fresh\n\
+         copy of buffer and directory; neither is timed. A hit list keeps the hits of the call before. Reading one is the\n\
          mean over {} places. Less the check: the median of the search less that of the check, both measured in turn.\n\
          Unpacked text: its plain search. Bold: over {}. As it comes in: started, fed and finished, in turn with the\n\
          archive's whole search of the same roll, its check included; bold: over {:.1}.\n\
          A search that jumps: means over {} patterns that stand in the text and {} that do not; of each pattern the\n\
-         median of {} rounds. Of the archive's searches that of the differences of a search and of a check right behind\n\
-         it; plain Rust searches the packed symbols without a check; memmem goes on one byte behind each hit. Ratios\n\
-         are of the means, and the greatest of one pattern is beside them. Bold: over {} of the plain search, {} of plain\n\
-         Rust, and of memmem over {:?} for 8 characters and {:?} for 16 and 32.\n\
+         median of {} rounds, and of {} in the short rolls. Of the archive's searches that of the differences of a search and\n\
+         of a check right behind it; plain Rust searches the packed symbols without a check; memmem goes on one byte behind\n\
+         each hit. Ratios are of the means, and the greatest of one pattern is beside them. Bold: over {} of the plain search,\n\
+         {} of plain Rust, and of memmem over {:?} for 8 characters and {:?} for 16 and 32.\n\
          Frames: plain Rust's check, and in writing the archive's, measured in turn. In reading the archive judges the bytes\n\
          as they come: its check is what is left without its passes over the lines, of which one is a text with a wrong last\n\
-         line, two one with a bad first codeword, and three a reading.\n",
-        REPETITIONS,
+         line, two one with a bad first codeword, and three a reading.\n\
+         A symbol's cost, at the end: picoseconds of the archive's calls in these tables for each symbol of the roll, in either\n\
+         size, and the ratio of the two; beside it that of plain Rust. Searches that jump, whose patterns are others in either\n\
+         size, and feeding: of the means over all patterns. Frames: with their checks.\n",
+        grouped(FULL.symbols),
+        grouped(SHORT.symbols),
+        FULL.repetitions,
+        SHORT.repetitions,
         WARM_UP,
         PLACES,
         MARK,
         MARK_IN_PIECES,
         STANDING,
         ABSENT,
-        ROUNDS,
+        FULL.rounds,
+        SHORT.rounds,
         MARK_JUMPING,
         MARK_JUMPING_RUST,
         mark_memmem(8).unwrap_or(0.0),
         mark_memmem(16).unwrap_or(0.0)
     );
-    let mut rows = Vec::new();
-    for case in &cases {
-        let measured = measure(case);
-        println!("{}", table_of(case, &measured));
-        let framed = measure_frames(case);
-        println!("{}", table_of_frames(&framed));
-        println!("{}", table_in_pieces(&measure_in_pieces(case)));
-        println!("{}", table_of_jumping(&measure_jumping(case)));
-        rows.push(measured);
+    let (mut cases, mut rows, mut tables) = (Vec::new(), Vec::new(), Vec::new());
+    for (name, text) in texts {
+        let mut widths = Vec::new();
+        for k in WIDTHS {
+            // One size right behind the other, so that the machine is the same for both.
+            let [full, short] = [&FULL, &SHORT].map(|size| {
+                let case = Case::new(name, k, text, size);
+                let measured = Measured::new(&case);
+                println!("{}", table_of(&case, &measured.rows));
+                println!("{}", table_of_frames(&measured.framed));
+                println!("{}", table_in_pieces(&measured.in_pieces));
+                println!("{}", table_of_jumping(&measured.jumping));
+                (case, measured)
+            });
+            widths.push([costs(&full.0, &full.1), costs(&short.0, &short.1)]);
+            cases.push(full.0);
+            rows.push(full.1.rows);
+        }
+        tables.push(table_of_costs(name, &widths));
     }
-    if let Some(picture) = picture {
-        written(picture, drawing(&cases, &rows));
+    println!("{}", tables.join("\n"));
+    (cases, rows)
+}
+
+/// Prints what the archive's calls take as a roll grows.
+fn run_growing(texts: &Texts) {
+    println!(
+        "Microseconds of a call of the archive, and in brackets nanoseconds for each symbol: medians of {} calls in turn, after {}\n\
+         that were not measured. Both searches are for the same {} characters in all rolls of a text and a width, their check\n\
+         included but where it is said; there of the differences of a search and of a check right behind it.\n",
+        GROWING[0].repetitions, WARM_UP, PATTERNS[1]
+    );
+    for (name, text) in texts {
+        for k in WIDTHS {
+            let pattern = Case::new(name, k, text, &GROWING[0]).pattern(PATTERNS[1]).to_vec();
+            let rows = GROWING.iter().map(|size| {
+                let case = Case::new(name, k, text, size);
+                let times = measure_growing(&case, &pattern);
+                (case.roll, times)
+            });
+            println!("{}", table_of_growing(&format!("{}, k {}", name, k), &rows.collect::<Vec<_>>()));
+        }
+    }
+}
+
+fn main() {
+    let texts = [("member roll", member_roll()), ("English-like text", english_like())];
+    let words: Vec<String> = std::env::args().skip(1).collect();
+    let words: Vec<&str> = words.iter().map(String::as_str).collect();
+    match words[..] {
+        [] => {
+            run(&texts);
+        }
+        ["sizes"] => run_growing(&texts),
+        ["texts", folder] => {
+            for (name, text) in &texts {
+                written(&Path::new(folder).join(name), Case::new(name, 2, text, &SHORT).text);
+            }
+        }
+        [picture] if picture != "texts" => {
+            let (cases, rows) = run(&texts);
+            written(Path::new(picture), drawing(&cases, &rows));
+        }
+        _ => {
+            eprintln!("usage: bench [SVG] | bench sizes | bench texts FOLDER");
+            exit(2);
+        }
     }
 }
