@@ -273,7 +273,8 @@ def report(data):
     return b"\n".join(lines + [b"%d" % i for i in hits] + [b"hits %d" % len(hits)]) + b"\n"
 
 
-# A roll that comes in. A searcher is here what it holds and, beside that, all bytes that came (None where only the numbers are known) and the text read of them.
+# A roll that comes in. A searcher is here what it holds and, beside that, all bytes that came (None where only the numbers are known) and the
+# text read of them.
 
 def start_refusal(t, h, places, length):
     """What start asks of a roll and of a pattern, the first so many of these places."""
@@ -658,9 +659,8 @@ def long_edit_case(words, t, n, h, buf, start, end, text, expect=...):
     assert expect is ... or r == expect, (words, r, expect)
     note(words)
     given.append(f"13 {table_in(t)} {n} {h} {row_in(buf)} {start} {end} {row_in(list(text))}")
-    said.append("directory" + answer(made) + rises_out(entries))
-    said.append("read" + (answer(unread) if unread else f" {b}"))
-    said.append("edit" + answer(r) + f" n {n2} h {h2} k {t[0]} s {t[1]} sigma {t[2]}" + row_out(t[3]) + row_out(after) + rises_out(behind))
+    said.append("directory" + answer(made) + rises_out(entries) + "\nread" + (answer(unread) if unread else f" {b}")
+                + "\nedit" + answer(r) + f" n {n2} h {h2} k {t[0]} s {t[1]} sigma {t[2]}" + row_out(t[3]) + row_out(after) + rises_out(behind))
     return n2, h2, after
 
 
@@ -1393,11 +1393,11 @@ for k, s in ((2, 3), (4, 3)):
     long_edit_case(w + "4, past 1,048,576 symbols, in front", t, n, h, buf, 0, 0, b"bc", (4, n + 1))
     n, h, buf = long_edit_case(w + "up to 1,048,576 symbols, in front", t, n, h, buf, 0, 0, b"b", None)
     check_case(w + "1,048,576 symbols", t, n, h, buf, None)
-    check_case(w + "5, one more", t, n + 1, h + 1, buf, (5, LIMIT + 1))
+    check_case(w + "5, 1,048,577 symbols", t, n + 1, h + 1, buf, (5, LIMIT + 1))
     long_edit_case(w + "as many symbols as before of 1,048,576, in front", t, n, h, buf, 0, 2, b"cc", None)
     long_edit_case(w + "as many symbols as before of 1,048,576, at the end", t, n, h, buf, n - 2, n, b"d", None)
     long_edit_case(w + "4, one symbol more than 1,048,576, in front", t, n, h, buf, 0, 1, b"d", (4, n - 1))
-    long_edit_case(w + "10, behind 1,048,576", t, n, h, buf, n, n + 1, b"", (10, 0))
+    long_edit_case(w + "10, behind the last of 1,048,576 symbols", t, n, h, buf, n, n + 1, b"", (10, 0))
     long_edit_case(w + "fewer than 1,048,576, in front", t, n, h, buf, 0, 9, b"a", None)
     long_edit_case(w + "nothing of 1,048,576 left", t, n, h, buf, 0, n, b"", None)
 for k, s in ((2, 3), (4, 3)):
@@ -1405,7 +1405,7 @@ for k, s in ((2, 3), (4, 3)):
     unpack_case(w + "1,048,576 characters", t, LIMIT, LIMIT, buf, 0, LIMIT, [0xEE] * (LIMIT + 1), None)
     unpack_case(w + "the last two of 1,048,576", t, LIMIT, LIMIT, buf, LIMIT - 2, LIMIT, [0xEE] * 3, None)
     unpack_case(w + "13, one byte too few for 1,048,576", t, LIMIT, LIMIT, buf, 0, LIMIT, [0xEE] * (LIMIT - 1), (13, LIMIT))
-    unpack_case(w + "10, past 1,048,576", t, LIMIT, LIMIT, buf, LIMIT, LIMIT + 1, [0xEE] * 3, (10, 0))
+    unpack_case(w + "10, past 1,048,576 characters", t, LIMIT, LIMIT, buf, LIMIT, LIMIT + 1, [0xEE] * 3, (10, 0))
 
 # ranks that 16, 32 and 64 bits would take for 0
 for bits in (16, 32, 64):

@@ -107,7 +107,7 @@ fn step_at(row: &[u32], i: usize) -> usize {
     0
 }
 
-// How many numbers from i on rise by this step: the place behind them.
+// The place behind the numbers that from i on rise by this step.
 fn evenly(row: &[u32], i: usize, step: usize) -> usize {
     let mut j = i;
     let mut next: usize = 0;
