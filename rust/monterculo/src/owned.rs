@@ -178,8 +178,8 @@ impl OwnedRoll {
     /// # Ok::<(), monterculo::Refusal>(())
     /// ```
     pub fn from_frames(text: &[u8]) -> Result<OwnedRoll, Refusal> {
-        // Where the first line is refused the whole text is, whatever the buffer; and so it is for a missing line, where
-        // the text has fewer digits than the bytes that h says.
+        // Where the first line is refused the whole text is, whatever the buffer; and where the text has too few digits for
+        // the bytes that h says, a line is missing.
         let room = Roll::from_first_line(first_line(text))
             .map_or(0, |roll| bytes_for(roll.table().k(), u64::from(roll.h()).min(SYMBOLS as u64)));
         let mut buf = vec![0; room.min(text.len() / 2)];

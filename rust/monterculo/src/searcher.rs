@@ -4,7 +4,7 @@ use std::error::Error;
 use std::fmt;
 
 use crate::refusal::Given;
-use crate::{bytes_for, hits_for, sys, Refusal, Roll, PATTERN, SYMBOLS};
+use crate::{bytes_for, hits_for, sys, Refusal, Roll, PATTERN};
 
 /// A search in a roll whose packed bytes come in pieces.
 ///
@@ -103,8 +103,8 @@ impl Searcher {
     /// # Ok::<(), monterculo::Refusal>(())
     /// ```
     pub fn find(&mut self, piece: &[u8]) -> Result<Vec<usize>, PieceRefusal<Vec<usize>>> {
-        // No roll has more symbols; a piece of more than is missing is refused before the entries are asked for.
-        let mut hits = vec![0; hits_for(self.k(), piece.len().min(self.missing())).min(SYMBOLS)];
+        // A piece of more bytes than are missing is refused before the entries are asked for.
+        let mut hits = vec![0; hits_for(self.k(), piece.len().min(self.missing()))];
         let owned = |hits: &[u32]| hits.iter().map(|&hit| hit as usize).collect();
         match self.feed(piece, &mut hits) {
             Ok(hits) => Ok(owned(hits)),

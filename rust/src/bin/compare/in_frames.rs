@@ -494,7 +494,7 @@ pub fn read(text: &[u8], buf: &mut [u8], error: &str) -> Rolled {
     if width {
         return Rolled { answer: shaped.unwrap_or(says(1, 0)), roll: NO_ROLL };
     }
-    // Not as many as h may say.
+    // h may say far more bytes than there is memory for; a roll has half of these at most.
     if due <= LIMIT {
         packed.resize(due, 0);
     }

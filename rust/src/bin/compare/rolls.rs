@@ -215,7 +215,7 @@ pub fn roll_of_codewords(rng: &mut Rng, mut table: Table, codewords: Vec<&[u8]>,
                 buf.resize(bytes_for(k, LIMIT) + 8, 0);
             }
             let room = room(k, buf.len()) as u32;
-            // It is h again in 16 or 20 bits, or, times 2 or 4, in 32.
+            // It is h again in 16 or 20 bits, or, times 2 or 4, in 32; where that is within the room, one over the room.
             let lost = (h + (1 << rng.pick(&[16, 20, 30, 31]))).max(room + 1);
             h = rng.pick(&[room + 1, room + 1, room + 4, LIMIT as u32 + 1, lost, lost, u32::MAX]);
         }

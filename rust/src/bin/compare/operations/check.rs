@@ -148,9 +148,13 @@ impl Operation for Check {
             return by_bytes::check(&self.roll, &self.buf, answer, error);
         }
         let good_in = |bits| good_if_wrapped(&self.roll, &self.buf, answer.value as usize, bits);
-        let (k, h, value) = (self.roll.table.k, self.roll.h as usize, answer.value as usize);
+        let (k, h) = (self.roll.table.k, self.roll.h as usize);
         let same_n = |bits| (answer.value as u32 ^ self.roll.n) & bits == 0;
-        let is_open = || symbols_of(k, &self.buf, h)[h - 1] >= self.roll.table.s;
+        // All symbols but this one are continuers: the last closes their run, the first leaves it open.
+        let lone_stopper = |at: usize| {
+            let symbols = symbols_of(k, &self.buf, h);
+            (0..h).all(|number| (symbols[number] < self.roll.table.s) == (number == at))
+        };
         match (error, answer.number) {
             ("keeps a room of 65,536", 0 | 6..=8) if h > 65_536 => says(5, h),
             ("asks 16 bits of n", 7) if same_n(0xFFFF) => says(0, 0),
@@ -158,8 +162,8 @@ impl Operation for Check {
             ("refuses 1,048,576 symbols", 0 | 6..=8) if h == LIMIT => says(5, h),
             ("refuses a longer buffer", 0) if h == LIMIT && self.buf.len() > bytes_for(k, h) => says(5, h),
             ("takes 1,048,577 symbols", 5) if h == LIMIT + 1 && self.buf.len() >= bytes_for(k, h) => says(0, 0),
-            ("passes a run of 1,048,575 continuers", 6) if value == 0 && h == LIMIT && !is_open() => says(0, 0),
-            ("passes an open run of 1,048,575 continuers", 6) if value + LIMIT - 1 == h && is_open() => says(0, 0),
+            ("passes a run of 1,048,575 continuers", 6) if h == LIMIT && lone_stopper(h - 1) => says(0, 0),
+            ("passes an open run of 1,048,575 continuers", 6) if h == LIMIT && lone_stopper(0) => says(0, 0),
             ("passes unused symbols", 8) => says(0, 0),
             ("passes every roll", _) => says(0, 0),
             ("answers n", 7) => says(7, self.roll.n as usize),

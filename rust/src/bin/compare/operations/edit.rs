@@ -135,7 +135,7 @@ impl Operation for Edit {
                 let takes_last = new_entries > old_entries && new_entries == directory.len();
                 met.meet(takes_last, "edits that take the last entry lent");
                 met.meet(directory.len() > old_entries, "edits with entries behind the used ones");
-                met.meet(new_h == LIMIT, TO_LIMIT);
+                met.meet(h < LIMIT && new_h == LIMIT, TO_LIMIT);
                 met.meet(new_h > OVER_16_BITS && h <= OVER_16_BITS, "edits from up to 65,536 symbols to more");
                 met.meet(h == LIMIT && *end > *start && *start == 0 && tail, AT_FRONT);
                 met.meet(h == LIMIT && new_h == LIMIT && put_in > 0, AS_MANY);

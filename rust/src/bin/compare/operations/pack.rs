@@ -60,7 +60,7 @@ impl Operation for Pack {
                 met.meet(length > OVER_16_BITS, "texts of over 65,536 characters packed");
             }
             4 => {
-                let roomy = self.buf.len() >= bytes_for(self.table.k, LIMIT);
+                let roomy = self.buf.len() > bytes_for(self.table.k, LIMIT);
                 met.meet(length == LIMIT + 1 && packed.answer.value as usize == LIMIT, ONE_MORE);
                 met.meet(roomy && length <= LIMIT, BY_LIMIT);
             }

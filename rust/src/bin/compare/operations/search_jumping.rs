@@ -301,7 +301,7 @@ fn of(rng: &mut Rng, full: Option<usize>) -> SearchJumping {
     while length + taken(end) < most {
         let piece = piece(rng, &table, &sought, if full.is_some() { 2_000 } else { 40 });
         let more = taken(&piece);
-        if length + more + taken(end) > full.unwrap_or(LIMIT) {
+        if full.map_or(false, |most| length + more + taken(end) > most) {
             break;
         }
         length += more;

@@ -151,7 +151,7 @@ impl Operation for Start {
             ("keeps a limit of 65,536", 0) if roll.h > 65_536 => return self.refused(says(5, roll.h as usize)),
             ("refuses 1,048,576 symbols", 0) if roll.h as usize == LIMIT => return self.refused(says(5, LIMIT)),
             ("takes 1,048,577 symbols", 5) if roll.h as usize == LIMIT + 1 => *answer = says(0, 0),
-            ("keeps 16 bits of h", _) => searcher.judge.roll.h &= 0xFFFF,
+            ("keeps 16 bits of h", 0) => searcher.judge.roll.h &= 0xFFFF,
             ("keeps 20 bits of h", 0) => searcher.judge.roll.h &= 0xF_FFFF,
             ("refuses 64 characters", 0) if pattern.len() == PATTERN => return self.refused(says(11, 0)),
             ("takes 65 characters", 11) if pattern.len() == PATTERN + 1 => return self.of(&pattern[..PATTERN]),
