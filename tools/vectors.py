@@ -770,7 +770,7 @@ def edits_case(words, kind, lent, text, expect, edits):
         after = text[:start] + row + text[stop:]
         r, line = say(after, lent)
         assert wanted is ... or r == wanted, (words, name, start, stop, row, r, wanted)
-        assert len(row) <= 1100 and len(after) <= 549000 and len(lent) <= 524300, words
+        assert len(row) <= 1100 and len(after) <= 1097800 and len(lent) <= 524300, words
         ins += ["# " + name] * (name != "") + [f"{start} {stop} {row_in(row)}"]
         said.append(line)
     note(words)

@@ -5,3 +5,4 @@
 // table, n and h. Rows of bytes are printed as runs of equal ones, and long rows of numbers as runs that rise by a step.
 pub mod given;
 pub mod printed;
+pub mod rooms;

@@ -18,11 +18,16 @@ use casebook::printed::rises;
 use casebook::printed::roll_out;
 use casebook::printed::runs;
 use casebook::printed::table_out;
+use casebook::rooms::buffer;
+use casebook::rooms::text_room;
 use ground::answers::Total;
 use sound::records::Roll;
 use stopper::code::LONGEST;
 use stopper::codeword_of::Codeword;
 use stopper::table::Table;
+
+// The most entries, or hits, that a case is given.
+const GIVEN: usize = 2100;
 
 fn main() {
     part();
@@ -35,16 +40,6 @@ fn part() {
     let mut input = [0u8; 262144];
     let n = io::read_full(0, &mut input);
     cases(&input[..n]);
-}
-
-// Room for the bytes of the longest roll and some more. It is answered by a function, since the prover would count out an array made in place.
-fn buffer() -> [u8; 524300] {
-    [0u8; 524300]
-}
-
-// Room for the longest text and some more.
-fn text_room() -> [u8; 1048600] {
-    [0u8; 1048600]
 }
 
 fn cases(s: &[u8]) {
@@ -146,7 +141,7 @@ fn directory_case(s: &[u8], at: usize) -> usize {
     let mut space = buffer();
     let buf = bytes(s, given.next, &mut space);
     let n = buf.value;
-    let mut entries = [0u32; 2100];
+    let mut entries = [0u32; GIVEN];
     let dir = numbers(s, buf.next, &mut entries);
     let m = dir.value;
     let roll = given.roll;
@@ -154,10 +149,19 @@ fn directory_case(s: &[u8], at: usize) -> usize {
     dir.next
 }
 
+// One by one, or, where they were not given, as runs.
+fn entries_out(dir: &[u32]) {
+    if dir.len() <= GIVEN {
+        list(dir);
+    } else {
+        rises(dir);
+    }
+}
+
 fn directory(roll: Roll, buf: &[u8], dir: &mut [u32]) {
     io::write_all(1, b"directory");
     done(roll::make_directory::make_directory(roll, buf, dir));
-    list(dir);
+    entries_out(dir);
     end();
 }
 
@@ -167,7 +171,7 @@ fn read_case(s: &[u8], at: usize) -> usize {
     let mut space = buffer();
     let buf = bytes(s, given.next, &mut space);
     let n = buf.value;
-    let mut entries = [0u32; 2100];
+    let mut entries = [0u32; GIVEN];
     let dir = numbers(s, buf.next, &mut entries);
     let m = dir.value;
     let place = number(s, dir.next);
@@ -191,10 +195,10 @@ fn search_case(s: &[u8], at: usize) -> usize {
     let mut letters = [0u8; 128];
     let pattern = bytes(s, buf.next, &mut letters);
     let p = pattern.value;
-    let mut places = [0u32; 2100];
+    let mut places = [0u32; GIVEN];
     let hits = numbers(s, pattern.next, &mut places);
     let m = hits.value;
-    let mut others = [0u32; 2100];
+    let mut others = [0u32; GIVEN];
     let again = numbers(s, pattern.next, &mut others);
     let o = again.value;
     let roll = given.roll;
@@ -235,7 +239,7 @@ fn edit_case(s: &[u8], at: usize) -> usize {
     let mut space = buffer();
     let buf = bytes(s, given.next, &mut space);
     let n = buf.value;
-    let mut entries = [0u32; 2100];
+    let mut entries = [0u32; GIVEN];
     let dir = numbers(s, buf.next, &mut entries);
     let m = dir.value;
     let start = number(s, dir.next);
@@ -263,7 +267,7 @@ fn edited(roll: Roll, buf: &mut [u8], dir: &mut [u32], start: usize, stop: usize
     done(answer);
     roll_out(record);
     runs(buf);
-    list(dir);
+    entries_out(dir);
     end();
 }
 
@@ -280,9 +284,9 @@ fn long_edit_case(s: &[u8], at: usize) -> usize {
     let p = text.value;
     let roll = given.roll;
     let mut entries = [0u32; 32770];
-    long_directory(roll, &space[..n], &mut entries);
+    directory(roll, &space[..n], &mut entries);
     read(roll, &space[..n], &entries, start.value);
-    long_edited(
+    edited(
         roll,
         &mut space[..n],
         &mut entries,
@@ -291,32 +295,6 @@ fn long_edit_case(s: &[u8], at: usize) -> usize {
         &letters[..p],
     );
     text.next
-}
-
-fn long_directory(roll: Roll, buf: &[u8], dir: &mut [u32]) {
-    io::write_all(1, b"directory");
-    done(roll::make_directory::make_directory(roll, buf, dir));
-    rises(dir);
-    end();
-}
-
-fn long_edited(
-    roll: Roll,
-    buf: &mut [u8],
-    dir: &mut [u32],
-    start: usize,
-    stop: usize,
-    text: &[u8],
-) {
-    io::write_all(1, b"edit");
-    let outcome = roll::edit::edit(roll, buf, dir, start, stop, text);
-    let answer = outcome.answer;
-    let record = outcome.roll;
-    done(answer);
-    roll_out(record);
-    runs(buf);
-    rises(dir);
-    end();
 }
 
 // The program's input.

@@ -2,11 +2,11 @@
 use crate::outcomes::first_read;
 use crate::outcomes::frame_read;
 use crate::outcomes::frames_read;
-use crate::rooms::buffer;
-use crate::rooms::text_room;
 use casebook::given::Value;
 use casebook::given::bytes;
 use casebook::given::number;
+use casebook::rooms::buffer;
+use casebook::rooms::text_room;
 ghost use Prim.Native.Nat.{_≤_};
 ghost use lib.ListN.{length};
 ghost use Rattle.io.specs.Counts.{Counts};

@@ -7,16 +7,14 @@
 
 mod edits;
 mod outcomes;
-mod rooms;
 
 use casebook::given::bytes;
 use casebook::given::number;
 use casebook::given::roll_at;
+use casebook::rooms::buffer;
+use casebook::rooms::text_room;
 use edits::all_edits;
 use outcomes::written;
-use rooms::buffer;
-use rooms::output_room;
-use rooms::text_room;
 
 fn main() {
     part();
@@ -56,7 +54,7 @@ fn write_case(s: &[u8], at: usize) -> usize {
     let mut space = buffer();
     let buf = bytes(s, given.next, &mut space);
     let n = buf.value;
-    let mut output = output_room();
+    let mut output = text_room();
     let out = bytes(s, buf.next, &mut output);
     let m = out.value;
     let mut other = buffer();
