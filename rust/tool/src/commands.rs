@@ -122,8 +122,9 @@ fn find_in(arguments: &Arguments, name: &OsStr, pattern: &[u8], label: &[u8]) ->
         line(hits.len(), &[]);
     } else if arguments.has("--at") {
         hits.iter().for_each(|&hit| line(hit, &[]));
-    } else if !hits.is_empty() {
-        lines_of(&roll.text().map_err(refused)?, &hits, |number, text| line(number, &[b":", text]));
+    } else if let Some(&last) = hits.last() {
+        let text = roll.text_through(last).map_err(refused)?;
+        lines_of(&text, &hits, |number, text| line(number, &[b":", text]));
     }
     Ok((!hits.is_empty(), out))
 }
@@ -141,11 +142,17 @@ fn lines_of(text: &[u8], hits: &[usize], mut tell: impl FnMut(usize, &[u8])) {
         let start = before.iter().rposition(|&character| character == b'\n').map_or(0, |end| end.saturating_add(1));
         let length = behind.iter().position(|&character| character == b'\n').unwrap_or(behind.len());
         let end = before.len().saturating_add(length);
-        number = number.saturating_add(before.iter().filter(|&&character| character == b'\n').count());
+        number = number.saturating_add(line_ends(before));
         tell(number, rest.get(start..end).unwrap_or_default());
         number = number.saturating_add(1);
         told = told.saturating_add(end).saturating_add(1);
     }
+}
+
+/// How many bytes 10 there are. They are summed in bytes, many at once, which hold the sum of so few.
+fn line_ends(text: &[u8]) -> usize {
+    let few = |few: &[u8]| few.iter().map(|&character| u8::from(character == b'\n')).sum::<u8>();
+    text.chunks(192).map(|piece| usize::from(few(piece))).sum()
 }
 
 pub fn show(arguments: &Arguments, name: &OsStr, lines: &OsStr) -> Done {
@@ -176,4 +183,18 @@ pub fn no_line(name: &OsStr, lines: &Lines<'_>, line: usize) -> Failure {
         last => format!("its last is line {last}"),
     };
     Failure::of(name, &format!("there is no line {line}: {last}"))
+}
+
+#[cfg(test)]
+mod tests {
+    use super::*;
+
+    #[test]
+    fn line_ends_counted() {
+        for length in 0..1000 {
+            let text: Vec<u8> = (0..length).map(|place| if place % 5 == 3 { b'a' } else { b'\n' }).collect();
+            assert_eq!(line_ends(&text), text.iter().filter(|&&character| character == b'\n').count());
+            assert_eq!(line_ends(&vec![b'\n'; length]), length);
+        }
+    }
 }

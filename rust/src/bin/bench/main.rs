@@ -2,10 +2,13 @@
 //! which were full when a roll had 65,536 symbols.
 //!
 //! `bench [SVG]` prints tables in Markdown and, with a file name, draws the ratios of the full rolls into it. `bench
-//! sizes` times the archive alone on rolls of five sizes. `bench texts FOLDER` writes the texts of the short rolls with
-//! k = 2 there, and measures nothing.
+//! sizes` times the archive alone on rolls of five sizes. `bench tool COMMAND FOLDER` times the clerk's command beside grep
+//! (`tool`), with files that it writes there. `bench texts FOLDER` writes the texts of the short rolls with k = 2 there, and
+//! measures nothing.
 
 #![forbid(unsafe_code)]
+
+mod tool;
 
 use std::fmt::Write;
 use std::fs;
@@ -1271,17 +1274,18 @@ fn main() {
             run(&texts);
         }
         ["sizes"] => run_growing(&texts),
+        ["tool", command, folder] => tool::run(&texts, Path::new(command), Path::new(folder)),
         ["texts", folder] => {
             for (name, text) in &texts {
                 written(&Path::new(folder).join(name), Case::new(name, 2, text, &SHORT).text);
             }
         }
-        [picture] if picture != "texts" => {
+        [picture] if !["tool", "texts"].contains(&picture) => {
             let (cases, rows) = run(&texts);
             written(Path::new(picture), drawing(&cases, &rows));
         }
         _ => {
-            eprintln!("usage: bench [SVG] | bench sizes | bench texts FOLDER");
+            eprintln!("usage: bench [SVG] | bench sizes | bench tool COMMAND FOLDER | bench texts FOLDER");
             exit(2);
         }
     }
