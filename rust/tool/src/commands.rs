@@ -31,22 +31,21 @@ pub fn pack(arguments: &Arguments, text: &OsStr, name: &OsStr) -> Done {
     if name == STANDARD {
         print(&frames)?;
     } else {
-        keep_new(arguments, name, &frames)?;
+        new_place(arguments, name)?.keep(&frames)?;
     }
     Ok(true)
 }
 
-/// Keeps a roll where none stood, or where it may be replaced.
-pub fn keep_new(arguments: &Arguments, name: &OsStr, frames: &[u8]) -> Result<(), Failure> {
+/// The place of a new roll: where none stands, or where it may be replaced.
+pub fn new_place<'a>(arguments: &Arguments, name: &'a OsStr) -> Result<Place<'a>, Failure> {
     let place = Place::take(name)?;
-    if place.is_taken() && !arguments.has("--force") {
-        return Err(taken(name));
+    if place.is_taken() {
+        if !arguments.has("--force") {
+            return Err(Failure::of(name, "it is there already, and only --force writes over it"));
+        }
+        place.open()?;
     }
-    place.keep(frames)
-}
-
-pub fn taken(name: &OsStr) -> Failure {
-    Failure::of(name, "it is there already, and only --force writes over it")
+    Ok(place)
 }
 
 pub fn text(name: &OsStr) -> Done {

@@ -113,11 +113,16 @@ impl<'a> Place<'a> {
         self.old.is_some()
     }
 
+    /// What stands there, opened for writing too, so that what is marked as not to be written is refused.
+    pub fn open(&self) -> Result<File, Failure> {
+        let opened = OpenOptions::new().read(true).write(true).open(&self.path);
+        opened.map_err(|error| Failure::system(self.name, &error))
+    }
+
     /// At most so many bytes of what stands there, to be changed.
     pub fn read(&self, most: usize) -> Result<Vec<u8>, Failure> {
         let failed = |error| Failure::system(self.name, &error);
-        // Opened for writing too, so that what is marked as not to be written is not.
-        let mut file = OpenOptions::new().read(true).write(true).open(&self.path).map_err(failed)?;
+        let mut file = self.open()?;
         let size = file.metadata().map_err(failed)?.len();
         read_from(&mut file, size, most).map_err(failed)
     }
@@ -168,8 +173,9 @@ impl<'a> Place<'a> {
         if let Some(old) = &self.old {
             let own = file.metadata()?;
             if (own.uid(), own.gid()) != (old.uid(), old.gid()) {
-                // Who may not give a file away keeps it; others then read it by its rights.
-                let _ = system::give(&file, old.uid(), old.gid());
+                // Who may not give a file away keeps it, for the old one's group if that is one of theirs.
+                let _ =
+                    system::give(&file, old.uid(), old.gid()).or_else(|_| system::give(&file, own.uid(), old.gid()));
             }
             file.set_permissions(old.permissions())?;
         }

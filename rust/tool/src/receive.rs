@@ -7,9 +7,9 @@ use std::os::unix::ffi::OsStrExt;
 use monterculo::{hits_for, read_frame, Refusal, Roll, Searcher, FRAME};
 
 use crate::arguments::Arguments;
-use crate::commands::{keep_new, print, taken, Done};
+use crate::commands::{new_place, print, Done};
 use crate::failure::{shown, Failure};
-use crate::keep::{Place, STANDARD};
+use crate::keep::STANDARD;
 use crate::rolls::{self, Reading};
 
 pub fn receive(arguments: &Arguments, pattern: &OsStr, kept: Option<&OsStr>) -> Done {
@@ -18,16 +18,14 @@ pub fn receive(arguments: &Arguments, pattern: &OsStr, kept: Option<&OsStr>) -> 
     }
     // Asked before anything comes in, and once more when it is kept.
     if let Some(name) = kept {
-        if Place::take(name)?.is_taken() && !arguments.has("--force") {
-            return Err(taken(name));
-        }
+        new_place(arguments, name)?;
     }
     let mut heard = Heard { lines: Vec::new(), hits: 0, output: Ok(()) };
     heard.listen(&mut io::stdin().lock(), pattern.as_bytes())?;
     Reading::from_frames(&heard.lines).map_err(|refusal| Failure::refused(STANDARD.as_ref(), refusal))?;
     let verdict = match kept {
         Some(name) => {
-            keep_new(arguments, name, &heard.lines)?;
+            new_place(arguments, name)?.keep(&heard.lines)?;
             format!("sound, kept in {}\n", shown(name))
         }
         None => "sound\n".into(),

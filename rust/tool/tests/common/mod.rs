@@ -6,7 +6,8 @@ use std::env;
 use std::ffi::{OsStr, OsString};
 use std::fs;
 use std::io::Write;
-use std::os::unix::fs::PermissionsExt;
+use std::os::unix::fs::{MetadataExt, PermissionsExt};
+use std::os::unix::process::CommandExt;
 use std::path::{Path, PathBuf};
 use std::process::{Command, Output, Stdio};
 
@@ -79,6 +80,14 @@ impl Desk {
         output
     }
 
+    /// What a call comes to under strace with these options, and what that noted at another desk.
+    pub fn traced(&self, aside: &Desk, options: &[&str], input: Stdio, arguments: &[&str]) -> (Output, String) {
+        let log = aside.path("log");
+        let front = [&["strace", "-f", "-qq", "-y", "-o", log.to_str().unwrap()], options].concat();
+        let output = self.call_by(&front, arguments).stdin(input).output();
+        (output.expect("strace, which this test needs"), fs::read_to_string(&log).unwrap_or_default())
+    }
+
     /// Does what a call asks, which must be accepted, and gives what it writes.
     pub fn done(&self, arguments: &[impl AsRef<OsStr>]) -> Vec<u8> {
         held(self.run(arguments), 0, "")
@@ -100,6 +109,80 @@ impl Desk {
         fs::set_permissions(&script, fs::Permissions::from_mode(0o755)).unwrap();
         bin
     }
+}
+
+/// Nobody's number, as a user and as a group.
+pub const NOBODY: u32 = 65534;
+
+/// Whether the tests run as root, whom rights do not bind.
+pub fn is_root() -> bool {
+    fs::metadata("/proc/self").unwrap().uid() == 0
+}
+
+/// A desk whose calls rights do bind: root makes them as nobody, by a copy of the command that nobody can reach.
+pub struct Guest {
+    pub desk: Desk,
+}
+
+impl Guest {
+    pub fn new(name: &str) -> Guest {
+        let mut desk = Desk::new(name);
+        if is_root() && Guest::by_nobody(Command::new("true").current_dir(&desk.folder)).status().is_err() {
+            desk.folder = env::temp_dir().join(format!("monterculo-{name}-{}", std::process::id()));
+            fs::create_dir(&desk.folder).unwrap();
+        }
+        fs::set_permissions(&desk.folder, fs::Permissions::from_mode(0o755)).unwrap();
+        // By another process: a file that this one writes is busy in whatever it forks meanwhile.
+        ran(Command::new("install").args(["-m", "755"]).arg(words().last().unwrap()).arg(desk.path("command")));
+        Guest { desk }
+    }
+
+    fn by_nobody(command: &mut Command) -> &mut Command {
+        if is_root() {
+            command.uid(NOBODY).gid(NOBODY);
+        }
+        command
+    }
+
+    /// An empty folder with these rights, whatever the umask.
+    pub fn folder(&self, name: &str, mode: u32) {
+        fs::create_dir(self.desk.path(name)).unwrap();
+        self.mode(name, mode);
+    }
+
+    pub fn mode(&self, name: &str, mode: u32) {
+        fs::set_permissions(self.desk.path(name), fs::Permissions::from_mode(mode)).unwrap();
+    }
+
+    /// A call of the copy, with something in front of it, by whom the tests run as.
+    pub fn call_by(&self, front: &[&str], arguments: &[&str]) -> Command {
+        let mut words: Vec<OsString> = front.iter().map(OsString::from).chain(words()).collect();
+        *words.last_mut().unwrap() = self.desk.path("command").into();
+        let mut command = Command::new(&words[0]);
+        command.args(&words[1..]).args(arguments).current_dir(&self.desk.folder).env("LC_ALL", "C");
+        command
+    }
+
+    /// What a call comes to with a file of the desk on standard input, or nothing.
+    pub fn run(&self, input: Option<&str>, arguments: &[&str]) -> Output {
+        let mut command = self.call_by(&[], arguments);
+        command.stdin(input.map_or_else(Stdio::null, |name| fs::File::open(self.desk.path(name)).unwrap().into()));
+        Guest::by_nobody(&mut command).output().unwrap()
+    }
+}
+
+impl Drop for Guest {
+    fn drop(&mut self) {
+        // What may not be written may not be removed either.
+        let _ = Command::new("chmod").args(["-R", "u+rwx"]).arg(&self.desk.folder).status();
+        let _ = fs::remove_dir_all(&self.desk.folder);
+    }
+}
+
+/// Runs a program of the system that must do its work.
+pub fn ran(command: &mut Command) {
+    let status = command.status().unwrap_or_else(|error| panic!("{command:?}: {error}"));
+    assert!(status.success(), "{command:?}: {status}");
 }
 
 /// Holds a call to its exit status and what it says on standard error, and gives what it wrote.
