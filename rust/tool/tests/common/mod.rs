@@ -17,6 +17,11 @@ pub fn words() -> Vec<OsString> {
     runner.into_iter().chain([env!("CARGO_BIN_EXE_monterculo").into()]).collect()
 }
 
+/// Whether something else runs the command, and makes calls of the system of its own.
+pub fn is_emulated() -> bool {
+    words().len() > 1
+}
+
 pub struct Desk {
     pub folder: PathBuf,
 }
