@@ -1,9 +1,10 @@
 //! A roll in its file: read, and kept so that nothing is lost.
 
 use std::ffi::{OsStr, OsString};
-use std::fs::{self, File, Metadata, OpenOptions};
+use std::fs::{self, File, Metadata, OpenOptions, Permissions};
 use std::io::{self, Read, Write};
-use std::os::unix::fs::{MetadataExt, OpenOptionsExt};
+use std::os::unix::ffi::OsStrExt;
+use std::os::unix::fs::{MetadataExt, OpenOptionsExt, PermissionsExt};
 use std::path::{Path, PathBuf};
 use std::thread;
 use std::time::{Duration, Instant};
@@ -51,7 +52,9 @@ pub struct Place<'a> {
 /// The file that a name leads to, through links, whether it is there or not.
 fn resolve(name: &OsStr) -> io::Result<PathBuf> {
     let path = Path::new(name);
-    match (fs::canonicalize(path), path.file_name()) {
+    // What ends so would be a folder.
+    let named = path.file_name().filter(|_| !name.as_bytes().ends_with(b"/"));
+    match (fs::canonicalize(path), named) {
         (Err(error), Some(last)) if error.kind() == io::ErrorKind::NotFound => {
             let folder = path.parent().filter(|folder| *folder != Path::new("")).unwrap_or_else(|| Path::new("."));
             Ok(fs::canonicalize(folder)?.join(last))
@@ -68,9 +71,9 @@ fn standing(path: &Path) -> io::Result<Option<Metadata>> {
     }
 }
 
-/// What tells a file from another, and from itself when it is written.
-fn traits(file: &Metadata) -> (u64, u64, u64, i64, i64) {
-    (file.dev(), file.ino(), file.size(), file.mtime(), file.mtime_nsec())
+/// What tells a file from another, and from itself when it has been changed.
+fn traits(file: &Metadata) -> ([u64; 3], [i64; 2]) {
+    ([file.dev(), file.ino(), file.size()], [file.ctime(), file.ctime_nsec()])
 }
 
 /// The folder of a file.
@@ -127,14 +130,20 @@ impl<'a> Place<'a> {
         read_from(&mut file, size, most).map_err(failed)
     }
 
+    /// Says whether a new file can be made beside it, before there is anything to be lost.
+    pub fn try_out(&self) -> Result<(), Failure> {
+        let fresh = self.fresh();
+        self.create(&fresh).and_then(|_| fs::remove_file(&fresh)).map_err(|error| self.unwritten(&error))
+    }
+
     /// Keeps these bytes there: in a new file beside the old one, made lasting and then put in its place. If the process
     /// or the current fails, there is the old file or the new one, and either is whole.
     pub fn keep(self, bytes: &[u8]) -> Result<(), Failure> {
         let failed = |step: &'static str| move |error| Failure::step(self.name, step, &error);
-        let fresh = folder_of(&self.path).join(FRESH);
+        let fresh = self.fresh();
         if let Err(error) = self.write(&fresh, bytes) {
             let _ = fs::remove_file(&fresh);
-            return Err(failed("no new file can be written beside it, and nothing was changed")(error));
+            return Err(self.unwritten(&error));
         }
         if let Err(error) = self.put(&fresh) {
             let _ = fs::remove_file(&fresh);
@@ -157,8 +166,17 @@ impl<'a> Place<'a> {
         fs::rename(fresh, &self.path)
     }
 
-    /// Writes the new file, with the old one's owner and rights.
-    fn write(&self, fresh: &Path, bytes: &[u8]) -> io::Result<()> {
+    /// Where the new file is written.
+    fn fresh(&self) -> PathBuf {
+        folder_of(&self.path).join(FRESH)
+    }
+
+    fn unwritten(&self, error: &io::Error) -> Failure {
+        Failure::step(self.name, "no new file can be written beside it, and nothing was changed", error)
+    }
+
+    /// Makes the new file, which nobody else may read before it has the old one's rights.
+    fn create(&self, fresh: &Path) -> io::Result<File> {
         match fs::remove_file(fresh) {
             Err(error) if error.kind() != io::ErrorKind::NotFound => return Err(error),
             _ => {}
@@ -168,7 +186,12 @@ impl<'a> Place<'a> {
         if self.old.is_some() {
             options.mode(0o600);
         }
-        let mut file = options.open(fresh)?;
+        options.open(fresh)
+    }
+
+    /// Writes the new file, with the old one's owner and rights.
+    fn write(&self, fresh: &Path, bytes: &[u8]) -> io::Result<()> {
+        let mut file = self.create(fresh)?;
         file.write_all(bytes)?;
         if let Some(old) = &self.old {
             let own = file.metadata()?;
@@ -177,7 +200,9 @@ impl<'a> Place<'a> {
                 let _ =
                     system::give(&file, old.uid(), old.gid()).or_else(|_| system::give(&file, own.uid(), old.gid()));
             }
-            file.set_permissions(old.permissions())?;
+            // Another group gets no rights by it.
+            let mode = if file.metadata()?.gid() == old.gid() { old.mode() } else { old.mode() & !0o070 };
+            file.set_permissions(Permissions::from_mode(mode))?;
         }
         file.sync_all()
     }

@@ -16,9 +16,9 @@ pub fn receive(arguments: &Arguments, pattern: &OsStr, kept: Option<&OsStr>) -> 
     if kept.map_or(false, |name| name == STANDARD) {
         return Err(arguments.wrong("standard output has the hits, and cannot take the roll"));
     }
-    // Asked before anything comes in, and once more when it is kept.
+    // Asked before anything comes in, as it may not come twice, and once more when it is kept.
     if let Some(name) = kept {
-        new_place(arguments, name)?;
+        new_place(arguments, name)?.try_out()?;
     }
     let mut heard = Heard { lines: Vec::new(), hits: 0, output: Ok(()) };
     heard.listen(&mut io::stdin().lock(), pattern.as_bytes())?;

@@ -143,14 +143,13 @@ fn hold_closed(guest: &Guest, folder: &str) {
     // Another name is refused where the folder is closed, and not where the roll alone is.
     let open = fs::metadata(guest.desk.path(folder)).unwrap().mode() & 0o222 != 0;
     for call in [&["pack", "text", new][..], &["receive", "7", new]] {
-        let mut output = guest.run(Some("sent"), call);
+        let output = guest.run(Some("sent"), call);
         if open {
             held(output, 0, "");
             assert_eq!(guest.desk.read(new), sent);
             fs::remove_file(guest.desk.path(new)).unwrap();
         } else {
-            // The hits are said before it is kept.
-            output.stdout.clear();
+            // Before anything is read.
             refused(output, new);
         }
         assert_eq!(names(guest), before, "{call:?}");
@@ -253,6 +252,11 @@ fn hold_shared() {
     held(output.expect("setpriv, which this test needs"), 0, "");
     let file = fs::metadata(guest.desk.path("shelf/roll")).unwrap();
     assert_eq!((file.uid(), file.gid().to_string(), file.mode() & 0o7777), (NOBODY, GROUP.into(), 0o660));
+    // One who is not of the group cannot keep it theirs, and his own group gets no rights by it.
+    guest.mode("shelf/roll", 0o666);
+    held(guest.run(None, &["set", "shelf/roll", "1", "8"]), 0, "");
+    let file = fs::metadata(guest.desk.path("shelf/roll")).unwrap();
+    assert_eq!((file.uid(), file.gid(), file.mode() & 0o7777), (NOBODY, NOBODY, 0o606));
 }
 
 #[test]
@@ -273,10 +277,10 @@ fn links() {
     assert_eq!((leads("near/first"), leads("second")), ("../far/roll".into(), "near/first".into()));
     assert!(fs::symlink_metadata(desk.path("far/roll")).unwrap().is_file());
 
-    // One that leads nowhere, and one that leads to itself.
+    // One that leads nowhere, one that leads to itself, and what could only be a folder.
     symlink("far/nothing", desk.path("astray")).unwrap();
     symlink("round", desk.path("round")).unwrap();
-    for name in ["astray", "round"] {
+    for name in ["astray", "round", "far/new/"] {
         refused(desk.run_on(OLD, &["pack", "-", name]), name);
         refused(desk.run_on(OLD, &["pack", "-", name, "--force"]), name);
         refused(desk.run_on(&desk.read("far/roll"), &["receive", "Oda", name, "--force"]), name);
