@@ -4,12 +4,12 @@ use std::ffi::{OsStr, OsString};
 use std::io::{self, Write};
 use std::os::unix::ffi::OsStrExt;
 
-use monterculo::{bytes_for, frame_text_for, SYMBOLS};
+use monterculo::{bytes_for, frame_text_for, Refusal, Width, SYMBOLS};
 
 use crate::arguments::{self, Arguments};
 use crate::failure::{quoted, shown, Failure};
 use crate::keep::{self, Place, STANDARD};
-use crate::lines::Lines;
+use crate::lines::{self, Lines};
 use crate::rolls::{self, Reading};
 
 pub type Done = Result<bool, Failure>;
@@ -26,8 +26,17 @@ pub fn help(words: &str) -> Done {
 }
 
 pub fn pack(arguments: &Arguments, text: &OsStr, name: &OsStr) -> Done {
-    let packed = rolls::pack(arguments.width(), &keep::read(text, rolls::TEXT)?);
-    let frames = packed.map_err(|refusal| Failure::refused(text, refusal))?.to_frames();
+    // Asked before a text is typed in, and once more when it is kept.
+    if name != STANDARD {
+        new_place(arguments, name)?;
+    }
+    let frames = match rolls::pack(arguments.width(), &keep::read(text, rolls::TEXT)?) {
+        Ok(roll) => roll.to_frames(),
+        Err(refusal @ Refusal::NoRoom { .. }) if arguments.width() == Some(Width::Two) => {
+            return Err(Failure::refused(text, refusal).and("--width 4 takes fewer"))
+        }
+        Err(refusal) => return Err(Failure::refused(text, refusal)),
+    };
     if name == STANDARD {
         print(&frames)?;
     } else {
@@ -82,7 +91,7 @@ pub fn info(name: &OsStr) -> Done {
 
 pub fn find(arguments: &Arguments, rolls: &[OsString], pattern: &OsStr) -> Done {
     if arguments.has("--count") && arguments.has("--at") {
-        return Err(arguments.wrong("either --count or --at"));
+        return Err(arguments.wrong("--count and --at do not go together"));
     }
     let (mut found, mut failed) = (false, false);
     for name in rolls {
@@ -123,42 +132,16 @@ fn find_in(arguments: &Arguments, name: &OsStr, pattern: &[u8], label: &[u8]) ->
         hits.iter().for_each(|&hit| line(hit, &[]));
     } else if let Some(&last) = hits.last() {
         let text = roll.text_through(last).map_err(refused)?;
-        lines_of(&text, &hits, |number, text| line(number, &[b":", text]));
+        lines::with_hits(&text, &hits, |number, text| line(number, &[b":", text]));
     }
     Ok((!hits.is_empty(), out))
-}
-
-/// Tells the number and the text of each line that has a hit.
-fn lines_of(text: &[u8], hits: &[usize], mut tell: impl FnMut(usize, &[u8])) {
-    let (mut number, mut told) = (1_usize, 0);
-    for &hit in hits.iter() {
-        // What lies behind the lines told.
-        let rest = match text.get(told..).filter(|_| hit >= told) {
-            Some(rest) => rest,
-            None => continue,
-        };
-        let (before, behind) = rest.split_at(hit.saturating_sub(told).min(rest.len()));
-        let start = before.iter().rposition(|&character| character == b'\n').map_or(0, |end| end.saturating_add(1));
-        let length = behind.iter().position(|&character| character == b'\n').unwrap_or(behind.len());
-        let end = before.len().saturating_add(length);
-        number = number.saturating_add(line_ends(before));
-        tell(number, rest.get(start..end).unwrap_or_default());
-        number = number.saturating_add(1);
-        told = told.saturating_add(end).saturating_add(1);
-    }
-}
-
-/// How many bytes 10 there are. They are summed in bytes, many at once, which hold the sum of so few.
-fn line_ends(text: &[u8]) -> usize {
-    let few = |few: &[u8]| few.iter().map(|&character| u8::from(character == b'\n')).sum::<u8>();
-    text.chunks(192).map(|piece| usize::from(few(piece))).sum()
 }
 
 pub fn show(arguments: &Arguments, name: &OsStr, lines: &OsStr) -> Done {
     let (first, last) = lines_named(arguments, lines)?;
     let text = Reading::from_file(name)?.text().map_err(|refusal| Failure::refused(name, refusal))?;
     let held = Lines::of(&text);
-    let range = held.range(first, last).ok_or_else(|| no_line(name, &held, last))?;
+    let range = held.range(first, last).ok_or_else(|| no_line(name, &held))?;
     let mut shown = text.get(range).unwrap_or_default().to_vec();
     if !shown.ends_with(b"\n") {
         shown.push(b'\n');
@@ -176,24 +159,6 @@ pub fn lines_named(arguments: &Arguments, lines: &OsStr) -> Result<(usize, usize
     }
 }
 
-pub fn no_line(name: &OsStr, lines: &Lines<'_>, line: usize) -> Failure {
-    let last = match lines.count() {
-        0 => "it has none".into(),
-        last => format!("its last is line {last}"),
-    };
-    Failure::of(name, &format!("there is no line {line}: {last}"))
-}
-
-#[cfg(test)]
-mod tests {
-    use super::*;
-
-    #[test]
-    fn line_ends_counted() {
-        for length in 0..1000 {
-            let text: Vec<u8> = (0..length).map(|place| if place % 5 == 3 { b'a' } else { b'\n' }).collect();
-            assert_eq!(line_ends(&text), text.iter().filter(|&&character| character == b'\n').count());
-            assert_eq!(line_ends(&vec![b'\n'; length]), length);
-        }
-    }
+pub fn no_line(name: &OsStr, lines: &Lines<'_>) -> Failure {
+    Failure::of(name, &format!("there are not so many lines: it has {}", lines.count()))
 }

@@ -18,7 +18,7 @@ pub fn set(arguments: &Arguments, name: &OsStr, line: &OsStr, new: &OsStr) -> Do
     edit(arguments, name, |roll| {
         let text = roll.text();
         let lines = Lines::of(&text);
-        Ok((lines.within(line).ok_or_else(|| no_line(name, &lines, line))?, new))
+        Ok((lines.within(line).ok_or_else(|| no_line(name, &lines))?, new))
     })
 }
 
@@ -27,7 +27,9 @@ pub fn insert(arguments: &Arguments, name: &OsStr, line: &OsStr, new: &OsStr) ->
     edit(arguments, name, |roll| {
         let text = roll.text();
         let lines = Lines::of(&text);
-        let (place, new) = lines.insertion(line, &new).ok_or_else(|| no_line(name, &lines, line))?;
+        let (place, new) = lines.insertion(line, &new).ok_or_else(|| {
+            no_line(name, &lines).and(&format!("a new one is line {} at most", lines.count().saturating_add(1)))
+        })?;
         Ok((place..place, new))
     })
 }
@@ -37,7 +39,7 @@ pub fn remove(arguments: &Arguments, name: &OsStr, lines: &OsStr) -> Done {
     edit(arguments, name, |roll| {
         let text = roll.text();
         let lines = Lines::of(&text);
-        Ok((lines.range(first, last).ok_or_else(|| no_line(name, &lines, last))?, Vec::new()))
+        Ok((lines.range(first, last).ok_or_else(|| no_line(name, &lines))?, Vec::new()))
     })
 }
 

@@ -69,8 +69,10 @@ impl Failure {
     pub fn refused(name: &OsStr, refusal: Refusal) -> Failure {
         let words = match refusal {
             // No more of a text is read than shows this, so that its length is not known.
-            Refusal::LongText { .. } => {
-                format!("refusal {}: the text has more than {SYMBOLS} characters", refusal.number())
+            Refusal::LongText { .. } => format!("refusal 4: the text has more than {SYMBOLS} characters"),
+            // There is no other room here than a roll's.
+            Refusal::NoRoom { character } => {
+                format!("refusal 4: the text takes more than {SYMBOLS} symbols, from its character {character} on")
             }
             _ => refusal.to_string(),
         };

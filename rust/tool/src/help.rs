@@ -7,7 +7,7 @@ monterculo: rolls in files: texts packed, searched and corrected as they lie
     monterculo text ROLL                                write its text
     monterculo check ROLL                               say whether it is sound
     monterculo info ROLL                                say how long it is, and what room is left
-    monterculo find ROLL... PATTERN [--count] [--at]    find the lines that have a pattern
+    monterculo find ROLL... PATTERN [--count | --at]   find the lines that have a pattern
     monterculo show ROLL LINE[..LINE]                   write some lines
     monterculo set ROLL LINE TEXT [--repack]            put a text in the place of a line
     monterculo insert ROLL LINE TEXT [--repack]         put a new line in front of a line
@@ -43,7 +43,8 @@ const PACK: &str = "\
 monterculo pack TEXT ROLL [--width 2|4] [--force]
 
 Counts the characters of the file TEXT, chooses the best table for them, packs the text and writes the roll as frames.
-The digits, + and the line end are in every table, so that a new number can always be put in.
+The digits, + and the line end are in every table that it chooses, so that a new number can be put in as long as there
+is room.
   --width 2|4  symbols of so many bits; without it, the width that gives the smaller file
   --force      write over a ROLL that is there already
 
@@ -96,7 +97,7 @@ as a file, and how many symbols more a roll may have.
 ";
 
 const FIND: &str = "\
-monterculo find ROLL... PATTERN [--count] [--at]
+monterculo find ROLL... PATTERN [--count | --at]
 
 Writes the number and the text of each line that has the pattern, each line once. With several rolls, the name of the
 roll stands in front. The pattern has 1 to 64 characters, each of which stands for itself; it has no line end.

@@ -139,31 +139,34 @@ impl<'a> Place<'a> {
     /// Keeps these bytes there: in a new file beside the old one, made lasting and then put in its place. If the process
     /// or the current fails, there is the old file or the new one, and either is whole.
     pub fn keep(self, bytes: &[u8]) -> Result<(), Failure> {
-        let failed = |step: &'static str| move |error| Failure::step(self.name, step, &error);
         let fresh = self.fresh();
         if let Err(error) = self.write(&fresh, bytes) {
             let _ = fs::remove_file(&fresh);
             return Err(self.unwritten(&error));
         }
-        if let Err(error) = self.put(&fresh) {
+        if let Err(failure) = self.put(&fresh) {
             let _ = fs::remove_file(&fresh);
-            return Err(failed("the new file cannot take its place, and nothing was changed")(error));
+            return Err(failure);
         }
         // The folder too, or the new name may be lost.
         match self.folder.sync_all() {
             // A file system that knows no such call for folders.
             Err(error) if error.kind() == io::ErrorKind::InvalidInput => Ok(()),
-            synced => synced.map_err(failed("it is changed, but may not outlast a failure of the current")),
+            synced => synced.map_err(|error| {
+                Failure::step(self.name, "it is changed, but may not outlast a failure of the current", &error)
+            }),
         }
     }
 
     /// Puts the new file in its place, unless something else stands there than did.
-    fn put(&self, fresh: &Path) -> io::Result<()> {
+    fn put(&self, fresh: &Path) -> Result<(), Failure> {
+        let failed =
+            |error| Failure::step(self.name, "the new file cannot take its place, and nothing was changed", &error);
         // A program that knows no lock, such as cp, may have been there.
-        if standing(&self.path)?.as_ref().map(traits) != self.old.as_ref().map(traits) {
-            return Err(io::Error::new(io::ErrorKind::Other, "another program has changed it meanwhile"));
+        if standing(&self.path).map_err(failed)?.as_ref().map(traits) != self.old.as_ref().map(traits) {
+            return Err(Failure::of(self.name, "another program has changed it meanwhile, and that was left as it is"));
         }
-        fs::rename(fresh, &self.path)
+        fs::rename(fresh, &self.path).map_err(failed)
     }
 
     /// Where the new file is written.

@@ -53,6 +53,32 @@ impl<'a> Lines<'a> {
     }
 }
 
+/// Tells the number and the text of each line that has a hit.
+pub fn with_hits(text: &[u8], hits: &[usize], mut tell: impl FnMut(usize, &[u8])) {
+    let (mut number, mut told) = (1_usize, 0);
+    for &hit in hits.iter() {
+        // What lies behind the lines told.
+        let rest = match text.get(told..).filter(|_| hit >= told) {
+            Some(rest) => rest,
+            None => continue,
+        };
+        let (before, behind) = rest.split_at(hit.saturating_sub(told).min(rest.len()));
+        let start = before.iter().rposition(|&character| character == b'\n').map_or(0, |end| end.saturating_add(1));
+        let length = behind.iter().position(|&character| character == b'\n').unwrap_or(behind.len());
+        let end = before.len().saturating_add(length);
+        number = number.saturating_add(line_ends(before));
+        tell(number, rest.get(start..end).unwrap_or_default());
+        number = number.saturating_add(1);
+        told = told.saturating_add(end).saturating_add(1);
+    }
+}
+
+/// How many bytes 10 there are. They are summed in bytes, many at once, which hold the sum of so few.
+fn line_ends(text: &[u8]) -> usize {
+    let few = |few: &[u8]| few.iter().map(|&character| u8::from(character == b'\n')).sum::<u8>();
+    text.chunks(192).map(|piece| usize::from(few(piece))).sum()
+}
+
 #[cfg(test)]
 mod tests {
     use super::*;
@@ -98,6 +124,15 @@ mod tests {
         }
         for (text, line) in [("", 0), ("", 2), ("a\n", 0), ("a\n", 3), ("a", 3)] {
             assert_eq!(Lines::of(text.as_bytes()).insertion(line, b"x"), None, "{text:?} {line}");
+        }
+    }
+
+    #[test]
+    fn line_ends_counted() {
+        for length in 0..1000 {
+            let text: Vec<u8> = (0..length).map(|place| if place % 5 == 3 { b'a' } else { b'\n' }).collect();
+            assert_eq!(line_ends(&text), text.iter().filter(|&&character| character == b'\n').count());
+            assert_eq!(line_ends(&vec![b'\n'; length]), length);
         }
     }
 }

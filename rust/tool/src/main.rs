@@ -67,7 +67,7 @@ fn run(mut given: impl Iterator<Item = OsString>) -> Result<bool, Failure> {
         ("replace", [roll, range, text]) => edits::replace(&arguments, roll, range, text),
         ("receive", [pattern]) => receive::receive(&arguments, pattern, None),
         ("receive", [pattern, roll]) => receive::receive(&arguments, pattern, Some(roll)),
-        _ => Err(arguments.wrong("too few arguments or too many")),
+        _ => Err(arguments.wrong("too few arguments or too many, and a text with blanks goes in quotes")),
     }
 }
 

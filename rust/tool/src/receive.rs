@@ -25,7 +25,8 @@ pub fn receive(arguments: &Arguments, pattern: &OsStr, kept: Option<&OsStr>) -> 
     Reading::from_frames(&heard.lines).map_err(|refusal| Failure::refused(STANDARD.as_ref(), refusal))?;
     let verdict = match kept {
         Some(name) => {
-            new_place(arguments, name)?.keep(&heard.lines)?;
+            let kept = new_place(arguments, name).and_then(|place| place.keep(&heard.lines));
+            kept.map_err(|failure| failure.and("what came in is sound, and was not kept"))?;
             format!("sound, kept in {}\n", shown(name))
         }
         None => "sound\n".into(),

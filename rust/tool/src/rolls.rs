@@ -14,8 +14,8 @@ pub const FRAMES: usize = frame_text_for(4, 256, 1_048_576) + 1;
 /// More than any line of a frame text has.
 pub const LINE: usize = frame_text_for(4, 256, 0) + 1;
 
-/// More than any text of a roll has.
-pub const TEXT: usize = SYMBOLS + 1;
+/// More than any text of a roll has, and a line end behind it that is not of the text.
+pub const TEXT: usize = SYMBOLS + 2;
 
 /// How much is unpacked behind a character at first, to have the end of its line.
 const NEAR: usize = 4096;

@@ -197,7 +197,7 @@ fn unreadable() {
     // A folder that may not be entered.
     guest.mode("shelf", 0o000);
     for call in [&["text", "shelf/roll"][..], &["set", "shelf/roll", "1", "7"], &["pack", "shelf/roll", "shelf/new"]] {
-        refused(guest.run(None, call), "shelf/roll: ");
+        refused(guest.run(None, call), "monterculo: shelf/");
     }
 }
 
@@ -417,7 +417,8 @@ fn receive_taken_meanwhile() {
     to.write_all(late).unwrap();
     drop(to);
     let output = child.wait_with_output().unwrap();
-    assert!(refused(output, "roll: ").contains("--force"));
+    let error = refused(output, "roll: ");
+    assert!(error.contains("--force") && error.contains("what came in is sound"), "{error}");
     assert_eq!(desk.read("roll"), other);
     assert_eq!(desk.names(), ["roll", "sent"]);
 }

@@ -11,6 +11,11 @@ use std::str;
 use monterculo::{read_frame, Roll};
 use monterculo_reference::reference;
 
+// The command's own.
+#[path = "../../../tool/src/lines.rs"]
+#[allow(dead_code)]
+mod lines;
+
 use crate::{bytes_of, frame_text, grouped, median, timed, written, Case, Texts, FULL, WARM_UP, WIDTHS};
 
 fn done<T>(what: &Path, answer: io::Result<T>) -> T {
@@ -126,26 +131,13 @@ fn from_frames(path: &Path) -> f64 {
 
 /// Number and text of each line that has a hit.
 fn lines_of(text: &[u8], hits: &[usize]) -> Vec<u8> {
-    fn is_end(&character: &u8) -> bool {
-        character == b'\n'
-    }
-    let (mut out, mut number, mut told) = (Vec::new(), 1, 0);
-    for &hit in hits {
-        // A line that is told already.
-        if hit < told {
-            continue;
-        }
-        let (before, behind) = text[told..].split_at(hit - told);
-        let start = before.iter().rposition(is_end).map_or(told, |end| told + end + 1);
-        let end = hit + behind.iter().position(is_end).unwrap_or(behind.len());
-        let few = |few: &[u8]| few.iter().map(|character| u8::from(is_end(character))).sum::<u8>();
-        number += before.chunks(192).map(|piece| usize::from(few(piece))).sum::<usize>();
-        out.extend_from_slice(format!("{}:", number).as_bytes());
-        out.extend_from_slice(&text[start..end]);
+    let mut out = Vec::new();
+    lines::with_hits(text, hits, |number, text| {
+        out.extend_from_slice(number.to_string().as_bytes());
+        out.push(b':');
+        out.extend_from_slice(text);
         out.push(b'\n');
-        number += 1;
-        told = end + 1;
-    }
+    });
     out
 }
 
@@ -188,7 +180,7 @@ fn measure(filed: &Filed, tool: &Path, grep: &Path, name: String, pattern: &[u8]
             (0.0, (Some(i32::from(hits == 0)), out))
         },
     ]);
-    // One call more than in the rounds comes first.
+    // Those of the rounds that are not measured come first.
     let mut parts = times.into_iter().map(|times| median(times[WARM_UP..].to_vec()));
     let parts = [(); PARTS.len()].map(|()| parts.next().expect("one for each"));
     let lines = expected.1.iter().filter(|&&byte| byte == b'\n').count();
