@@ -26,7 +26,7 @@ pub fn receive(arguments: &Arguments, pattern: &OsStr, kept: Option<&OsStr>) -> 
     let verdict = match kept {
         Some(name) => {
             let kept = new_place(arguments, name).and_then(|place| place.keep(&heard.lines));
-            kept.map_err(|failure| failure.and("what came in is sound, and was not kept"))?;
+            kept.map_err(|failure| failure.and("what came in is sound"))?;
             format!("sound, kept in {}\n", shown(name))
         }
         None => "sound\n".into(),

@@ -213,7 +213,10 @@ fn fail(trial: &Trial, error: &str, and_removal: bool) {
             };
             // Who receives a roll has it even if nothing can be said of it.
             let said = log.lines().nth(failed).unwrap().contains(" write(1<");
-            trial.refused(output, if said { "standard output: " } else { "roll: " });
+            let error = trial.refused(output, if said { "standard output: " } else { "roll: " });
+            // What it says is so.
+            let denied = ["nothing was changed", "not kept"].iter().any(|words| error.contains(words));
+            assert!(!(is_new && denied) && (is_new || !error.contains("it is changed")), "{fault}: {error}");
             assert_eq!(is_new, said || renamed(&log).map_or(false, |line| line < failed), "{fault}: {log}");
             assert_eq!(trial.desk.names().contains(&"roll".into()), is_new || trial.old.is_some());
             // Left over only if it is the removal that fails.
