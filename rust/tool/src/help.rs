@@ -7,7 +7,7 @@ monterculo: rolls in files: texts packed, searched and corrected as they lie
     monterculo text ROLL                                write its text
     monterculo check ROLL                               say whether it is sound
     monterculo info ROLL                                say how long it is, and what room is left
-    monterculo find ROLL... PATTERN [--count | --at]   find the lines that have a pattern
+    monterculo find ROLL... PATTERN [--count | --at]    find the lines that have a pattern
     monterculo show ROLL LINE[..LINE]                   write some lines
     monterculo set ROLL LINE TEXT [--repack]            put a text in the place of a line
     monterculo insert ROLL LINE TEXT [--repack]         put a new line in front of a line
