@@ -8,5 +8,5 @@ returns c =
     let p = c.before.character-of.ensures in
     rw (← p.says) c.read.ensures
 
-pub monterculo-character-of-spec : {M : Type 1} → statement M
-monterculo-character-of-spec = tie.close (tie.spec (λ c κs. search rules) (λ c κs. search rules) returns)
+pub monterculo_character_of_spec : {M : Type 1} → statement M
+monterculo_character_of_spec = tie.close (tie.spec (λ c κs. search rules) (λ c κs. search rules) returns)

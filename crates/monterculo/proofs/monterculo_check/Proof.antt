@@ -8,5 +8,5 @@ returns c =
     let p = c.before.check.ensures in
     rw (← p.says) c.done.ensures
 
-pub monterculo-check-spec : {M : Type 1} → statement M
-monterculo-check-spec = tie.close (tie.spec (λ c κs. search rules) (λ c κs. search rules) returns)
+pub monterculo_check_spec : {M : Type 1} → statement M
+monterculo_check_spec = tie.close (tie.spec (λ c κs. search rules) (λ c κs. search rules) returns)

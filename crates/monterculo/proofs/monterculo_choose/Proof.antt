@@ -8,5 +8,5 @@ returns c =
     let p = c.before.before.choose.ensures in
     (rw (← p.total, ← p.says) c.done.ensures, p.table)
 
-pub monterculo-choose-spec : {M : Type 1} → statement M
-monterculo-choose-spec = tie.close (tie.spec (λ c κs. search rules) (λ c κs. search rules) returns)
+pub monterculo_choose_spec : {M : Type 1} → statement M
+monterculo_choose_spec = tie.close (tie.spec (λ c κs. search rules) (λ c κs. search rules) returns)

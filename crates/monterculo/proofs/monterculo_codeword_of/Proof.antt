@@ -8,5 +8,5 @@ returns c =
     let p = c.before.before.codeword-of.ensures in
     (rw (← p.says) c.done.ensures, p.word)
 
-pub monterculo-codeword-of-spec : {M : Type 1} → statement M
-monterculo-codeword-of-spec = tie.close (tie.spec (λ c κs. search rules) (λ c κs. search rules) returns)
+pub monterculo_codeword_of_spec : {M : Type 1} → statement M
+monterculo_codeword_of_spec = tie.close (tie.spec (λ c κs. search rules) (λ c κs. search rules) returns)

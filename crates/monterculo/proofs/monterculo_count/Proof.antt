@@ -8,5 +8,5 @@ returns c =
     let p = c.before.before.before.count.ensures in
     (rw (← p.says) c.done.ensures, p.leaves)
 
-pub monterculo-count-spec : {M : Type 1} → statement M
-monterculo-count-spec = tie.close (tie.spec (λ c κs. search rules) (λ c κs. search rules) (λ c. search rules) returns)
+pub monterculo_count_spec : {M : Type 1} → statement M
+monterculo_count_spec = tie.close (tie.spec (λ c κs. search rules) (λ c κs. search rules) (λ c. search rules) returns)

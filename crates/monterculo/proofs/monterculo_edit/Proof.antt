@@ -8,5 +8,5 @@ returns c =
     let p = c.before.before.before.before.before.before.edit.ensures in
     (rw (← p.says) c.done.ensures, (p.roll, (p.leaves, p.directory)))
 
-pub monterculo-edit-spec : {M : Type 1} → statement M
-monterculo-edit-spec = tie.close (tie.spec (λ c κs. search rules) (λ c κs. search rules) (λ c. search rules) (λ c. search rules) returns)
+pub monterculo_edit_spec : {M : Type 1} → statement M
+monterculo_edit_spec = tie.close (tie.spec (λ c κs. search rules) (λ c κs. search rules) (λ c. search rules) (λ c. search rules) returns)

@@ -8,5 +8,5 @@ returns c =
     let p = c.before.before.before.before.feed.ensures in
     (rw (← p.says, ← p.hits) c.done.ensures, (p.hits, (p.searcher, p.leaves)))
 
-pub monterculo-feed-spec : {M : Type 1} → statement M
-monterculo-feed-spec = tie.close (tie.spec (λ c κs. search rules) (λ c κs. search rules) (λ c. search rules) returns)
+pub monterculo_feed_spec : {M : Type 1} → statement M
+monterculo_feed_spec = tie.close (tie.spec (λ c κs. search rules) (λ c κs. search rules) (λ c. search rules) returns)

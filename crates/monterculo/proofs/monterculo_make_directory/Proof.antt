@@ -8,5 +8,5 @@ returns c =
     let p = c.before.before.before.make-directory.ensures in
     (rw (← p.says) c.done.ensures, p.leaves)
 
-pub monterculo-make-directory-spec : {M : Type 1} → statement M
-monterculo-make-directory-spec = tie.close (tie.spec (λ c κs. search rules) (λ c κs. search rules) (λ c. search rules) returns)
+pub monterculo_make_directory_spec : {M : Type 1} → statement M
+monterculo_make_directory_spec = tie.close (tie.spec (λ c κs. search rules) (λ c κs. search rules) (λ c. search rules) returns)

@@ -8,5 +8,5 @@ returns c =
     let p = c.before.before.before.before.pack.ensures in
     (rw (← p.says) c.done.ensures, (p.roll, p.leaves))
 
-pub monterculo-pack-spec : {M : Type 1} → statement M
-monterculo-pack-spec = tie.close (tie.spec (λ c κs. search rules) (λ c κs. search rules) (λ c. search rules) returns)
+pub monterculo_pack_spec : {M : Type 1} → statement M
+monterculo_pack_spec = tie.close (tie.spec (λ c κs. search rules) (λ c κs. search rules) (λ c. search rules) returns)

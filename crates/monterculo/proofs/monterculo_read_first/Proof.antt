@@ -8,5 +8,5 @@ returns c =
     let p = c.before.before.read_first.ensures in
     (rw (← p.says) c.done.ensures, p.roll)
 
-pub monterculo-read-first-spec : {M : Type 1} → statement M
-monterculo-read-first-spec = tie.close (tie.spec (λ c κs. search rules) (λ c κs. search rules) returns)
+pub monterculo_read_first_spec : {M : Type 1} → statement M
+monterculo_read_first_spec = tie.close (tie.spec (λ c κs. search rules) (λ c κs. search rules) returns)

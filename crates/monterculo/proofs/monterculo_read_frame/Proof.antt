@@ -8,5 +8,5 @@ returns c =
     let p = c.before.before.before.read-frame.ensures in
     (rw (← p.says) c.totalled.ensures, p.leaves)
 
-pub monterculo-read-frame-spec : {M : Type 1} → statement M
-monterculo-read-frame-spec = tie.close (tie.spec (λ c κs. search rules) (λ c κs. search rules) (λ c. search rules) returns)
+pub monterculo_read_frame_spec : {M : Type 1} → statement M
+monterculo_read_frame_spec = tie.close (tie.spec (λ c κs. search rules) (λ c κs. search rules) (λ c. search rules) returns)

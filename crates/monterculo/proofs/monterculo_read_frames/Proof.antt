@@ -8,5 +8,5 @@ returns c =
     let p = c.before.before.before.before.read-frames.ensures in
     (rw (← p.says) c.done.ensures, (p.roll, p.leaves))
 
-pub monterculo-read-frames-spec : {M : Type 1} → statement M
-monterculo-read-frames-spec = tie.close (tie.spec (λ c κs. search rules) (λ c κs. search rules) (λ c. search rules) returns)
+pub monterculo_read_frames_spec : {M : Type 1} → statement M
+monterculo_read_frames_spec = tie.close (tie.spec (λ c κs. search rules) (λ c κs. search rules) (λ c. search rules) returns)

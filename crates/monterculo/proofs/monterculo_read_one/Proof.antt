@@ -8,5 +8,5 @@ returns c =
     let p = c.before.read_one.ensures in
     rw (← p.says) c.read.ensures
 
-pub monterculo-read-one-spec : {M : Type 1} → statement M
-monterculo-read-one-spec = tie.close (tie.spec (λ c κs. search rules) (λ c κs. search rules) returns)
+pub monterculo_read_one_spec : {M : Type 1} → statement M
+monterculo_read_one_spec = tie.close (tie.spec (λ c κs. search rules) (λ c κs. search rules) returns)

@@ -8,5 +8,5 @@ returns c =
     let p = c.before.before.before.search.ensures in
     (rw (← p.says) c.totalled.ensures, p.leaves)
 
-pub monterculo-search-spec : {M : Type 1} → statement M
-monterculo-search-spec = tie.close (tie.spec (λ c κs. search rules) (λ c κs. search rules) (λ c. search rules) returns)
+pub monterculo_search_spec : {M : Type 1} → statement M
+monterculo_search_spec = tie.close (tie.spec (λ c κs. search rules) (λ c κs. search rules) (λ c. search rules) returns)

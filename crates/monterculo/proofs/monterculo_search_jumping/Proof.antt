@@ -8,5 +8,5 @@ returns c =
     let p = c.before.before.before.search-jumping.ensures in
     (rw (← p.says) c.totalled.ensures, p.leaves)
 
-pub monterculo-search-jumping-spec : {M : Type 1} → statement M
-monterculo-search-jumping-spec = tie.close (tie.spec (λ c κs. search rules) (λ c κs. search rules) (λ c. search rules) returns)
+pub monterculo_search_jumping_spec : {M : Type 1} → statement M
+monterculo_search_jumping_spec = tie.close (tie.spec (λ c κs. search rules) (λ c κs. search rules) (λ c. search rules) returns)

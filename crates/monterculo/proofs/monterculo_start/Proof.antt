@@ -8,5 +8,5 @@ returns c =
     let p = c.before.before.start.ensures in
     (rw (← p.says) c.done.ensures, p.searcher)
 
-pub monterculo-start-spec : {M : Type 1} → statement M
-monterculo-start-spec = tie.close (tie.spec (λ c κs. search rules) (λ c κs. search rules) returns)
+pub monterculo_start_spec : {M : Type 1} → statement M
+monterculo_start_spec = tie.close (tie.spec (λ c κs. search rules) (λ c κs. search rules) returns)

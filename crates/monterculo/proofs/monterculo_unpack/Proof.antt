@@ -8,5 +8,5 @@ returns c =
     let p = c.before.before.before.unpack.ensures in
     (rw (← p.says) c.done.ensures, p.leaves)
 
-pub monterculo-unpack-spec : {M : Type 1} → statement M
-monterculo-unpack-spec = tie.close (tie.spec (λ c κs. search rules) (λ c κs. search rules) (λ c. search rules) returns)
+pub monterculo_unpack_spec : {M : Type 1} → statement M
+monterculo_unpack_spec = tie.close (tie.spec (λ c κs. search rules) (λ c κs. search rules) (λ c. search rules) returns)

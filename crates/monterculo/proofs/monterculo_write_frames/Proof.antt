@@ -8,5 +8,5 @@ returns c =
     let p = c.before.before.before.write-frames.ensures in
     (rw (← p.says) c.totalled.ensures, p.leaves)
 
-pub monterculo-write-frames-spec : {M : Type 1} → statement M
-monterculo-write-frames-spec = tie.close (tie.spec (λ c κs. search rules) (λ c κs. search rules) (λ c. search rules) returns)
+pub monterculo_write_frames_spec : {M : Type 1} → statement M
+monterculo_write_frames_spec = tie.close (tie.spec (λ c κs. search rules) (λ c κs. search rules) (λ c. search rules) returns)

@@ -14,8 +14,8 @@ within c =
     let a = c.before.before.before.args in
     written_within (report_of a.input.now) _ c.report.ensures.0 c.report.ensures.1
 
-pub answer-spec : {M : Type 1} → statement M
-answer-spec =
+pub answer_spec : {M : Type 1} → statement M
+answer_spec =
     tie.close
     (tie.spec
     (λ c κs. search rules)

@@ -11,7 +11,7 @@ invariant-loop s at₀ at = Unit {0}
 abbrev decreases-loop : tie.decreases-loop
 decreases-loop s at₀ at = length s - at
 
-pub cases-spec : {M : Type 1} → statement M
-cases-spec =
+pub cases_spec : {M : Type 1} → statement M
+cases_spec =
     tie.close
     (tie.spec invariant-loop decreases-loop (λ c. search rules) (λ c κs. search rules) (λ c. search rules) (λ c. search rules) (λ c. search rules) (λ c. search rules))

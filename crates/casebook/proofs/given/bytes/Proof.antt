@@ -18,8 +18,8 @@ returns c =
     let l = c.before in
     (l.loop.invariant.0, sym (length-take-le l.loop.value l.loop.row l.loop.invariant.0))
 
-pub bytes-spec : {M : Type 1} → statement M
-bytes-spec =
+pub bytes_spec : {M : Type 1} → statement M
+bytes_spec =
     tie.close
     (tie.spec
     invariant-loop

@@ -11,8 +11,8 @@ invariant-loop s at i₀ comment₀ i comment = Unit {0}
 abbrev decreases-loop : tie.decreases-loop
 decreases-loop s at i₀ comment₀ i comment = length s - i
 
-pub first-digit-spec : {M : Type 1} → statement M
-first-digit-spec =
+pub first_digit_spec : {M : Type 1} → statement M
+first_digit_spec =
     tie.close
     (tie.spec
     invariant-loop

@@ -11,8 +11,8 @@ invariant-loop s at i₀ value₀ i value = value ≤ 10000000010255
 abbrev decreases-loop : tie.decreases-loop
 decreases-loop s at i₀ value₀ i value = length s - i
 
-pub number-spec : {M : Type 1} → statement M
-number-spec =
+pub number_spec : {M : Type 1} → statement M
+number_spec =
     tie.close
     (tie.spec
     invariant-loop

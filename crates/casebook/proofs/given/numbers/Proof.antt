@@ -27,8 +27,8 @@ returns-2 c =
     let l = c.before.before.before in
     (l.loop.invariant.0, sym (length-take-le l.loop.i l.loop.row l.loop.invariant.0))
 
-pub numbers-spec : {M : Type 1} → statement M
-numbers-spec =
+pub numbers_spec : {M : Type 1} → statement M
+numbers_spec =
     tie.close
     (tie.spec
     invariant-loop

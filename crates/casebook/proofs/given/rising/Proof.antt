@@ -16,8 +16,8 @@ decreases-loop row₀ from many first step i₀ left₀ b₀ row i left b = leng
 loop-again : tie.Need-loop-preserved invariant-loop decreases-loop
 loop-again c = (simp length-set (omega arith), simp length-set (omega arith))
 
-pub rising-spec : {M : Type 1} → statement M
-rising-spec =
+pub rising_spec : {M : Type 1} → statement M
+rising_spec =
     tie.close
     (tie.spec
     invariant-loop

@@ -11,8 +11,8 @@ invariant-loop row i step j₀ next₀ j next = Unit {0}
 abbrev decreases-loop : tie.decreases-loop
 decreases-loop row i step j₀ next₀ j next = length row - j
 
-pub evenly-spec : {M : Type 1} → statement M
-evenly-spec =
+pub evenly_spec : {M : Type 1} → statement M
+evenly_spec =
     tie.close
     (tie.spec
     invariant-loop

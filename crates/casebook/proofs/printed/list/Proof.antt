@@ -11,8 +11,8 @@ invariant-loop row i₀ t4 i = Unit {0}
 abbrev decreases-loop : tie.decreases-loop
 decreases-loop row i₀ t4 i = length row - i
 
-pub list-spec : {M : Type 1} → statement M
-list-spec =
+pub list_spec : {M : Type 1} → statement M
+list_spec =
     tie.close
     (tie.spec
     invariant-loop

@@ -11,8 +11,8 @@ invariant-loop row i₀ i = Unit {0}
 abbrev decreases-loop : tie.decreases-loop
 decreases-loop row i₀ i = length row - i
 
-pub rises-spec : {M : Type 1} → statement M
-rises-spec =
+pub rises_spec : {M : Type 1} → statement M
+rises_spec =
     tie.close
     (tie.spec
     invariant-loop

@@ -11,8 +11,8 @@ invariant-loop row i₀ i = Unit {0}
 abbrev decreases-loop : tie.decreases-loop
 decreases-loop row i₀ i = length row - i
 
-pub runs-spec : {M : Type 1} → statement M
-runs-spec =
+pub runs_spec : {M : Type 1} → statement M
+runs_spec =
     tie.close
     (tie.spec
     invariant-loop

@@ -9,5 +9,5 @@ returns : tie.Need-returns
 unfolding refused_choice zeros padded
 returns c = rw c.even-code.ensures
 
-pub refused-spec : {M : Type 1} → statement M
-refused-spec = tie.close (tie.spec (λ c κs. search rules) returns)
+pub refused_spec : {M : Type 1} → statement M
+refused_spec = tie.close (tie.spec (λ c κs. search rules) returns)

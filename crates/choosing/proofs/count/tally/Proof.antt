@@ -72,8 +72,8 @@ returns c =
     let e : l.loop.i ≡ length (text l) = omega arith in
     l.loop.invariant.1 ∙ ap (λ (s : List ℕ). tab (occurs s) 0 256) (ap (λ (n : ℕ). take n (text l)) e ∙ take-length (text l))
 
-pub tally-spec : {M : Type 1} → statement M
-tally-spec =
+pub tally_spec : {M : Type 1} → statement M
+tally_spec =
     tie.close
     (tie.spec
     invariant-loop

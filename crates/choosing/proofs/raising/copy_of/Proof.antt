@@ -30,8 +30,8 @@ invariant-loop counts copy₀ i₀ copy i = Upto counts copy i
 abbrev decreases-loop : tie.decreases-loop
 decreases-loop counts copy₀ i₀ copy i = 256 - i
 
-pub copy-of-spec : {M : Type 1} → statement M
-copy-of-spec =
+pub copy_of_spec : {M : Type 1} → statement M
+copy_of_spec =
     tie.close
     (tie.spec
     invariant-loop

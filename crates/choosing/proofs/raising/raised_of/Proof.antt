@@ -114,8 +114,8 @@ loop-again c =
     (λ w. rw w.1 (kept l.loop.invariant h (omega (arith, w.0.left))))
     c.if1.branch
 
-pub raised-of-spec : {M : Type 1} → statement M
-raised-of-spec =
+pub raised_of_spec : {M : Type 1} → statement M
+raised_of_spec =
     tie.close
     (tie.spec
     invariant-loop

@@ -208,8 +208,8 @@ returns c =
     let all = ap (found s.args.roll.table.code s.args.buf.now s.args.roll.h s.args.symbols.now) e ∙ words_behind s.pre s.args.symbols.now in
     (l.loop.invariant.2 ∙ ap length all, l.loop.invariant.3 ∙ ap (λ (x : List ℕ). listed x s.args.slice.now) all)
 
-pub list-hits-spec : {M : Type 1} → statement M
-list-hits-spec =
+pub list_hits_spec : {M : Type 1} → statement M
+list_hits_spec =
     tie.close
     (tie.spec
     invariant-loop2

@@ -67,8 +67,8 @@ returns-2 c =
     let a = (begun e.before.before).args in
     (u.list-hits.ensures.0 ∙ ap length (hits_are e), u.list-hits.ensures.1 ∙ ap (λ (found : List ℕ). listed found a.slice.now) (hits_are e))
 
-pub search-sound-spec : {M : Type 1} → statement M
-search-sound-spec =
+pub search_sound_spec : {M : Type 1} → statement M
+search_sound_spec =
     tie.close
     (tie.spec
     (λ c. search rules)

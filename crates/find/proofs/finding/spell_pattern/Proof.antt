@@ -163,8 +163,8 @@ returns-2 c =
     let l = c.before in
     all (spelt l) (omega (arith, l.loop.invariant.0, c.loop-test.false))
 
-pub spell-pattern-spec : {M : Type 1} → statement M
-spell-pattern-spec =
+pub spell_pattern_spec : {M : Type 1} → statement M
+spell_pattern_spec =
     tie.close
     (tie.spec
     invariant-loop

@@ -116,8 +116,8 @@ returns c =
     c.verdict.ensures.says
     ∙ ap verdict_says (sym (rw j.judge-of.ensures at l.loop.invariant.5 ∙ rw (none, packed_none) (judge_none l.loop.judge)))
 
-pub judge-lines-spec : {M : Type 1} → statement M
-judge-lines-spec =
+pub judge_lines_spec : {M : Type 1} → statement M
+judge_lines_spec =
     tie.close
     (tie.spec
     invariant-loop

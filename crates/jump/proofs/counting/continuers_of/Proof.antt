@@ -31,8 +31,8 @@ returns c =
     let z = continuers_both st.result a.b (search rules) (bounds c).0 (bounds c).1 in
     (rw e at z.0, z.1, z.2)
 
-pub continuers-of-spec : {M : Type 1} → statement M
-continuers-of-spec =
+pub continuers_of_spec : {M : Type 1} → statement M
+continuers_of_spec =
     tie.close
     (tie.spec
     (λ c κs. search rules)

@@ -107,8 +107,8 @@ returns c =
       subst (λ (n : ℕ). a.a < (n + 1) * per a.code.k) (sym p.before.byte_of.ensures) (end_behind a.code s.pre.0 a.buf.now a.a),
     )
 
-pub count-back-spec : {M : Type 1} → statement M
-count-back-spec =
+pub count_back_spec : {M : Type 1} → statement M
+count_back_spec =
     tie.close
     (tie.spec
     byte-of-requires

@@ -43,8 +43,8 @@ returns c =
     let a = s.args in
     (counted a.code s.requires.0 a.buf.now a.end l.loop.invariant.0 l.loop.invariant.1, omega (arith, c.loop-test.false, l.loop.invariant.0))
 
-pub count-blocks-spec : {M : Type 1} → statement M
-count-blocks-spec =
+pub count_blocks_spec : {M : Type 1} → statement M
+count_blocks_spec =
     tie.close
     (tie.spec
     invariant-loop

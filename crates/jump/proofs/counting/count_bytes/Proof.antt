@@ -76,8 +76,8 @@ returns c =
       counted a.code s.requires.0 a.buf.now a.end h (l.loop.invariant.1 a.code s.requires.0 s.requires.1 s.requires.4.number),
     )
 
-pub count-bytes-spec : {M : Type 1} → statement M
-count-bytes-spec =
+pub count_bytes_spec : {M : Type 1} → statement M
+count_bytes_spec =
     tie.close
     (tie.spec
     invariant-loop

@@ -20,8 +20,8 @@ mul-if1 c = omega (arith, product c, c.before.before.before.requires.6.before, c
 sub-if1-2 : tie.Need-overflow-sub-if1-2
 sub-if1-2 c = omega (arith, product c, c.before.before.before.requires.6.before)
 
-pub count-near-spec : {M : Type 1} → statement M
-count-near-spec =
+pub count_near_spec : {M : Type 1} → statement M
+count_near_spec =
     tie.close
     (tie.spec
     (λ c. search rules)

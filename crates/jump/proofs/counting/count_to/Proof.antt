@@ -41,8 +41,8 @@ returns c =
       rw (e.0, b.byte_of.ensures) (end_behind a.code s.requires.0 a.buf.now a.a),
     )
 
-pub count-to-spec : {M : Type 1} → statement M
-count-to-spec =
+pub count_to_spec : {M : Type 1} → statement M
+count_to_spec =
     tie.close
     (tie.spec
     (λ c κs. let s = c.before.before in code_width s.args.code s.requires.0)

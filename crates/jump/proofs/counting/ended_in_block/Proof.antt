@@ -57,8 +57,8 @@ returns-2 c =
     let e : l.loop.j ≡ 48 = omega arith in
     l.loop.invariant.2 ∙ ap (λ (j : ℕ). number_at a.code a.buf.now ((a.i + j) * per a.code.k)) e
 
-pub ended-in-block-spec : {M : Type 1} → statement M
-ended-in-block-spec =
+pub ended_in_block_spec : {M : Type 1} → statement M
+ended_in_block_spec =
     tie.close
     (tie.spec
     invariant-loop

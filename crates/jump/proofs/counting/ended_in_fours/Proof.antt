@@ -101,8 +101,8 @@ returns c =
     let z : i + 32 + l.loop.j ≡ i + 48 = omega arith in
     omega (arith, e, k.1, k.2, ap (before-byte s) x, ap (before-byte s) y, ap (before-byte s) z)
 
-pub ended-in-fours-spec : {M : Type 1} → statement M
-ended-in-fours-spec =
+pub ended_in_fours_spec : {M : Type 1} → statement M
+ended_in_fours_spec =
     tie.close
     (tie.spec
     invariant-loop

@@ -69,8 +69,8 @@ returns c =
     let e : l.loop.i ≡ a.a = omega (arith, l.loop.invariant.0, c.loop-test.false) in
     l.loop.invariant.1 ∙ ap (number_at a.code a.buf.now) e
 
-pub number-of-spec : {M : Type 1} → statement M
-number-of-spec =
+pub number_of_spec : {M : Type 1} → statement M
+number_of_spec =
     tie.close
     (tie.spec
     invariant-loop

@@ -20,8 +20,8 @@ lasts-requires c κs =
     let s = c.before.before.before.before.before.before.before in
     (code_width s.args.code s.requires.0, s.requires.4, c.before.before.before.window-of.ensures)
 
-pub jump-spec : {M : Type 1} → statement M
-jump-spec =
+pub jump_spec : {M : Type 1} → statement M
+jump_spec =
     tie.close
     (tie.spec
     window-of-requires

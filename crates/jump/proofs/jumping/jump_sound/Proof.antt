@@ -110,8 +110,8 @@ returns-3 c =
     let h = all_hits s.pre.0 (symbols e.before.before) ∙ hits_are e in
     (u.jump.ensures.0 ∙ ap length h, u.jump.ensures.1 ∙ ap (λ (found : List ℕ). listed found a.slice.now) h)
 
-pub jump-sound-spec : {M : Type 1} → statement M
-jump-sound-spec =
+pub jump_sound_spec : {M : Type 1} → statement M
+jump_sound_spec =
     tie.close
     (tie.spec
     (λ c. search rules)

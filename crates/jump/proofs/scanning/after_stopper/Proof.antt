@@ -36,6 +36,6 @@ returns-2 c =
           yes_ltb r),
     )
 
-pub after-stopper-spec : {M : Type 1} → statement M
-after-stopper-spec =
+pub after_stopper_spec : {M : Type 1} → statement M
+after_stopper_spec =
     tie.close (tie.spec returns (λ c. search rules) get-requires (λ c. search rules) (λ c κs. search rules) returns-2)

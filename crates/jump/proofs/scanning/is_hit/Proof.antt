@@ -24,6 +24,6 @@ returns-3 c =
     let d = c.before.before in
     ((λ t. (subst T e t, d.after-stopper.ensures.0 (true_yes _ (not-false d.after-stopper.result c.before.if2.false)))), (λ x. subst T (sym e) x.0))
 
-pub is-hit-spec : {M : Type 1} → statement M
-is-hit-spec =
+pub is_hit_spec : {M : Type 1} → statement M
+is_hit_spec =
     tie.close (tie.spec (λ c. search rules) returns (λ c κs. search rules) returns-2 (λ c κs. search rules) returns-3)

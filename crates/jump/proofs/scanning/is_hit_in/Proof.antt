@@ -81,8 +81,8 @@ is-hit-requires c κs =
     let s = c.before.before.before.before in
     (s.requires.0, s.requires.1, omega (arith, s.requires.6, s.requires.8, s.requires.3.few, one s), s.requires.2)
 
-pub is-hit-in-spec : {M : Type 1} → statement M
-is-hit-in-spec =
+pub is_hit_in_spec : {M : Type 1} → statement M
+is_hit_in_spec =
     tie.close
     (tie.spec
     add-if2

@@ -38,8 +38,8 @@ returns-2 c =
           w ∙ sym (listed_full hits first (number_at a.code a.buf.now a.a) (omega (arith, c.if1.false)))),
     )
 
-pub note-spec : {M : Type 1} → statement M
-note-spec =
+pub note_spec : {M : Type 1} → statement M
+note_spec =
     tie.close
     (tie.spec
     (λ c. search rules)

@@ -175,8 +175,8 @@ returns c =
     = end_hits a.code s.pre.0 (bytes d) a.h s.pre.2 a.symbols.now a.v s.pre.4 a.t.now s.pre.5 f (within d f (omega (arith, k.1))) (omega (arith, k.0, c.loop-test.false, d.byte_of.ensures)) in
     (k.3 ∙ ap length (sym e), k.4 ∙ ap (λ (x : List ℕ). listed x a.slice.now) (sym e))
 
-pub scan-spec : {M : Type 1} → statement M
-scan-spec =
+pub scan_spec : {M : Type 1} → statement M
+scan_spec =
     tie.close
     (tie.spec
     invariant-loop

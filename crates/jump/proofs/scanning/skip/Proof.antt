@@ -63,8 +63,8 @@ loop-again-2 c =
     let l = r.before.before in
     jumped r (l.loop.e + (l.before.before.before.before.args.places - r.place_at.result)) refl
 
-pub skip-spec : {M : Type 1} → statement M
-skip-spec =
+pub skip_spec : {M : Type 1} → statement M
+skip_spec =
     tie.close
     (tie.spec
     invariant-loop

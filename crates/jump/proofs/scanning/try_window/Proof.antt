@@ -145,8 +145,8 @@ returns c =
     let e : l.loop.a ≡ first_of a.code.k a.v.free (a.f + 1) = omega (arith, l.loop.invariant.1, c.loop-test.false, y, per_pos (width s)) in
     rw (sym e) (l.loop.invariant.2, l.loop.invariant.3, l.loop.invariant.4)
 
-pub try-window-spec : {M : Type 1} → statement M
-try-window-spec =
+pub try_window_spec : {M : Type 1} → statement M
+try_window_spec =
     tie.close
     (tie.spec
     invariant-loop

@@ -20,8 +20,8 @@ returns-2 c =
     let a = accepted u.before.before in
     search_yes a.0 a.1 u.jump-sound.ensures.0 u.jump-sound.ensures.1
 
-pub search-jumping-spec : {M : Type 1} → statement M
-search-jumping-spec =
+pub search_jumping_spec : {M : Type 1} → statement M
+search_jumping_spec =
     tie.close
     (tie.spec
     (λ c κs. search rules)

@@ -149,8 +149,8 @@ returns c =
     let e : v.free + l.loop.j ≡ v.places * per s.args.k = omega (arith, sizes p, l.loop.invariant.0, c.loop-test.false) in
     subst (Upto s.args.k v.back v.free v.places s.args.symbols.now l.loop.t) e l.loop.invariant.3
 
-pub fill-places-spec : {M : Type 1} → statement M
-fill-places-spec =
+pub fill_places_spec : {M : Type 1} → statement M
+fill_places_spec =
     tie.close
     (tie.spec
     invariant-loop

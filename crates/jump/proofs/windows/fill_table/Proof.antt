@@ -24,8 +24,8 @@ fill-places-requires c κs =
       subst (Upto s.args.k v.back v.free v.places s.args.symbols.now l.loop.t) (omega (arith, l.loop.invariant.0, c.before.loop-test.false)) l.loop.invariant.1,
     )
 
-pub fill-table-spec : {M : Type 1} → statement M
-fill-table-spec =
+pub fill_table_spec : {M : Type 1} → statement M
+fill_table_spec =
     tie.close
     (tie.spec
     invariant-loop

@@ -99,8 +99,8 @@ returns-2 c =
     let e : before_last p - v.free + o ≡ (v.wide - 1) * per s.args.k + o - v.free = omega (arith, (product p).0, (product p).2, s.pre.2.few) in
     l.loop.invariant.1 o (omega (arith, h, c.loop-test.false, p.per-byte.ensures)) ∙ ap (byte_from s.args.k s.args.symbols.now) e
 
-pub lasts-spec : {M : Type 1} → statement M
-lasts-spec =
+pub lasts_spec : {M : Type 1} → statement M
+lasts_spec =
     tie.close
     (tie.spec
     invariant-loop

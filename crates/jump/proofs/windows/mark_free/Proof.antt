@@ -70,8 +70,8 @@ returns c =
     second
     c.before.before.mark.ensures
 
-pub mark-free-spec : {M : Type 1} → statement M
-mark-free-spec =
+pub mark_free_spec : {M : Type 1} → statement M
+mark_free_spec =
     tie.close
     (tie.spec
     (λ c κs. search rules)

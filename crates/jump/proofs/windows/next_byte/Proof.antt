@@ -22,5 +22,5 @@ add-result c = omega (arith, bound c.requires.0 c.args.y c.args.x c.requires.1)
 returns : tie.Need-returns
 returns c = rest c.requires.0 c.args.y c.args.x c.requires.1
 
-pub next-byte-spec : {M : Type 1} → statement M
-next-byte-spec = tie.close (tie.spec shl-result add-result returns)
+pub next_byte_spec : {M : Type 1} → statement M
+next_byte_spec = tie.close (tie.spec shl-result add-result returns)

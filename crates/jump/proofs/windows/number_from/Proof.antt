@@ -54,8 +54,8 @@ returns c =
     let a = l.before.before.args in
     l.loop.invariant.1 ∙ ap (number_from a.k a.symbols.now a.j) (omega (arith, l.loop.invariant.0, c.loop-test.false))
 
-pub number-from-spec : {M : Type 1} → statement M
-number-from-spec =
+pub number_from_spec : {M : Type 1} → statement M
+number_from_spec =
     tie.close
     (tie.spec
     invariant-loop

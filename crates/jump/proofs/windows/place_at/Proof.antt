@@ -12,8 +12,8 @@ returns c =
     let k = c.before.key in
     (ap (λ (i : ℕ). get_or c.before.before.before.before.before.before.args.t.now i 0) k.ensures.0, omega (arith, (c.shared-slice-known5.given k.result).fits))
 
-pub place-at-spec : {M : Type 1} → statement M
-place-at-spec =
+pub place_at_spec : {M : Type 1} → statement M
+place_at_spec =
     tie.close
     (tie.spec
     (λ c. search rules)

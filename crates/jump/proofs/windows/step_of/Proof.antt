@@ -21,5 +21,5 @@ returns c =
     let e : 1 * 2 ^ (c.args.k * c.args.n) % 18446744073709551616 ≡ 2 ^ (c.args.k * c.args.n) = omega (arith, pow_mono {i = c.args.k * c.args.n} {j = 8} (few c)) in
     (e, rw e (step_whole c.requires.0 c.args.n c.requires.1))
 
-pub step-of-spec : {M : Type 1} → statement M
-step-of-spec = tie.close (tie.spec mul-result shl-result returns)
+pub step_of_spec : {M : Type 1} → statement M
+step_of_spec = tie.close (tie.spec mul-result shl-result returns)

@@ -41,8 +41,8 @@ returns c =
       small = w.ensures.1;
     }
 
-pub window-of-spec : {M : Type 1} → statement M
-window-of-spec =
+pub window_of_spec : {M : Type 1} → statement M
+window_of_spec =
     tie.close
     (tie.spec
     (λ c κs. search rules)

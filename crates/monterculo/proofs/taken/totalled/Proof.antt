@@ -3,8 +3,8 @@ use borrow.Author.Rules.{rules}
 use Rattle.monterculo.proofs.taken.totalled.Statement.{statement}
 use Rattle.monterculo.proofs.taken.totalled.Tie as tie
 
-pub totalled-spec : {M : Type 1} → statement M
-totalled-spec =
+pub totalled_spec : {M : Type 1} → statement M
+totalled_spec =
     tie.close
     (tie.spec
     (λ c. search rules)

@@ -14,8 +14,8 @@ by-moves-requires c κs =
     let s = moves.before.before in
     (s.requires.0, rows_are s.args.code s.args.sigma moves.moves-by-byte.result _ _ _ _ moves.moves-by-byte.ensures bound.bounds_of.ensures times.part_of.ensures plus.part-of2.ensures stops.part-of3.ensures, s.requires.1, s.requires.2, s.requires.3)
 
-pub by-bytes-spec : {M : Type 1} → statement M
-by-bytes-spec =
+pub by_bytes_spec : {M : Type 1} → statement M
+by_bytes_spec =
     tie.close
     (tie.spec
     (λ c κs. search rules)

@@ -187,8 +187,8 @@ loop-again c =
 returns : tie.Need-returns invariant-loop decreases-loop
 returns c = let v = c.before.loop.invariant in (v.0, v.2, v.1)
 
-pub by-moves-spec : {M : Type 1} → statement M
-by-moves-spec =
+pub by_moves_spec : {M : Type 1} → statement M
+by_moves_spec =
     tie.close
     (tie.spec
     invariant-loop

@@ -19,5 +19,5 @@ returns c =
 returns-2 : tie.Need-returns-2
 returns-2 c = let s = c.before in ap (ltb s.args.x) (shl_exact 1 s.args.bits 64 (omega arith) (omega arith) ∙ one-mul (2 ^ s.args.bits))
 
-pub bits-within-spec : {M : Type 1} → statement M
-bits-within-spec = tie.close (tie.spec returns (λ c. search rules) returns-2)
+pub bits_within_spec : {M : Type 1} → statement M
+bits_within_spec = tie.close (tie.spec returns (λ c. search rules) returns-2)

@@ -143,8 +143,8 @@ returns-8 c =
     let w = limited (told b) in
     record { says = sym (kept_accepted (searcher w) (table (tabled w)) (within w) (pattern b.before) (rw (judge e.before.before, ended x, sym (bits_is c.before) ∙ not-false _ c.if7.false))) }
 
-pub kept-spec : {M : Type 1} → statement M
-kept-spec =
+pub kept_spec : {M : Type 1} → statement M
+kept_spec =
     tie.close
     (tie.spec
     (λ c κs. search rules)

@@ -214,8 +214,8 @@ returns-5 c =
     let r = c.before.before in
     feeding r c.if4.answer (⊎_elim (λ w. rw (w.2, ne_eqb _ _ w.0.taken)) (λ w. rw (w.1, eq-eqb _ _ w.0.left)) c.if4.branch)
 
-pub feed-spec : {M : Type 1} → statement M
-feed-spec =
+pub feed_spec : {M : Type 1} → statement M
+feed_spec =
     tie.close
     (tie.spec
     (λ c κs. search rules)

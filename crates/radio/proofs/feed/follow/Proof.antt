@@ -308,8 +308,8 @@ returns-3 c =
     along_went (searcher l) (root l).args.piece.now (root l).args.slice.now z (silent e)
     (progress_is ((searcher l).judge.progress.read + l.loop.i) l.loop.count l.loop.first l.loop.r (searcher l).judge.progress.stained z.going c.either2.ensures)
 
-pub follow-spec : {M : Type 1} → statement M
-follow-spec =
+pub follow_spec : {M : Type 1} → statement M
+follow_spec =
     tie.close
     (tie.spec
     invariant-loop

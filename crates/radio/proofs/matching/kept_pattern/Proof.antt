@@ -47,6 +47,6 @@ returns c =
     let all : c.before.loop.i ≡ length p = omega arith in
     c.before.loop.invariant.1 ∙ ap (before p) all ∙ whole p
 
-pub kept-pattern-spec : {M : Type 1} → statement M
-kept-pattern-spec =
+pub kept_pattern_spec : {M : Type 1} → statement M
+kept_pattern_spec =
     tie.close (tie.spec invariant-loop decreases-loop loop-holds (λ c. omega arith) (λ c. omega arith) (λ c. omega arith) (λ c. omega arith) loop-again returns)

@@ -82,8 +82,8 @@ returns c =
     let all : c.before.loop.j ≡ a.length = omega (arith, c.before.loop.invariant.upto, c.loop-test.false) in
     c.before.loop.invariant.row ∙ ap (λ (j : ℕ). masks_of (take j a.t1)) all
 
-pub mark-places-spec : {M : Type 1} → statement M
-mark-places-spec =
+pub mark_places_spec : {M : Type 1} → statement M
+mark_places_spec =
     tie.close
     (tie.spec
     invariant-loop

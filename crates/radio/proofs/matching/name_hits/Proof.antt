@@ -197,8 +197,8 @@ returns c =
     let all : l.loop.i ≡ (start l).args.n = omega (arith, l.loop.invariant.0, c.loop-test.false) in
     record { same = l.loop.invariant.1; named = λ pattern k. rw (← all) (l.loop.invariant.5 pattern k) }
 
-pub name-hits-spec : {M : Type 1} → statement M
-name-hits-spec =
+pub name_hits_spec : {M : Type 1} → statement M
+name_hits_spec =
     tie.close
     (tie.spec
     invariant-loop

@@ -117,8 +117,8 @@ returns-4 c =
     none_found s.args.code s.args.sigma (row s) s.args.p
     (seen_all s.args.code s.requires.good s.args.sigma (rest s) c.before.loop.invariant.2 (omega (arith, long s, c.loop-test.false)))
 
-pub codeword-at-spec : {M : Type 1} → statement M
-codeword-at-spec =
+pub codeword_at_spec : {M : Type 1} → statement M
+codeword_at_spec =
     tie.close
     (tie.spec
     invariant-loop

@@ -52,8 +52,8 @@ returns-2 c =
     let s = l.before.before in
     sym (l.loop.invariant.1 ∙ pass_none s.args.code s.args.sigma (row s) l.loop.«at» l.loop.left c.loop-test.false)
 
-pub pass-over-spec : {M : Type 1} → statement M
-pass-over-spec =
+pub pass_over_spec : {M : Type 1} → statement M
+pass_over_spec =
     tie.close
     (tie.spec
     invariant-loop

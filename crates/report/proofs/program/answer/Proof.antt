@@ -143,8 +143,8 @@ returns-3 c =
     let o = c.before.before in
     rw (← whole o.before.before.before.before) o.lines-out.ensures
 
-pub answer-spec : {M : Type 1} → statement M
-answer-spec =
+pub answer_spec : {M : Type 1} → statement M
+answer_spec =
     tie.close
     (tie.spec
     (λ c. search rules)

@@ -36,8 +36,8 @@ returns-2 c =
     let input = l.before.args.input.now in
     (l.loop.invariant.0, sym (line_over input l.loop.i c.loop-test.false) ∙ l.loop.invariant.1)
 
-pub line-end-spec : {M : Type 1} → statement M
-line-end-spec =
+pub line_end_spec : {M : Type 1} → statement M
+line_end_spec =
     tie.close
     (tie.spec
     invariant-loop

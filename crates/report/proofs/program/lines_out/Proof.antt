@@ -144,8 +144,8 @@ same_length c = (going_room (room (start10 c.before.before)) (put10 c.before.bef
 returns : tie.Need-returns
 returns c = going_whole (room (start10 c.before.before)) (put10 c.before.before)
 
-pub lines-out-spec : {M : Type 1} → statement M
-lines-out-spec =
+pub lines_out_spec : {M : Type 1} → statement M
+lines_out_spec =
     tie.close
     (tie.spec
     (λ c. search rules)

@@ -75,8 +75,8 @@ text_out-requires-3 c κs = let b = c.before.before.before.before in going_next 
 returns : tie.Need-returns
 returns c = going_whole (room (start5 c.before.before)) (put5 c.before.before)
 
-pub refused-out-spec : {M : Type 1} → statement M
-refused-out-spec =
+pub refused_out_spec : {M : Type 1} → statement M
+refused_out_spec =
     tie.close
     (tie.spec
     (λ c. search rules)

@@ -99,8 +99,8 @@ returns-3 c =
     (report_answer (input l) (good t.before) (omega (arith, text_long t, e.if2.false)) ∙ sym (ap₂ answer_for (pattern_lent l) (text_lent e)))
     c.answer.ensures
 
-pub report-spec : {M : Type 1} → statement M
-report-spec =
+pub report_spec : {M : Type 1} → statement M
+report_spec =
     tie.close
     (tie.spec
     (λ c κs. search rules)

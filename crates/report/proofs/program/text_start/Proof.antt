@@ -14,5 +14,5 @@ returns-2 : tie.Need-returns-2
 unfolding start_of_text
 returns-2 c = (c.before.requires, rw (le-ltb _ _ c.if1.false))
 
-pub text-start-spec : {M : Type 1} → statement M
-text-start-spec = tie.close (tie.spec (λ c. search rules) returns returns-2)
+pub text_start_spec : {M : Type 1} → statement M
+text_start_spec = tie.close (tie.spec (λ c. search rules) returns returns-2)

@@ -95,8 +95,8 @@ returns-5 c =
     let w = counted u in
     record { says = sym (check_last _ _ (fits (fitted w)) (whole w) u.before.if1.false ∙ rw (sym (zero_is c.before) ∙ not-false _ c.if2.false)) }
 
-pub check-spec : {M : Type 1} → statement M
-check-spec =
+pub check_spec : {M : Type 1} → statement M
+check_spec =
     tie.close
     (tie.spec
     (λ c κs. search rules)

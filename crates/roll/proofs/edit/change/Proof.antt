@@ -101,8 +101,8 @@ put-in-requires c κs =
     let e = extent_is m (Fits _) x.extent3.given.1 in
     (located r, e.0, omega (arith, e.1, first_room (located r)))
 
-pub change-spec : {M : Type 1} → statement M
-change-spec =
+pub change_spec : {M : Type 1} → statement M
+change_spec =
     tie.close
     (tie.spec
     (λ c κs. search rules)

@@ -38,8 +38,8 @@ returns-3 c =
     let w = n.before in
     record { says = rw (sound_accepted (sound w.before), le-ltb _ _ (rw (w.first-wrong.ensures, n.entries-for.ensures) at c.if1.false)) }
 
-pub check-directory-spec : {M : Type 1} → statement M
-check-directory-spec =
+pub check_directory_spec : {M : Type 1} → statement M
+check_directory_spec =
     tie.close
     (tie.spec
     (λ c κs. search rules)

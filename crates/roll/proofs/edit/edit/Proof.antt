@@ -46,8 +46,8 @@ change-requires c κs =
     let e = l.before in
     ((sound e).0, (sound e).1, l.if1.false, m.if2.false)
 
-pub edit-spec : {M : Type 1} → statement M
-edit-spec =
+pub edit_spec : {M : Type 1} → statement M
+edit_spec =
     tie.close
     (tie.spec
     (λ c κs. search rules)

@@ -105,8 +105,8 @@ returns-3 c =
     let made = r.replace.ensures in
     edit_yes (decided n ∙ rw (le-ltb _ _ (rw (needed n) at e.if2.false))) made.0 made.1.0 made.1.1
 
-pub put-in-spec : {M : Type 1} → statement M
-put-in-spec =
+pub put_in_spec : {M : Type 1} → statement M
+put_in_spec =
     tie.close
     (tie.spec
     (λ c κs. search rules)

@@ -31,5 +31,5 @@ returns-3 : tie.Need-returns-3
 unfolding fit_says
 returns-3 c = record { says = rw (good c.before.before.before.before, le-ltb _ _ (rw c.before.room_of.ensures at c.if2.false)) }
 
-pub fits-spec : {M : Type 1} → statement M
-fits-spec = tie.close (tie.spec (λ c κs. search rules) returns (λ c. search rules) room-of-requires returns-2 returns-3)
+pub fits_spec : {M : Type 1} → statement M
+fits_spec = tie.close (tie.spec (λ c κs. search rules) returns (λ c. search rules) room-of-requires returns-2 returns-3)

@@ -43,8 +43,8 @@ returns-3 c =
     let n = l.before in
     make_yes (sound n.before) (omega (arith, n.entries-for.ensures, l.if1.false)) m.make-sound.ensures
 
-pub make-directory-spec : {M : Type 1} → statement M
-make-directory-spec =
+pub make_directory_spec : {M : Type 1} → statement M
+make_directory_spec =
     tie.close
     (tie.spec
     (λ c κs. search rules)

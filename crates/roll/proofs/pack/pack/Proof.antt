@@ -99,8 +99,8 @@ returns-4 c =
     s.store-text.ensures.0
     s.store-text.ensures.1
 
-pub pack-spec : {M : Type 1} → statement M
-pack-spec =
+pub pack_spec : {M : Type 1} → statement M
+pack_spec =
     tie.close
     (tie.spec
     (λ c κs. search rules)

@@ -165,8 +165,8 @@ returns-7 c =
     (passed_none a.roll.table.code (code_is y) a.roll.table.sigma (row (begun y)) (get_or a.dir.now (a.place / 32) 0) (a.place % 32) (entry_upto y) (passed_is p)
     (sym c.enum-told2.given.1 ∙ k.codeword-at.ensures))
 
-pub read-one-spec : {M : Type 1} → statement M
-read-one-spec =
+pub read_one_spec : {M : Type 1} → statement M
+read_one_spec =
     tie.close
     (tie.spec
     (λ c κs. search rules)

@@ -32,8 +32,8 @@ returns-3 c =
     let g = c.before in
     record { says = rw (sound_accepted (sound g.before), sym g.good-pattern.ensures ∙ not-false _ c.if1.false) }
 
-pub check-pattern-spec : {M : Type 1} → statement M
-check-pattern-spec =
+pub check_pattern_spec : {M : Type 1} → statement M
+check_pattern_spec =
     tie.close
     (tie.spec
     (λ c κs. search rules)

@@ -20,8 +20,8 @@ returns-2 c =
     let a = accepted u.before.before in
     search_yes a.0 a.1 u.search-sound.ensures.0 u.search-sound.ensures.1
 
-pub search-spec : {M : Type 1} → statement M
-search-spec =
+pub search_spec : {M : Type 1} → statement M
+search_spec =
     tie.close
     (tie.spec
     (λ c κs. search rules)

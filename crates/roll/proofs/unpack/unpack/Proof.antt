@@ -49,8 +49,8 @@ unpack-sound-requires c κs = let u = unpacks c.before in (u.sound, u.ordered, u
 returns-5 : tie.Need-returns-5
 returns-5 c = let u = c.before.before in unpack_yes (unpacks u.before.before) u.unpack-sound.ensures
 
-pub unpack-spec : {M : Type 1} → statement M
-unpack-spec =
+pub unpack_spec : {M : Type 1} → statement M
+unpack_spec =
     tie.close
     (tie.spec
     (λ c κs. search rules)

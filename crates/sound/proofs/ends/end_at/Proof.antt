@@ -80,8 +80,8 @@ returns : tie.Need-returns invariant-loop decreases-loop
 unfolding end_from
 returns c = omega (arith, here c, c.before.before.before.loop.invariant.3)
 
-pub end-at-spec : {M : Type 1} → statement M
-end-at-spec =
+pub end_at_spec : {M : Type 1} → statement M
+end_at_spec =
     tie.close
     (tie.spec
     invariant-loop

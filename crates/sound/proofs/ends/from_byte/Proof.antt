@@ -61,8 +61,8 @@ returns c =
     let e : a.p / per a.code.k * per a.code.k ≡ l.loop.q = omega (arith, first_is l.before, l.loop.invariant.0, c.loop-test.false) in
     (rw e l.loop.invariant.1, l.loop.invariant.2)
 
-pub from-byte-spec : {M : Type 1} → statement M
-from-byte-spec =
+pub from_byte_spec : {M : Type 1} → statement M
+from_byte_spec =
     tie.close
     (tie.spec
     invariant-loop

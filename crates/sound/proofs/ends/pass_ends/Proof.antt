@@ -86,8 +86,8 @@ returns-2 c =
     ∙ ap (λ (q : ℕ). end_from a.code a.buf.now q l.loop.left) (first_is c.before)
     ∙ passing_rest l.loop.invariant.0
 
-pub pass-ends-spec : {M : Type 1} → statement M
-pass-ends-spec =
+pub pass_ends_spec : {M : Type 1} → statement M
+pass_ends_spec =
     tie.close
     (tie.spec
     invariant-loop

@@ -8,6 +8,6 @@ returns : tie.Need-returns
 unfolding end_from end_of
 returns c = rw c.if1.true
 
-pub pass-first-spec : {M : Type 1} → statement M
-pass-first-spec =
+pub pass_first_spec : {M : Type 1} → statement M
+pass_first_spec =
     tie.close (tie.spec returns (λ c κs. search rules) (λ c. search rules) (λ c κs. search rules) (λ c. search rules))

@@ -41,8 +41,8 @@ get-requires c κs =
 add-q : tie.Need-overflow-add-q invariant-loop decreases-loop
 add-q c = let p = symbol_passed c in omega (arith, passing_upto p, p.counts)
 
-pub pass-symbols-spec : {M : Type 1} → statement M
-pass-symbols-spec =
+pub pass_symbols_spec : {M : Type 1} → statement M
+pass_symbols_spec =
     tie.close
     (tie.spec
     invariant-loop

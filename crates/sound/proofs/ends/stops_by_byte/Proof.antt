@@ -28,8 +28,8 @@ returns c =
     = rw (sym w.before.if1.true, w.stoppers-at.ensures) (stops_table code) in
     c.stops-listed.ensures ∙ e
 
-pub stops-by-byte-spec : {M : Type 1} → statement M
-stops-by-byte-spec =
+pub stops_by_byte_spec : {M : Type 1} → statement M
+stops_by_byte_spec =
     tie.close
     (tie.spec
     (λ c κs. search rules)

@@ -45,8 +45,8 @@ returns c =
     let a = l.before.args in
     l.loop.invariant.1 ∙ filled_all (entry a.code) 256 l.loop.b c.loop-test.false
 
-pub stops-counted-spec : {M : Type 1} → statement M
-stops-counted-spec =
+pub stops_counted_spec : {M : Type 1} → statement M
+stops_counted_spec =
     tie.close
     (tie.spec
     invariant-loop

@@ -43,8 +43,8 @@ returns c =
     let l = c.before in
     l.loop.invariant.1 ∙ filled_all (entry l.before.before.args.s) 256 l.loop.b c.loop-test.false
 
-pub stops-listed-spec : {M : Type 1} → statement M
-stops-listed-spec =
+pub stops_listed_spec : {M : Type 1} → statement M
+stops_listed_spec =
     tie.close
     (tie.spec
     invariant-loop

@@ -29,8 +29,8 @@ returns c =
     ∙ ap (λ (k : ℕ). stops (stoppers a.code) 0 (symbols_of k (a.b ∷ []))) (sym s.requires.1) in
     (omega (arith, e, stops_four st.result a.b (search rules)), omega arith)
 
-pub stops-of-four-spec : {M : Type 1} → statement M
-stops-of-four-spec =
+pub stops_of_four_spec : {M : Type 1} → statement M
+stops_of_four_spec =
     tie.close
     (tie.spec
     (λ c κs. search rules)

@@ -10,5 +10,5 @@ returns : tie.Need-returns
 unfolding stops_of_two tab stops symbols_of symbol_at per shift
 returns c = refl
 
-pub stops-of-two-spec : {M : Type 1} → statement M
-stops-of-two-spec = tie.close (tie.spec returns)
+pub stops_of_two_spec : {M : Type 1} → statement M
+stops_of_two_spec = tie.close (tie.spec returns)

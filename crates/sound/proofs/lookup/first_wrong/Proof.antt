@@ -126,8 +126,8 @@ returns-3 c =
     let e : l.loop.e ≡ last l = omega (arith, l.loop.invariant.0, c.loop-test.false) in
     answer l (last l) (wrong_none (wanted l) (entered l).args.dir.now (last l) (subst (λ i. take i (entered l).args.dir.now ≡ take i (wanted l)) e l.loop.invariant.3) (sym (long l)))
 
-pub first-wrong-spec : {M : Type 1} → statement M
-first-wrong-spec =
+pub first_wrong_spec : {M : Type 1} → statement M
+first_wrong_spec =
     tie.close
     (tie.spec
     invariant-loop

@@ -76,8 +76,8 @@ returns-2 c =
     ∙ ap (end_from a.roll.table.code a.buf.now 0) e
     ∙ sound_end s.pre.0 a.j s.pre.2
 
-pub start-of-spec : {M : Type 1} → statement M
-start-of-spec =
+pub start_of_spec : {M : Type 1} → statement M
+start_of_spec =
     tie.close
     (tie.spec
     invariant-loop

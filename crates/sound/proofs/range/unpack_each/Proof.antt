@@ -154,8 +154,8 @@ returns-2 c =
     let e : l.loop.i ≡ s.args.end - s.args.start = omega (arith, l.loop.invariant.0, c.loop-test.false) in
     l.loop.invariant.2 ∙ ap (λ (i : ℕ). take i (text s) ++ drop i s.args.out.now) e
 
-pub unpack-each-spec : {M : Type 1} → statement M
-unpack-each-spec =
+pub unpack_each_spec : {M : Type 1} → statement M
+unpack_each_spec =
     tie.close
     (tie.spec
     invariant-loop

@@ -63,8 +63,8 @@ returns-2 c =
     u.unpack-from.ensures
     ∙ ap (λ (l : List ℕ). take m l ++ drop m s.args.out.now) (ap (map character) (done_ranks (reads_is f)) ∙ sym (map_drop character s.args.start (ranks s)))
 
-pub unpack-sound-spec : {M : Type 1} → statement M
-unpack-sound-spec =
+pub unpack_sound_spec : {M : Type 1} → statement M
+unpack_sound_spec =
     tie.close
     (tie.spec
     (λ c. search rules)

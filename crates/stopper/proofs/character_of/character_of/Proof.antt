@@ -49,7 +49,7 @@ returns-4 c =
     let e = r.before.before.before.before.before in
     record { says = sym (character_none _ _ (good e.before) e.if2.false (sym c.enum_told.given.1 ∙ r.rank-of-word.ensures)) }
 
-pub character-of-spec : {M : Type 1} → statement M
-character-of-spec =
+pub character_of_spec : {M : Type 1} → statement M
+character_of_spec =
     tie.close
     (tie.spec (λ c κs. search rules) returns returns-2 (λ c. search rules) rank-of-word-requires (λ c. search rules) (λ c. search rules) array-read-t16 (λ c. search rules) returns-3 returns-4)

@@ -12,5 +12,5 @@ returns-2 : tie.Need-returns-2
 unfolding if_last
 returns-2 c = simp (le-ltb _ _ c.if1.false)
 
-pub if-last-spec : {M : Type 1} → statement M
-if-last-spec = tie.close (tie.spec returns returns-2)
+pub if_last_spec : {M : Type 1} → statement M
+if_last_spec = tie.close (tie.spec returns returns-2)

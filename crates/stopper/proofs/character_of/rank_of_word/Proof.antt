@@ -98,8 +98,8 @@ returns-4 c =
     let v = c.before.loop.invariant in
     ended s.args.code s.requires.0 s.args.sigma (word s) v.seen (omega (arith, v.long, c.loop-test.false))
 
-pub rank-of-word-spec : {M : Type 1} → statement M
-rank-of-word-spec =
+pub rank_of_word_spec : {M : Type 1} → statement M
+rank_of_word_spec =
     tie.close
     (tie.spec
     invariant-loop

@@ -95,8 +95,8 @@ returns-6 c = (within (next (next (next (next first)))) (omega arith) (omega ari
 returns-7 : tie.Need-returns-7
 returns-7 c = lengths (next (next (next (next (next first))))) (seventh c).0 c.before.before.before.before.before.before.requires.2 (omega arith) (rest c)
 
-pub border-of-spec : {M : Type 1} → statement M
-border-of-spec =
+pub border_of_spec : {M : Type 1} → statement M
+border_of_spec =
     tie.close
     (tie.spec
     returns

@@ -12,5 +12,5 @@ returns-2 : tie.Need-returns-2
 unfolding good_width
 returns-2 c = simp (ne_eqb _ _ c.if1.false)
 
-pub good-width-spec : {M : Type 1} → statement M
-good-width-spec = tie.close (tie.spec returns returns-2)
+pub good_width_spec : {M : Type 1} → statement M
+good_width_spec = tie.close (tie.spec returns returns-2)

@@ -158,8 +158,8 @@ returns-4 c =
     let x = c.before.before.before.before.before.before in
     from_third (asked x) c.before.before.before.before.if3.false c.before.before.before.if4.false c.before.before.border-of2.ensures
 
-pub place-of-spec : {M : Type 1} → statement M
-place-of-spec =
+pub place_of_spec : {M : Type 1} → statement M
+place_of_spec =
     tie.close
     (tie.spec
     (λ c κs. search rules)

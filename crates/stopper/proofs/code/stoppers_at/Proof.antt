@@ -9,5 +9,5 @@ returns : tie.Need-returns
 unfolding stoppers
 returns c = refl
 
-pub stoppers-at-spec : {M : Type 1} → statement M
-stoppers-at-spec = tie.close (tie.spec (λ c. search rules) returns)
+pub stoppers_at_spec : {M : Type 1} → statement M
+stoppers_at_spec = tie.close (tie.spec (λ c. search rules) returns)

@@ -65,8 +65,8 @@ returns-3 c =
     let e = r.before.before.before in
     codeword_yes ((codes_is _ _).0 (true_yes _ (good e), true_yes _ (there r (lt-ltb _ _ w.before.before.if2.false)))) r.rank-of.ensures w.spell-word.ensures.0 w.spell-word.ensures.1
 
-pub codeword-of-spec : {M : Type 1} → statement M
-codeword-of-spec =
+pub codeword_of_spec : {M : Type 1} → statement M
+codeword_of_spec =
     tie.close
     (tie.spec
     (λ c κs. search rules)

@@ -13,5 +13,5 @@ returns-2 : tie.Need-returns-2
 unfolding nearer
 returns-2 c = simp (le-ltb _ _ c.if1.false)
 
-pub next-place-spec : {M : Type 1} → statement M
-next-place-spec = tie.close (tie.spec (λ c. search rules) returns returns-2)
+pub next_place_spec : {M : Type 1} → statement M
+next_place_spec = tie.close (tie.spec (λ c. search rules) returns returns-2)

@@ -66,8 +66,8 @@ returns-6 c =
     rw n.next_place.ensures
     (sym (step_on a.code a.sigma a.r a.symbol _ s.stoppers-at.ensures _ b.base-of.ensures n.before.if1.false b.before.if4.false c.if5.false))
 
-pub read-symbol-spec : {M : Type 1} → statement M
-read-symbol-spec =
+pub read_symbol_spec : {M : Type 1} → statement M
+read_symbol_spec =
     tie.close
     (tie.spec
     (λ c κs. search rules)

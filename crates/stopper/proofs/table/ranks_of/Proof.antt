@@ -69,7 +69,7 @@ loop-again c =
     let a = l.before.args in
     down (subst (Filled a.t2 a.sigma l.loop.ranks) (omega arith) l.loop.invariant) c.wide.ensures.0 c.wide.ensures.1
 
-pub ranks-of-spec : {M : Type 1} → statement M
-ranks-of-spec =
+pub ranks_of_spec : {M : Type 1} → statement M
+ranks_of_spec =
     tie.close
     (tie.spec invariant-loop decreases-loop (λ c. start c.args.t2 c.args.sigma (search rules) c.requires) (λ c. omega arith) (λ c. omega arith) (λ c. omega arith) (λ c κs. search rules) (λ c. omega (arith, c.wide.ensures.1)) (λ c. c.wide.ensures.1) (λ c. omega arith) loop-again (λ c. whole c.before.loop.invariant c.loop-test.false))

@@ -101,8 +101,8 @@ emit_returns_2 t c =
     let a = c.before.before.args in
     none a.code a.x a.i a.out.now c.if1.false
 
-pub +emit-spec : {M : Type 1} → statement M
-+emit-spec = close μ-emit λ t. emit-lts.spec (callees t)
+pub +emit_spec : {M : Type 1} → statement M
++emit_spec = close μ-emit λ t. emit-lts.spec (callees t)
     (emit_at t)
     emit.Post
     (emit_sub_stoppers_at t)

@@ -44,8 +44,8 @@ returns c =
           ∙ written a.args.code a.requires.0 a.args.rank _ p.result a.args.out.now p.ensures s.stoppers-at.ensures (inside s),
     )
 
-pub spell-word-spec : {M : Type 1} → statement M
-spell-word-spec =
+pub spell_word_spec : {M : Type 1} → statement M
+spell_word_spec =
     tie.close
     (tie.spec
     (λ c κs. search rules)

@@ -67,6 +67,6 @@ returns c =
           c.before.before.clear-unused.ensures,
     )
 
-pub store-text-spec : {M : Type 1} → statement M
-store-text-spec =
+pub store_text_spec : {M : Type 1} → statement M
+store_text_spec =
     tie.close (tie.spec write-text-requires clear-unused-requires cast-t15 (λ c. omega (arith, few (begun (written c)))) (λ c. search rules) returns)

@@ -66,8 +66,8 @@ returns-4 c =
     let s = begun p in
     measured_over s.args.table s.pre.0 s.args.room p.spell-all.ensures (bytes p) (upto_is e.before) c.before.first-foreign.ensures e.if2.false c.if3.false
 
-pub measure-spec : {M : Type 1} → statement M
-measure-spec =
+pub measure_spec : {M : Type 1} → statement M
+measure_spec =
     tie.close
     (tie.spec
     returns

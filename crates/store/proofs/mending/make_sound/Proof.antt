@@ -21,5 +21,5 @@ returns c =
     m.mend.ensures
     ∙ laid_whole s.args.dir.now (directory_of (lengths_of s.args.roll s.args.buf.now)) (entries s.args.roll.n) (sound_entries s.requires.0)
 
-pub make-sound-spec : {M : Type 1} → statement M
-make-sound-spec = tie.close (tie.spec (λ c. search rules) mend-requires (λ c. search rules) returns)
+pub make_sound_spec : {M : Type 1} → statement M
+make_sound_spec = tie.close (tie.spec (λ c. search rules) mend-requires (λ c. search rules) returns)

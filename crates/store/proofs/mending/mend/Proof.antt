@@ -14,8 +14,8 @@ returns c =
     let e : entries s.args.upto ≡ entries s.args.from = omega (arith, two.entries-for2.ensures, two.before.entries-for.ensures, c.if1.true) in
     rw e (sym (laid_none s.args.dir.now _ (entries s.args.from)))
 
-pub mend-spec : {M : Type 1} → statement M
-mend-spec =
+pub mend_spec : {M : Type 1} → statement M
+mend_spec =
     tie.close
     (tie.spec
     (λ c. search rules)

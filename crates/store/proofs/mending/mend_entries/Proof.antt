@@ -132,8 +132,8 @@ returns c =
     ∙ ap₂ (λ (n m : ℕ). laid s.args.dir.now (by_stops s.args.roll.table.code s.args.buf.now n) (entries s.args.from) m) (last_is l) e
     ∙ stops_laid s.pre.0 s.args.dir.now (entries s.args.from) s.args.upto s.pre.2
 
-pub mend-entries-spec : {M : Type 1} → statement M
-mend-entries-spec =
+pub mend_entries_spec : {M : Type 1} → statement M
+mend_entries_spec =
     tie.close
     (tie.spec
     invariant-loop

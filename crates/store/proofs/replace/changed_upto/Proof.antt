@@ -17,5 +17,5 @@ returns-3 : tie.Need-returns-3
 unfolding changed_upto
 returns-3 c = rw (eq-eqb _ _ c.before.before.if1.false, eq-eqb _ _ c.if2.false)
 
-pub changed-upto-spec : {M : Type 1} → statement M
-changed-upto-spec = tie.close (tie.spec (λ c. search rules) returns (λ c. search rules) returns-2 returns-3)
+pub changed_upto_spec : {M : Type 1} → statement M
+changed_upto_spec = tie.close (tie.spec (λ c. search rules) returns (λ c. search rules) returns-2 returns-3)

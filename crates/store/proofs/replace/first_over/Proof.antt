@@ -113,8 +113,8 @@ returns-2 c =
     let s = entered l in
     ends s l.loop.j l.loop.invariant.0 l.loop.invariant.1 (omega (arith, here l, l.loop.invariant.3)) (λ h. absurd (omega (arith, h, c.loop-test.false)))
 
-pub first-over-spec : {M : Type 1} → statement M
-first-over-spec =
+pub first_over_spec : {M : Type 1} → statement M
+first_over_spec =
     tie.close
     (tie.spec
     invariant-loop

@@ -19,8 +19,8 @@ returns-3 c =
     t.write-text.ensures
     (omega (arith, r.ordered, e.if1.false, d.if2.false))
 
-pub replace-symbols-spec : {M : Type 1} → statement M
-replace-symbols-spec =
+pub replace_symbols_spec : {M : Type 1} → statement M
+replace_symbols_spec =
     tie.close
     (tie.spec
     (λ c. search rules)

@@ -28,8 +28,8 @@ returns c =
     let s = begun w in
     rw (lent s.args.lengths.now s.args.words.now s.args.b w.wide.ensures.0) at u.add-each.ensures
 
-pub add-spelled-spec : {M : Type 1} → statement M
-add-spelled-spec =
+pub add_spelled_spec : {M : Type 1} → statement M
+add_spelled_spec =
     tie.close
     (tie.spec
     (λ c. search rules)

@@ -39,8 +39,8 @@ returns c =
     let u = c.before.before in
     rw (spelt u.before.before.before).1 at u.add.ensures
 
-pub add-word-spec : {M : Type 1} → statement M
-add-word-spec =
+pub add_word_spec : {M : Type 1} → statement M
+add_word_spec =
     tie.close
     (tie.spec
     (λ c. search rules)

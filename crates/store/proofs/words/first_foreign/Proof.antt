@@ -43,8 +43,8 @@ returns-2 c =
     let e : l.loop.i ≡ length a.text.now = omega arith in
     omega (arith, ap (λ (i : ℕ). first_where (absent a.lengths.now) (drop i a.text.now)) e, first_end (absent a.lengths.now) a.text.now, l.loop.invariant.1)
 
-pub first-foreign-spec : {M : Type 1} → statement M
-first-foreign-spec =
+pub first_foreign_spec : {M : Type 1} → statement M
+first_foreign_spec =
     tie.close
     (tie.spec
     invariant-loop

@@ -103,8 +103,8 @@ returns-2 c =
     let a = l.before.before.before.args in
     all a.lengths.now a.room a.text.now l.loop.invariant c.loop-test.false
 
-pub fitting-spec : {M : Type 1} → statement M
-fitting-spec =
+pub fitting_spec : {M : Type 1} → statement M
+fitting_spec =
     tie.close
     (tie.spec
     invariant-loop

@@ -12,5 +12,5 @@ returns-2 : tie.Need-returns-2
 unfolding goes_on
 returns-2 c = rw (le-ltb _ _ c.if1.false)
 
-pub goes-on-spec : {M : Type 1} → statement M
-goes-on-spec = tie.close (tie.spec returns returns-2)
+pub goes_on_spec : {M : Type 1} → statement M
+goes_on_spec = tie.close (tie.spec returns returns-2)

@@ -95,8 +95,8 @@ returns c =
     let l = c.before in
     record { many = l.loop.invariant.many; joins = λ b h few. l.loop.invariant.joins b (omega arith) few }
 
-pub numbers-of-spec : {M : Type 1} → statement M
-numbers-of-spec =
+pub numbers_of_spec : {M : Type 1} → statement M
+numbers_of_spec =
     tie.close
     (tie.spec
     invariant-loop

@@ -194,8 +194,8 @@ same_length c =
 same-length-2 : tie.Need-same-length-2 invariant-loop decreases-loop
 same-length-2 c = c.before.loop.invariant.long ∙ sym c.before.before.before.before.requires.3
 
-pub spell-all-spec : {M : Type 1} → statement M
-spell-all-spec =
+pub spell_all_spec : {M : Type 1} → statement M
+spell_all_spec =
     tie.close
     (tie.spec
     invariant-loop

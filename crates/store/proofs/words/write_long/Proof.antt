@@ -66,8 +66,8 @@ returns c =
     let s = begun l.before.before.before in
     f.finish.ensures ∙ finished s.pre.laid.width l.loop.g l.loop.buf ∙ all s.pre l.loop.invariant (omega arith)
 
-pub write-long-spec : {M : Type 1} → statement M
-write-long-spec =
+pub write_long_spec : {M : Type 1} → statement M
+write_long_spec =
     tie.close
     (tie.spec
     invariant-loop

@@ -62,8 +62,8 @@ returns c =
     let s = begun l.before in
     f.finish.ensures ∙ finished s.pre.laid.width l.loop.g l.loop.buf ∙ all s.pre l.loop.invariant (omega arith)
 
-pub write-short-spec : {M : Type 1} → statement M
-write-short-spec =
+pub write_short_spec : {M : Type 1} → statement M
+write_short_spec =
     tie.close
     (tie.spec
     invariant-loop

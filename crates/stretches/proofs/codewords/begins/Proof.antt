@@ -27,5 +27,5 @@ all_tests r t =
 returns : tie.Need-returns
 returns c = all_tests c.before.before.before.before.before.args.r
 
-pub begins-spec : {M : Type 1} → statement M
-begins-spec = tie.close (tie.spec returns)
+pub begins_spec : {M : Type 1} → statement M
+begins_spec = tie.close (tie.spec returns)

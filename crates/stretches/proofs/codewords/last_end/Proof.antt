@@ -11,8 +11,8 @@ invariant-loop s row from to end₀ end = end ≤ to
 abbrev decreases-loop : tie.decreases-loop
 decreases-loop s row from to end₀ end = end
 
-pub last-end-spec : {M : Type 1} → statement M
-last-end-spec =
+pub last_end_spec : {M : Type 1} → statement M
+last_end_spec =
     tie.close
     (tie.spec
     invariant-loop

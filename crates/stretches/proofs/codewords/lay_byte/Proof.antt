@@ -65,8 +65,8 @@ returns c =
     let (a, e, f, g) = l.loop.invariant in
     record { same = e; before = f; symbols = λ t h. g t (omega (arith, l.before.per-byte.ensures, c.loop-test.false)) }
 
-pub lay-byte-spec : {M : Type 1} → statement M
-lay-byte-spec =
+pub lay_byte_spec : {M : Type 1} → statement M
+lay_byte_spec =
     tie.close
     (tie.spec
     invariant-loop

@@ -68,8 +68,8 @@ returns c =
       symbols = λ i h. z.1 i (omega (arith, h, ap (λ (m : ℕ). m * p) all));
     }
 
-pub lay-bytes-spec : {M : Type 1} → statement M
-lay-bytes-spec =
+pub lay_bytes_spec : {M : Type 1} → statement M
+lay_bytes_spec =
     tie.close
     (tie.spec
     invariant-loop

@@ -14,8 +14,8 @@ returns-2 c =
     let four : s.args.k ≡ 4 = ⊎_elim (λ e. absurd (c.before.before.before.before.if1.false e)) (λ e. e) s.requires.0 in
     rw four c.before.before.lay-bytes2.ensures
 
-pub lay-out-spec : {M : Type 1} → statement M
-lay-out-spec =
+pub lay_out_spec : {M : Type 1} → statement M
+lay_out_spec =
     tie.close
     (tie.spec (λ c κs. let s = c.before.before.before.before in (inl refl, s.requires.1, s.requires.2)) (λ c. search rules) returns
     (λ c κs. let s = c.before.before.before.before in (inr refl, s.requires.1, s.requires.2)) (λ c. search rules) returns-2)

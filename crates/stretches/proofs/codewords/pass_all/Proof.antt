@@ -197,8 +197,8 @@ returns-3 c =
           (omega (arith, long, x.pre.order)) (omega (arith, n, long)) (omega (arith, n, x.pre.near, e));
     }
 
-pub pass-all-spec : {M : Type 1} → statement M
-pass-all-spec =
+pub pass_all_spec : {M : Type 1} → statement M
+pass_all_spec =
     tie.close
     (tie.spec
     invariant-loop

@@ -125,8 +125,8 @@ returns-5 c =
       silent = λ e. absurd (subst T e tt);
     }
 
-pub read-stretch-spec : {M : Type 1} → statement M
-read-stretch-spec =
+pub read_stretch_spec : {M : Type 1} → statement M
+read_stretch_spec =
     tie.close
     (tie.spec
     (λ c κs. let x = c.before.before.before in (x.requires.code, x.requires.sigma, omega (arith, x.requires.order), x.requires.inside, x.requires.long))

@@ -4,5 +4,5 @@ use borrow.Author.Tests.{lt-ltb, le-ltb}
 use Rattle.stretches.proofs.codewords.role_of.Statement.{statement}
 use Rattle.stretches.proofs.codewords.role_of.Tie as tie
 
-pub role-of-spec : {M : Type 1} → statement M
-role-of-spec = tie.close (tie.spec (λ c. rw (lt-ltb _ _ c.if1.true)) (λ c. search rules) (λ c. rw (le-ltb _ _ c.if1.false)))
+pub role_of_spec : {M : Type 1} → statement M
+role_of_spec = tie.close (tie.spec (λ c. rw (lt-ltb _ _ c.if1.true)) (λ c. search rules) (λ c. rw (le-ltb _ _ c.if1.false)))

@@ -47,8 +47,8 @@ returns c =
       stops = filled_all (stops_of a.s) 16 l.loop.stops s h;
     }
 
-pub roles-of-spec : {M : Type 1} → statement M
-roles-of-spec =
+pub roles_of_spec : {M : Type 1} → statement M
+roles_of_spec =
     tie.close
     (tie.spec
     invariant-loop

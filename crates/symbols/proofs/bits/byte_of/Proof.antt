@@ -15,5 +15,5 @@ returns : tie.Need-returns
 unfolding per
 returns c = by_width (λ k. c.args.i / 2 ^ (3 - k / 2) ≡ c.args.i / per k) c.requires refl refl
 
-pub byte-of-spec : {M : Type 1} → statement M
-byte-of-spec = tie.close (tie.spec sub-result (λ c. search rules) (λ c. search rules) returns)
+pub byte_of_spec : {M : Type 1} → statement M
+byte_of_spec = tie.close (tie.spec sub-result (λ c. search rules) (λ c. search rules) returns)

@@ -9,5 +9,5 @@ use Rattle.symbols.proofs.bits.cut_out.Tie as tie
 sub-result : tie.Need-overflow-sub-result
 sub-result c = omega (arith, one_shl 8 c.args.k c.requires.0, pow_pos c.args.k)
 
-pub cut-out-spec : {M : Type 1} → statement M
-cut-out-spec = tie.close (tie.spec (λ c. search rules) (λ c. search rules) sub-result (λ c. got 8 c.args.k c.args.low c.args.b c.requires.0))
+pub cut_out_spec : {M : Type 1} → statement M
+cut_out_spec = tie.close (tie.spec (λ c. search rules) (λ c. search rules) sub-result (λ c. got 8 c.args.k c.args.low c.args.b c.requires.0))

@@ -12,5 +12,5 @@ sub-mask c = omega (arith, one_shl 8 c.args.k c.requires.0, pow_pos c.args.k)
 returns : tie.Need-returns
 returns c = stored 8 c.args.k c.args.low c.args.b c.args.y c.requires.0 c.requires.2 c.ranges.b.fits c.requires.3
 
-pub laid-in-spec : {M : Type 1} → statement M
-laid-in-spec = tie.close (tie.spec (λ c. search rules) sub-mask (λ c. search rules) (λ c. search rules) returns)
+pub laid_in_spec : {M : Type 1} → statement M
+laid_in_spec = tie.close (tie.spec (λ c. search rules) sub-mask (λ c. search rules) (λ c. search rules) returns)

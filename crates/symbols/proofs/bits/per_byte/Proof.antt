@@ -15,5 +15,5 @@ returns : tie.Need-returns
 unfolding per
 returns c = by_width (λ k. 8 / 2 ^ (k / 2) ≡ per k) c.requires refl refl
 
-pub per-byte-spec : {M : Type 1} → statement M
-per-byte-spec = tie.close (tie.spec (λ c. search rules) shr-result returns)
+pub per_byte_spec : {M : Type 1} → statement M
+per_byte_spec = tie.close (tie.spec (λ c. search rules) shr-result returns)

@@ -18,5 +18,5 @@ returns c =
     let i = c.before.args.i in
     rw c.per-byte.ensures (by_width (λ k. bit_and i (per k - 1) ≡ i % per k) c.before.requires (and_mask i 2) (and_mask i 1))
 
-pub place-in-byte-spec : {M : Type 1} → statement M
-place-in-byte-spec = tie.close (tie.spec (λ c κs. search rules) sub-result returns)
+pub place_in_byte_spec : {M : Type 1} → statement M
+place_in_byte_spec = tie.close (tie.spec (λ c κs. search rules) sub-result returns)

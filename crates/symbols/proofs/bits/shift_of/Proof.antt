@@ -19,6 +19,6 @@ returns : tie.Need-returns
 unfolding shift
 returns c = rw c.place-in-byte.ensures (omega arith)
 
-pub shift-of-spec : {M : Type 1} → statement M
-shift-of-spec =
+pub shift_of_spec : {M : Type 1} → statement M
+shift_of_spec =
     tie.close (tie.spec (λ c. omega (arith, narrow c.requires)) (λ c κs. search rules) cast-result (λ c. omega (arith, ends c)) (λ c. omega (arith, ends c)) returns)

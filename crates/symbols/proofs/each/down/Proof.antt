@@ -65,8 +65,8 @@ returns c =
     let e : c.before.loop.i ≡ c.before.before.before.args.to = omega arith in
     rw e at c.before.loop.invariant.3
 
-pub down-spec : {M : Type 1} → statement M
-down-spec =
+pub down_spec : {M : Type 1} → statement M
+down_spec =
     tie.close
     (tie.spec
     invariant-loop

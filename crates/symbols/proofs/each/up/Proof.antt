@@ -67,8 +67,8 @@ returns c =
     let e : c.before.loop.i ≡ c.before.before.before.args.from = omega arith in
     rw e at c.before.loop.invariant.3
 
-pub up-spec : {M : Type 1} → statement M
-up-spec =
+pub up_spec : {M : Type 1} → statement M
+up_spec =
     tie.close
     (tie.spec
     invariant-loop

@@ -65,8 +65,8 @@ returns c =
     let e : l.loop.i ≡ length row = omega arith in
     rw (e, take-length) at l.loop.invariant.2
 
-pub add-each-spec : {M : Type 1} → statement M
-add-each-spec =
+pub add_each_spec : {M : Type 1} → statement M
+add_each_spec =
     tie.close
     (tie.spec
     invariant-loop

@@ -90,8 +90,8 @@ returns-2 c =
       ),
     )
 
-pub begin-spec : {M : Type 1} → statement M
-begin-spec =
+pub begin_spec : {M : Type 1} → statement M
+begin_spec =
     tie.close
     (tie.spec
     (λ c κs. search rules)

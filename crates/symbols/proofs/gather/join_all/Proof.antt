@@ -88,8 +88,8 @@ returns c =
       symbols = rw (e, take-length) at l.loop.invariant.2;
     }
 
-pub join-all-spec : {M : Type 1} → statement M
-join-all-spec =
+pub join_all_spec : {M : Type 1} → statement M
+join_all_spec =
     tie.close
     (tie.spec
     invariant-loop

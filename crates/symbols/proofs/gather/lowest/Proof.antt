@@ -16,5 +16,5 @@ returns : tie.Need-returns
 returns c =
     ap (λ (m : ℕ). bit_and c.args.bits (m - 1)) (one_shl 64 c.args.n c.requires) ∙ and_mask c.args.bits c.args.n
 
-pub lowest-spec : {M : Type 1} → statement M
-lowest-spec = tie.close (tie.spec (λ c. search rules) sub-result returns)
+pub lowest_spec : {M : Type 1} → statement M
+lowest_spec = tie.close (tie.spec (λ c. search rules) sub-result returns)

@@ -12,5 +12,5 @@ cast-result c =
     let n = c.before.args.n in
     omega (arith, c.lowest.ensures, mod-lt (c.before.args.bits / 2 ^ c.before.args.low) (pow_pos n), pow_mono c.before.requires.1)
 
-pub piece-spec : {M : Type 1} → statement M
-piece-spec = tie.close (tie.spec (λ c. search rules) (λ c κs. search rules) cast-result (λ c. search rules))
+pub piece_spec : {M : Type 1} → statement M
+piece_spec = tie.close (tie.spec (λ c. search rules) (λ c κs. search rules) cast-result (λ c. search rules))

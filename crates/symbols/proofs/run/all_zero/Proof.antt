@@ -43,7 +43,7 @@ returns-2 c =
     let e : l.loop.i ≡ s.args.to = omega arith in
     sym (l.loop.invariant.1 ∙ ap (λ (i : ℕ). all_zero (run (all s) i s.args.to)) e ∙ zero_none (all s) s.args.to)
 
-pub all-zero-spec : {M : Type 1} → statement M
-all-zero-spec =
+pub all_zero_spec : {M : Type 1} → statement M
+all_zero_spec =
     tie.close
     (tie.spec invariant-loop decreases-loop (λ c. (c.before.requires.1, refl)) get-requires returns (λ c. omega arith) (λ c. omega arith) loop-again returns-2)

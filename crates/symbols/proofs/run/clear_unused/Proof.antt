@@ -31,5 +31,5 @@ returns c =
     let a = (begun u).args in
     c.before.before.clear.ensures ∙ ap (cleared (symbols_of a.k a.buf.now) a.h) (end u)
 
-pub clear-unused-spec : {M : Type 1} → statement M
-clear-unused-spec = tie.close (tie.spec (λ c κs. search rules) add-clear clear-requires (λ c. search rules) returns)
+pub clear_unused_spec : {M : Type 1} → statement M
+clear_unused_spec = tie.close (tie.spec (λ c κs. search rules) add-clear clear-requires (λ c. search rules) returns)

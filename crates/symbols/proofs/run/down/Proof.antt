@@ -74,8 +74,8 @@ returns-2 c =
     down_more row s.args.from (last * n + by) s.args.to by two c.before.before.down4.ensures
     s.requires.1 (omega (arith, b, s.requires.1)) (omega (arith, b, s.requires.1, s.requires.2)) s.requires.3
 
-pub down-spec : {M : Type 1} → statement M
-down-spec =
+pub down_spec : {M : Type 1} → statement M
+down_spec =
     tie.close
     (tie.spec
     (λ c. search rules)

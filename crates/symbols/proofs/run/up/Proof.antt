@@ -75,8 +75,8 @@ returns-2 c =
     up_more row s.args.from (first * n - by) s.args.to by two c.before.before.up4.ensures
     (omega (arith, b)) (omega (arith, b)) s.requires.2
 
-pub up-spec : {M : Type 1} → statement M
-up-spec =
+pub up_spec : {M : Type 1} → statement M
+up_spec =
     tie.close
     (tie.spec
     (λ c. search rules)

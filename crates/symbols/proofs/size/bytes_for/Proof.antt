@@ -31,6 +31,6 @@ returns-2 c =
     ap (λ (n : ℕ). n + 1) c.before.before.byte_of.ensures
     ∙ sym (bytes_for_odd c.before.before.before.requires _ (λ e. c.if1.false (c.before.place-in-byte.ensures ∙ e)))
 
-pub bytes-for-spec : {M : Type 1} → statement M
-bytes-for-spec =
+pub bytes_for_spec : {M : Type 1} → statement M
+bytes_for_spec =
     tie.close (tie.spec (λ c κs. search rules) (λ c κs. search rules) add-result returns returns-2)

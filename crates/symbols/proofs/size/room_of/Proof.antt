@@ -44,6 +44,6 @@ returns-3 c =
     let p : n * c.before.per-byte.result ≡ n * per k = ap (λ (x : ℕ). n * x) c.before.per-byte.ensures in
     p ∙ sym (room_all k n (omega (arith, c.if2.false)))
 
-pub room-of-spec : {M : Type 1} → statement M
-room-of-spec =
+pub room_of_spec : {M : Type 1} → statement M
+room_of_spec =
     tie.close (tie.spec (λ c κs. search rules) returns (λ c κs. search rules) mul-all returns-2 returns-3)

@@ -57,8 +57,8 @@ returns-2 c =
     rw c.join.ensures
     (window_joined s.requires.0 s.args.buf.now s.args.j s.args.place s.requires.1 (c.before.shared-slice-known4.given (s.args.j + 1)).fits s.requires.2)
 
-pub window-spec : {M : Type 1} → statement M
-window-spec =
+pub window_spec : {M : Type 1} → statement M
+window_spec =
     tie.close
     (tie.spec
     shared-slice-read-result

@@ -41,8 +41,8 @@ returns c =
     let f : l.loop.i - s.args.from ≡ s.args.to - s.args.from = omega arith in
     l.loop.invariant.3 ∙ ap₂ (λ (n m : ℕ). over s.args.dir.now s.args.from (zeros n) m) f e
 
-pub clear-entries-spec : {M : Type 1} → statement M
-clear-entries-spec =
+pub clear_entries_spec : {M : Type 1} → statement M
+clear_entries_spec =
     tie.close
     (tie.spec
     invariant-loop

@@ -9,5 +9,5 @@ returns : tie.Need-returns
 unfolding entries
 returns c = refl
 
-pub entries-for-spec : {M : Type 1} → statement M
-entries-for-spec = tie.close (tie.spec (λ c. search rules) returns)
+pub entries_for_spec : {M : Type 1} → statement M
+entries_for_spec = tie.close (tie.spec (λ c. search rules) returns)

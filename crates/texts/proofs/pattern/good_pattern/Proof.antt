@@ -17,5 +17,5 @@ returns-3 : tie.Need-returns-3
 unfolding good_pattern
 returns-3 c = rw (lt-leb _ _ c.if1.false)
 
-pub good-pattern-spec : {M : Type 1} → statement M
-good-pattern-spec = tie.close (tie.spec (λ c κs. search rules) returns returns-2 returns-3)
+pub good_pattern_spec : {M : Type 1} → statement M
+good_pattern_spec = tie.close (tie.spec (λ c κs. search rules) returns returns-2 returns-3)

@@ -49,7 +49,7 @@ returns c =
     let l = c.before in
     ap not (passed l.before.args.pattern.now l.loop.met l.loop.i (omega (arith, l.loop.invariant.0, c.loop-test.false)) l.loop.invariant.1)
 
-pub of-one-line-spec : {M : Type 1} → statement M
-of-one-line-spec =
+pub of_one_line_spec : {M : Type 1} → statement M
+of_one_line_spec =
     tie.close
     (tie.spec invariant-loop decreases-loop loop-holds (λ c. omega arith) (λ c. omega arith) (λ c. omega arith) loop-again returns)

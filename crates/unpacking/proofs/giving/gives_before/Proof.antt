@@ -10,8 +10,8 @@ returns c = (c.unknown.ensures.0, λ w l f h. absurd (omega (arith, h, c.unknown
 returns-3 : tie.Need-returns-3
 returns-3 c = (c.more-gives.ensures.0, λ w l f. c.more-gives.ensures.1 w f)
 
-pub gives-before-spec : {M : Type 1} → statement M
-gives-before-spec =
+pub gives_before_spec : {M : Type 1} → statement M
+gives_before_spec =
     tie.close
     (tie.spec
     (λ c κs. search rules)

@@ -11,8 +11,8 @@ returns c =
     let z = s.requires.0 in
     kept_in g.times g.plus g.second g.third g.fourth s.requires.1 z.plus z.second z.third z.fourth
 
-pub gives-in-one-spec : {M : Type 1} → statement M
-gives-in-one-spec =
+pub gives_in_one_spec : {M : Type 1} → statement M
+gives_in_one_spec =
     tie.close
     (tie.spec
     (λ c. search rules)

@@ -82,8 +82,8 @@ returns c =
     let z : c.before.loop.t ≡ 0 = omega arith in
     (c.before.loop.invariant.1, rw z at c.before.loop.invariant.2)
 
-pub gives-of-spec : {M : Type 1} → statement M
-gives-of-spec =
+pub gives_of_spec : {M : Type 1} → statement M
+gives_of_spec =
     tie.close
     (tie.spec
     invariant-loop

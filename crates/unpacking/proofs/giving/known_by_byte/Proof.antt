@@ -37,8 +37,8 @@ loop-again c =
 returns : tie.Need-returns invariant-loop decreases-loop
 returns c = c.before.loop.invariant.2
 
-pub known-by-byte-spec : {M : Type 1} → statement M
-known-by-byte-spec =
+pub known_by_byte_spec : {M : Type 1} → statement M
+known_by_byte_spec =
     tie.close
     (tie.spec
     invariant-loop

@@ -17,5 +17,5 @@ returns-2 c =
     let o = i.before.before in
     (o.before.requires.1, λ _. rw (e.0, e.1, e.2) (o.Gives-of.ensures.1 i.if1.false))
 
-pub known-of-spec : {M : Type 1} → statement M
-known-of-spec = tie.close (tie.spec (λ c κs. search rules) returns (λ c κs. search rules) returns-2)
+pub known_of_spec : {M : Type 1} → statement M
+known_of_spec = tie.close (tie.spec (λ c κs. search rules) returns (λ c κs. search rules) returns-2)

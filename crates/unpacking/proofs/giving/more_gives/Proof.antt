@@ -56,8 +56,8 @@ returns-3 c =
       λ w f _. rw (few b, b.base-of.ensures) (spells_more s.args.code s.args.places.now s.args.y s.requires.3 (f s.requires.2)),
     )
 
-pub more-gives-spec : {M : Type 1} → statement M
-more-gives-spec =
+pub more_gives_spec : {M : Type 1} → statement M
+more_gives_spec =
     tie.close
     (tie.spec
     (λ c κs. search rules)

@@ -21,5 +21,5 @@ returns c =
           (spells_stop k s.args.places.now s.args.y s.requires.3 short (f s.requires.2)),
     )
 
-pub stop-gives-spec : {M : Type 1} → statement M
-stop-gives-spec = tie.close (tie.spec (λ c κs. search rules) (λ c κs. search rules) returns)
+pub stop_gives_spec : {M : Type 1} → statement M
+stop_gives_spec = tie.close (tie.spec (λ c κs. search rules) (λ c κs. search rules) returns)

@@ -28,5 +28,5 @@ mul_next c = let s = c.before.before in omega (arith, (next c).1, s.requires.1, 
 returns-2 : tie.Need-returns-2
 returns-2 c = (omega (arith, (next c.before).0), c.if1.false)
 
-pub border-spec : {M : Type 1} → statement M
-border-spec = tie.close (tie.spec (λ c κs. search rules) add-next (λ c κs. search rules) mul_next (λ c. search rules) returns-2)
+pub border_spec : {M : Type 1} → statement M
+border_spec = tie.close (tie.spec (λ c κs. search rules) add-next (λ c κs. search rules) mul_next (λ c. search rules) returns-2)

@@ -41,8 +41,8 @@ returns c =
     sym (take-append-drop m e.write-symbols2.new.1.1.1.1.1.1.1.1.1.1.0)
     ∙ ap₂ (λ (a b : List _). a ++ b) (wrote_end (unpacks s) z.3 z.1 z.0 z.2) (z.4 ∙ w.write_bytes.ensures.3 ∙ y.write-symbols.ensures.4)
 
-pub unpack-from-spec : {M : Type 1} → statement M
-unpack-from-spec =
+pub unpack_from_spec : {M : Type 1} → statement M
+unpack_from_spec =
     tie.close
     (tie.spec
     border-requires

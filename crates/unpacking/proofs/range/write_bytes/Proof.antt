@@ -77,8 +77,8 @@ returns-2 c =
     let e = same (half c) (known c).write_known.result.at in
     (omega (arith, e, within c), z.2, wrote_as e refl refl z.3, z.4)
 
-pub write-bytes-spec : {M : Type 1} → statement M
-write-bytes-spec =
+pub write_bytes_spec : {M : Type 1} → statement M
+write_bytes_spec =
     tie.close
     (tie.spec
     (λ c κs. width c.before.before)

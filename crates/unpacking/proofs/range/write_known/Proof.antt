@@ -182,8 +182,8 @@ loop-again c =
 returns-3 : tie.Need-returns-3 invariant-loop decreases-loop
 returns-3 c = let z = c.before.loop.invariant in (z.0, z.1, z.2, z.3, z.4)
 
-pub write-known-spec : {M : Type 1} → statement M
-write-known-spec =
+pub write_known_spec : {M : Type 1} → statement M
+write_known_spec =
     tie.close
     (tie.spec
     invariant-loop

@@ -194,8 +194,8 @@ returns-2 c =
     let z = c.before.loop.invariant in
     (z.0, z.1, λ h. absurd (omega (arith, h, c.loop-test.false)), z.2, z.3)
 
-pub write-symbols-spec : {M : Type 1} → statement M
-write-symbols-spec =
+pub write_symbols_spec : {M : Type 1} → statement M
+write_symbols_spec =
     tie.close
     (tie.spec
     invariant-loop

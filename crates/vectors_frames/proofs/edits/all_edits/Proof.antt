@@ -9,8 +9,8 @@ invariant-loop s at what text lent left₀ next₀ left next = Unit {0}
 abbrev decreases-loop : tie.decreases-loop
 decreases-loop s at what text lent left₀ next₀ left next = left
 
-pub all-edits-spec : {M : Type 1} → statement M
-all-edits-spec =
+pub all_edits_spec : {M : Type 1} → statement M
+all_edits_spec =
     tie.close
     (tie.spec
     invariant-loop

@@ -9,8 +9,8 @@ invariant-loop s at left₀ next₀ searcher₀ left next searcher = Unit {0}
 abbrev decreases-loop : tie.decreases-loop
 decreases-loop s at left₀ next₀ searcher₀ left next searcher = left
 
-pub all-pieces-spec : {M : Type 1} → statement M
-all-pieces-spec =
+pub all_pieces_spec : {M : Type 1} → statement M
+all_pieces_spec =
     tie.close
     (tie.spec
     invariant-loop

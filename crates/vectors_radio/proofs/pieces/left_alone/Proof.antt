@@ -16,8 +16,8 @@ decreases-loop slice hits many₀ i₀ many i = length slice - i
 loop-again : tie.Need-loop-preserved invariant-loop decreases-loop
 loop-again c = ⊎_elim (λ w. omega arith) (λ w. omega arith) c.if1.branch
 
-pub left-alone-spec : {M : Type 1} → statement M
-left-alone-spec =
+pub left_alone_spec : {M : Type 1} → statement M
+left_alone_spec =
     tie.close
     (tie.spec
     invariant-loop

@@ -11,8 +11,8 @@ invariant-loop slice hits i₀ t4 i = Unit {0}
 abbrev decreases-loop : tie.decreases-loop
 decreases-loop slice hits i₀ t4 i = length slice - i
 
-pub named-spec : {M : Type 1} → statement M
-named-spec =
+pub named_spec : {M : Type 1} → statement M
+named_spec =
     tie.close
     (tie.spec
     invariant-loop

@@ -101,8 +101,8 @@ decimal_out_returns_2 t c =
     let s = c.before.before.before.before.before.before in
     rw (glyph_low (s.args.n % 10) (omega arith)) (going_all s.requires.1 (going_byte s.requires.1 (behind t c)))
 
-pub +decimal-out-spec : {M : Type 1} → statement M
-+decimal-out-spec = close μ-decimal-out λ t. decimal-out-lts.spec (callees t)
+pub +decimal_out_spec : {M : Type 1} → statement M
++decimal_out_spec = close μ-decimal-out λ t. decimal-out-lts.spec (callees t)
     (decimal_out_at t)
     decimal-out.Post
     (decimal_out_cast_out t)

@@ -72,8 +72,8 @@ returns c =
     let s = l.before.before.before in
     going_all s.requires (going_as (numbers_done s.args.numbers.now l.loop.i c.loop-test.false) l.loop.invariant.1)
 
-pub numbers-out-spec : {M : Type 1} → statement M
-numbers-out-spec =
+pub numbers_out_spec : {M : Type 1} → statement M
+numbers_out_spec =
     tie.close
     (tie.spec
     invariant-loop

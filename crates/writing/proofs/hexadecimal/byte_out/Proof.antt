@@ -15,8 +15,8 @@ returns c =
     let g = going_byte h (going_byte h (going_none (hex_of s.args.b) s.args.out.now s.args.at)) in
     (refl, rw (c.before.glyph-of.ensures, c.glyph-of2.ensures) (going_all h g).1)
 
-pub byte-out-spec : {M : Type 1} → statement M
-byte-out-spec =
+pub byte_out_spec : {M : Type 1} → statement M
+byte_out_spec =
     tie.close
     (tie.spec
     (λ c κs. search rules)

@@ -108,8 +108,8 @@ returns-2 c =
     going_all s.requires
     (going_as (hex_done s.args.bytes.now l.loop.column l.loop.i c.before.loop-test.false c.if2.false) l.loop.invariant.2)
 
-pub hex-out-spec : {M : Type 1} → statement M
-hex-out-spec =
+pub hex_out_spec : {M : Type 1} → statement M
+hex_out_spec =
     tie.close
     (tie.spec
     invariant-loop

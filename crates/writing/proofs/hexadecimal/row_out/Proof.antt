@@ -44,8 +44,8 @@ returns c =
     let s = l.before.before.before in
     going_all s.requires (going_as (row_done s.args.bytes.now l.loop.i c.loop-test.false) l.loop.invariant.1)
 
-pub row-out-spec : {M : Type 1} → statement M
-row-out-spec =
+pub row_out_spec : {M : Type 1} → statement M
+row_out_spec =
     tie.close
     (tie.spec
     invariant-loop

@@ -41,8 +41,8 @@ returns c =
     let text = l.before.args.text.now in
     going_all l.before.requires (going_as (drop_of_length-le text c.loop-test.false) l.loop.invariant.1)
 
-pub text_out-spec : {M : Type 1} → statement M
-text_out-spec =
+pub text_out_spec : {M : Type 1} → statement M
+text_out_spec =
     tie.close
     (tie.spec
     invariant-loop
