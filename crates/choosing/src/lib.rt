@@ -1,4 +1,6 @@
 // Counting a text, the house ranking, and choosing a table for counts.
+#![tactic(auto)]
+
 pub mod choose;
 pub mod count;
 pub mod raising;

@@ -1,2 +1,4 @@
 // A sound roll searched where it lies.
+#![tactic(auto)]
+
 pub mod finding;

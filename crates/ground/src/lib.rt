@@ -1,5 +1,7 @@
 // What every crate stands on: the limit, the answers, and (in specs/) the refusals in their order and rows of numbers.
 
+#![tactic(auto)]
+
 pub mod answers;
 
 ghost use Rattle.std.specs.Prelude.{◌≡◌};

@@ -4,6 +4,8 @@
 //     scanning           the windows one after the other
 //     jumping            a sound roll searched; symbol by symbol where the pattern has too few for a window
 //     search_jumping     the operation, which answers and writes what the plain search does
+#![tactic(auto)]
+
 mod counting;
 mod jumping;
 mod scanning;

@@ -3,6 +3,8 @@
 // Tables, codewords, rolls and searchers come in and are answered by value, and nothing is written but what is lent: a record that grows changes no
 // signature. Beside them stand the refusal's number, 0 for accepted work, and the refusal's value or what is answered.
 
+#![tactic(auto)]
+
 mod taken;
 
 ghost use Rattle.std.specs.Prelude.{◌≡◌, length};

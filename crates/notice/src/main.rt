@@ -1,5 +1,7 @@
 // The program: standard input to the report to standard output, and nothing else.
 // The answer on any input is the answer on its first 16,450 bytes (the law first-bytes of the crate report), so no more are read.
+#![tactic(auto)]
+
 use report::program::report;
 
 fn main() {

@@ -6,6 +6,8 @@
 //     size::bytes_for, unused, room_of                bytes for symbols, symbols for bytes
 //     bits::per_byte, byte_of, place_in_byte          where a symbol stands
 // and each contract is of that row, or of those sizes. The other modules are what these are made of.
+#![tactic(auto)]
+
 pub mod bits;
 mod each;
 pub mod gather;

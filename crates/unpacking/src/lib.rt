@@ -1,3 +1,5 @@
 // Characters of a buffer's codewords, a byte at a time: which ones a byte gives is worked out once for each byte value. Read giving.rt, range.rt.
+#![tactic(auto)]
+
 pub mod giving;
 pub mod range;

@@ -3,6 +3,8 @@
 // Standard input is cases as `casebook` has them: each is the number of an operation and its arguments; 0 ends. They come in parts of 262,144
 // bytes, and no case goes over the end of a part: a comment fills it up.
 
+#![tactic(auto)]
+
 use casebook::given::{bytes, number, numbers, roll_at, table_at};
 use casebook::printed::{
     character, done, end, list, number_out, refused, rises, roll_out, runs, table_out,

@@ -5,6 +5,8 @@
 // read, and then the text with each edit, by read_frames, read_first or read_frame; read_first is lent nothing. 0 ends. They come in parts of
 // 262,144 bytes, and no case goes over the end of a part: a comment fills it up.
 
+#![tactic(auto)]
+
 mod edits;
 mod outcomes;
 

@@ -4,6 +4,8 @@
 // stands: a roll, the ten numbers of its progress, the 64 places of its pattern, the length, and what ends, high half and low
 // half. Behind either are how many pieces come, and for each its bytes and how many entries are lent for hits. 0 ends.
 
+#![tactic(auto)]
+
 mod pieces;
 mod searchers;
 
