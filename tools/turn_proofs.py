@@ -36,6 +36,16 @@ class Fn:
                     self.step[norm(so)].append(sn)
         self.loops = {norm(o): (n, vars_, ch) for ((o, n), vars_), ch in zip(d["loops"], d["changed"])}
         self.place_of_need = {new: at[1] for (old, new), at in zip(d["needs"], d["asked_at"])}
+        self.args = [(a.replace(" ", "").strip("."), b.replace(" ", "").strip(".")) for a, b in d["args"]]
+        raw = dict(self.parent)
+        self.arm = {}
+        for new, a in zip(d["places_by_name"], d["arms"]):
+            if a:
+                self.arm[new] = (a[0], a[2])
+                q = new
+                for _ in range(a[1]):
+                    q = raw.get(q)
+                self.parent[new] = q
         self.viewed = {new: bool(t) for new, t in zip(d["places_by_name"], d["typed"])}
         self.callee = {n[2][1]: n[3] for n in d["places"]}
         self.need = {}
@@ -105,12 +115,33 @@ class Fn:
                 if m.start() and (rest or v != r):
                     self.say(f"bare {m[0]} after {name}")
                 return r
+            for a, b in self.args:
+                if ".".join(segs) == a or ".".join(segs).startswith(a + "."):
+                    segs = (b + ".".join(segs)[len(a):]).split(".")
+            place = roots[r]
+            for q in self.ups(place):
+                if q not in self.arm:
+                    continue
+                name, fields = self.arm[q]
+                best = None
+                for nf, step, pth in fields:
+                    if norm(step) == norm(segs[0]) and segs[1:1 + len(pth)] == pth and pth and (best is None or len(pth) > len(best[1])):
+                        best = (nf, pth)
+                if best:
+                    return r + "." + ".".join([name, best[0]] + segs[1 + len(best[1]):])
             s = norm(segs[0])
             if s in self.step:
                 c = self.step[s]
                 if len(c) > 1:
                     self.say(f"{segs[0]}: {c}")
                 segs[0] = c[0]
+            names = CLAUSES.get(self.callee.get(segs[0]), {}).get("ensures")
+            if names and len(segs) > 2 and segs[1] == "ensures":
+                for i in range(len(names)):
+                    pth = ["1"] * i + (["0"] if i < len(names) - 1 else [])
+                    if segs[2:2 + len(pth)] == pth:
+                        segs[2:2 + len(pth)] = [names[i]]
+                        break
             if len(segs) > 2 and segs[1] in ("auto", "new") and segs[2] in "01":
                 ps = self.d["params"].get(self.callee.get(segs[0]))
                 k = segs.index("0", 2) - 2
@@ -155,9 +186,10 @@ def decls(t):
             comment.append(l)
             cur = None
             continue
-        m = sig.match(l)
-        if m or l.startswith("module ") or l.startswith("data ") or l.startswith("record "):
-            cur = ("decl", m[1] if m else None, [l], comment)
+        m = None if re.match(r"(?:pub )?(?:record|data|module) ", l) else sig.match(l)
+        if m or l.startswith("module ") or re.match(r"(?:pub )?(?:record|data) ", l):
+            r = re.match(rf"(?:pub )?(?:record|data) ({NAME})", l)
+            cur = ("decl", m[1] if m else r[1] if r else None, [l], comment)
             comment = []
             out.append(cur)
             continue
@@ -238,6 +270,20 @@ def accessors(t):
     return t
 
 
+def all_clauses():
+    """The names of clauses, by function."""
+    out = {}
+    for p in pathlib.Path("crates").glob("*/src/*.rt"):
+        mod = [] if p.stem in ("lib", "main") else [p.stem]
+        for m in re.finditer(r"(?m)^ *(?:pub )?(?:extern \"C\" )?fn (\w+)(.*?)^ *\{$", p.read_text(encoding="utf-8"), re.S | re.M):
+            d = {}
+            for k, n in re.findall(r"^ *(requires|ensures) (\w+) \{", m[2], re.M):
+                d.setdefault(k, []).append(n)
+            if d:
+                out["::".join([p.parts[1]] + mod + [m[1]])] = d
+    return out
+
+
 def named_clauses(crate):
     """The functions that have clauses with names."""
     out = set()
@@ -249,9 +295,59 @@ def named_clauses(crate):
     return out
 
 
+def as_record(b, names, fn):
+    """A tuple at the end of a body, as a record of clauses."""
+    t = b.rstrip()
+    if not t.endswith(")"):
+        fn.say("returns: no tuple to name")
+        return b
+    parts = []
+    # the bracket that ends the body
+    deep, i = 0, len(t) - 1
+    while i >= 0:
+        deep += (t[i] == ")") - (t[i] == "(")
+        if deep == 0:
+            break
+        i -= 1
+    head, tup = t[:i], t[i:]
+    if not re.search(r"(=|\bin|^)\s*$", head):
+        fn.say("returns: no tuple to name")
+        return b
+    def split(x):
+        x = x.strip()
+        if not (x.startswith("(") and x.endswith(")")):
+            return [x]
+        out, deep, cur = [], 0, ""
+        for ch in x[1:-1]:
+            if ch in "({[":
+                deep += 1
+            if ch in ")}]":
+                deep -= 1
+            if ch == "," and deep == 0:
+                out.append(cur.strip())
+                cur = ""
+            else:
+                cur += ch
+        if cur.strip():
+            out.append(cur.strip())
+        return out
+    x = split(tup)
+    while len(x) < len(names) and x[-1].startswith("("):
+        more = split(x[-1])
+        if len(more) < 2:
+            break
+        x = x[:-1] + more
+    if len(x) != len(names):
+        fn.say(f"returns: {len(x)} parts for {names}")
+        return b
+    return head.rstrip() + "\n    record { " + "; ".join(f"{n} = {v}" for n, v in zip(names, x)) + "; }"
+
+
 def turn(path, fn, modpath):
     t = accessors(path.read_text(encoding="utf-8"))
     t = re.sub(r"(?<=[\w'\])])\.pre\.(?=\d)", ".requires.", t)
+    atom = rf"(?:{NAME}(?:\.{NAME})*)"
+    t = re.sub(rf"(?<![^\s(){{}},])not-(?:true|false) {atom} ({atom})", r"\1", t)
     ds = decls(t)
     use_lines = [d[2][0] for d in ds if d[0] == "use" and not re.search(r"\.(Statement\.\{statement\}|Tie as tie)$", d[2][0])]
     head = ds[0][3] if ds and ds[0][0] != "use" else []
@@ -259,6 +355,7 @@ def turn(path, fn, modpath):
     head = first[1].rstrip("\n").split("\n") if first else []
     body = [d for d in ds if d[0] == "decl"]
     f = path.parent.name.lstrip("+")
+    fn.publics = {d[1] for d in body if re.match(r"(?:abbrev )?pub ", d[2][0])}
     spec = [d for d in body if d[1] == f + "_spec"]
     named = {d[1]: d for d in body if d[1]}
     if not spec:
@@ -359,6 +456,9 @@ def turn(path, fn, modpath):
             if mm[2]:
                 b = re.sub(r"(?<![\w.])κs(?![\w])", "c.lifetimes", b)
             b = fn.term(refer(b), {"c": fn.place_of_need[g]})
+            me = CLAUSES.get("::".join([modpath.split(".")[0]] + modpath.split(".")[2:]).replace("+", ""), {}).get("ensures")
+            if me and g.startswith("returns"):
+                b = as_record(b, me, fn)
             ans.append("\n".join(com + [f"pub {g} : goal.{g}"] + unf + [f"{g} c ={b}"]))
             continue
         # a helper
@@ -391,12 +491,33 @@ def turn(path, fn, modpath):
         b = fn.term(refer(b), {"c": fn.place_of_need[g]})
         ans.append(f"pub {g} : goal.{g}\n{g} c = {b}")
     ans = [a.replace("§", "") for a in ans]
+    # what the invariants speak of stands with them
+    moved, todo = [], [b for b in inv]
+    at = {d[1]: "\n".join(d[3] + d[2]).rstrip() for d in body if d[1] and d[1] not in goal_of and d is not spec[0] and "tie." not in "\n".join(d[2])}
+    while todo:
+        words = {m[0] for m in re.finditer(NAME, drop_comment(todo.pop()))}
+        for n in at:
+            if n in words and n not in moved:
+                moved.append(n)
+                todo.append(at[n])
+    if moved:
+        order = [d[1] for d in body if d[1] in moved]
+        first_ = []
+        for n in order:
+            x = at[n]
+            if n not in fn.publics:
+                x = re.sub(rf"(?m)^(abbrev )?(?=(?:record |data )?{re.escape(n)} )(?![^\n]* =)", r"\1pub ", x, count=1)
+            first_.append(x)
+        inv = first_ + inv
+        ans = [a for a in ans if not any(a.endswith(at[n]) for n in moved)]
+        fields = set()
+        use_lines = use_lines + [f"use Rattle.{modpath}.Invariants.{{{', '.join(order)}}}"]
     mod = f"Rattle.{modpath}"
     I = A = None
     if inv:
         b = "\n\n".join(inv)
         h = [] if ans else head
-        I = "\n".join(h + uses(use_lines, b) + [f"use {mod}.Given as goal"]) + "\n\n" + b + "\n"
+        I = "\n".join(h + [u for u in uses(use_lines, b) if f"{mod}.Invariants." not in u] + [f"use {mod}.Given as goal"]) + "\n\n" + b + "\n"
     if ans:
         b = "\n\n".join(ans)
         tie = []
@@ -425,7 +546,8 @@ def turn(path, fn, modpath):
 
 
 def main(argv):
-    global GEN, CLAUSED
+    global GEN, CLAUSED, CLAUSES
+    CLAUSES = all_clauses()
     CLAUSED = named_clauses(argv[1])
     names = json.load(open(argv[0] + "/names.json"))
     GEN = pathlib.Path(argv[0] + "-gen")

@@ -6,19 +6,19 @@ use sound::records::Roll;
 use stopper::code::even_code;
 use stopper::table::Table;
 
-#[derive(Drop)]
+#[derive(Clone, Copy)]
 pub struct Value {
     pub value: usize,
     pub next: usize,
 }
 
-#[derive(Drop)]
+#[derive(Clone, Copy)]
 pub struct TableAt {
     pub table: Table,
     pub next: usize,
 }
 
-#[derive(Drop)]
+#[derive(Clone, Copy)]
 pub struct RollAt {
     pub roll: Roll,
     pub next: usize,

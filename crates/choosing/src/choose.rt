@@ -10,7 +10,7 @@ use stopper::code::{even_code, good_width};
 use stopper::table::Table;
 
 // The table, and the symbols that its characters take under it, each as often as it counts.
-#[derive(Drop)]
+#[derive(Clone, Copy)]
 pub struct Choice {
     pub answer: Done,
     pub table: Table,

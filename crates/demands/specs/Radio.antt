@@ -187,7 +187,7 @@ came_more {s} {s'} {piece} {bytes} {after} {found} {r} w o z =
       hits = ap₂ (λ (a b : List ℕ). a ++ b) o.hits (z.hits ∙ ap (λ (x : Searcher). hits_named x bytes) o.searcher) ∙ sym (hits_append s g piece bytes);
       bytes_in_lem = λ b.
           let same : (code_in r.searcher).k ≡ (code_in s).k = ap (λ (x : Searcher). (code_in x).k) o.searcher ∙ ap (λ (x : Roll). x.table.code.k) (after_roll s piece) in
-          omega (arith, length-append piece bytes, rw same at (z.bytes-in b), o.bytes (good_came z b));
+          omega (arith, length-append piece bytes, rw same at (z.bytes_in b), o.bytes (good_came z b));
     }
 
 pub fed_came : {s s' : Searcher} {pieces : List (List ℕ)} {found : List ℕ} → Within s → FedAll s pieces found s' → Came s (flatten pieces) found s'
@@ -345,7 +345,7 @@ module _ {r : Roll} {pattern : List ℕ} {st : Started} {pieces : List (List ℕ
   came_read : p.bad ≡ 0 → (p.read ≤ r.h) × (bytes_for k p.read ≡ length bytes)
   came_read b =
       let start_of : bytes_for k 0 ≤ 0 = bytes_for_within (code_width r.table.code code) 0 0 (omega arith) in
-      (rw roll_is at (kept_judge s' came.within).1.read, omega (arith, came.bytes-in b))
+      (rw roll_is at (kept_judge s' came.within).1.read, omega (arith, came.bytes_in b))
 
   all_in : r.h ≤ room k (length bytes) → p.bad ≡ 0 → length bytes ≡ bytes_for k r.h
   all_in l b =

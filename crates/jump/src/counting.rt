@@ -11,7 +11,7 @@ use symbols::bits::{byte_of, per_byte};
 use symbols::symbol::get;
 
 // How many bytes were counted, and how many codewords end in them.
-#[derive(Drop)]
+#[derive(Clone, Copy)]
 pub struct Counted {
     pub next: usize,
     pub ended: u32,

@@ -57,7 +57,7 @@ fn is_hit(code: Code, buf: &[u8], h: usize, symbols: &[u8], a: usize) -> bool
 }
 
 // Hits found, and how far codewords are counted.
-#[derive(Drop)]
+#[derive(Clone, Copy)]
 pub struct Found {
     pub total: u32,
     pub next: usize,

@@ -9,7 +9,7 @@ use symbols::bits::{byte_of, per_byte, place_in_byte};
 
 // A window is `wide` bytes. Each alignment of the pattern fills them but for at most `free` symbols before its first; the table has
 // keys of one byte, or of two that are `back` apart, at `places` places of the window.
-#[derive(Drop)]
+#[derive(Clone, Copy)]
 pub struct Window {
     pub wide: usize,
     pub back: usize,

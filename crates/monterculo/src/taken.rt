@@ -11,21 +11,21 @@ use stopper::codeword_of::Codeword;
 use stopper::table::Table;
 
 #[repr(C)]
-#[derive(Drop)]
+#[derive(Clone, Copy)]
 pub struct Told {
     pub number: u32,
     pub value: u64,
 }
 
 #[repr(C)]
-#[derive(Drop)]
+#[derive(Clone, Copy)]
 pub struct Chosen {
     pub answer: Told,
     pub table: Table,
 }
 
 #[repr(C)]
-#[derive(Drop)]
+#[derive(Clone, Copy)]
 pub struct Coded {
     pub answer: Told,
     pub word: Codeword,
@@ -33,14 +33,14 @@ pub struct Coded {
 
 // A roll packed, edited or read.
 #[repr(C)]
-#[derive(Drop)]
+#[derive(Clone, Copy)]
 pub struct Rolled {
     pub answer: Told,
     pub roll: Roll,
 }
 
 #[repr(C)]
-#[derive(Drop)]
+#[derive(Clone, Copy)]
 pub struct Started {
     pub answer: Told,
     pub searcher: Searcher,
@@ -48,7 +48,7 @@ pub struct Started {
 
 // A piece fed: how many hits were written, with a refusal too.
 #[repr(C)]
-#[derive(Drop)]
+#[derive(Clone, Copy)]
 pub struct Fed {
     pub answer: Told,
     pub hits: usize,

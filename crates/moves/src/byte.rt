@@ -19,7 +19,7 @@ pub fn index(b: u8) -> usize
 }
 
 // A state below the bound becomes so many times as much, plus so much, and so many codewords end.
-#[derive(Drop)]
+#[derive(Clone, Copy)]
 pub struct Move {
     pub bound: u32,
     pub times: u32,

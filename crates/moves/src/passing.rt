@@ -20,7 +20,7 @@ const FIRST: usize = 1024;
 const FEW: usize = 2048;
 
 // Before some symbol: the state of the codeword that is open there, and how many codewords ended, all good.
-#[derive(Drop)]
+#[derive(Clone, Copy)]
 pub struct Way {
     pub at: usize,
     pub x: u32,

@@ -15,7 +15,7 @@ use symbols::bits::per_byte;
 use symbols::size::bytes_for;
 
 // What was answered, how many hits were written, and the searcher to go on with.
-#[derive(Drop)]
+#[derive(Clone, Copy)]
 pub struct Fed {
     pub answer: Done,
     pub hits: usize,
@@ -23,7 +23,7 @@ pub struct Fed {
 }
 
 // The symbols of a piece up to symbol `at` followed, the matcher with them, and so many hits written.
-#[derive(Drop)]
+#[derive(Clone, Copy)]
 pub struct Followed {
     pub progress: Progress,
     pub ends: u64,

@@ -10,7 +10,7 @@ use stretches::codewords::{AT_ONCE, wide};
 use texts::pattern::MOST_PATTERN;
 
 // The beginnings that end at the last character, and so many hits in all.
-#[derive(Drop)]
+#[derive(Clone, Copy)]
 pub struct Named {
     pub ends: u64,
     pub hits: usize,

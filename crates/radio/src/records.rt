@@ -5,7 +5,7 @@ use texts::pattern::MOST_PATTERN;
 // A judge and a matcher: the pattern, 0 past its length, and which of its beginnings end at the last character read, but for the
 // whole pattern: bit j is that of j + 1 characters.
 #[repr(C)]
-#[derive(Drop)]
+#[derive(Clone, Copy)]
 pub struct Searcher {
     pub judge: Judge,
     pub pattern: [u8; MOST_PATTERN],

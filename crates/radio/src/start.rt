@@ -12,7 +12,7 @@ use sound::records::Roll;
 use stopper::table::good_table;
 use texts::pattern::{MOST_PATTERN, good_pattern};
 
-#[derive(Drop)]
+#[derive(Clone, Copy)]
 pub struct Started {
     pub answer: Done,
     pub searcher: Searcher,

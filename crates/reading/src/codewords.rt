@@ -8,21 +8,21 @@ use stopper::reading::{Step, opening, read_symbol};
 use symbols::symbol::get;
 
 // A codeword: its rank, and the symbol after it; or a bad one.
-#[derive(Drop)]
+#[derive(Clone, Copy)]
 pub enum Found {
     Word(u32, usize),
     Bad,
 }
 
 // All codewords read, and how many; or the first symbol of the first bad one.
-#[derive(Drop)]
+#[derive(Clone, Copy)]
 pub enum Scan {
     Whole(usize),
     Bad(usize),
 }
 
 // The symbol after so many codewords; or the first symbol of the first bad one.
-#[derive(Drop)]
+#[derive(Clone, Copy)]
 pub enum Passed {
     At(usize),
     Bad(usize),

@@ -18,7 +18,7 @@ use store::replace::{Run, first_over, replace};
 use symbols::size::room_of;
 use texts::entries::entries_for;
 
-#[derive(Drop)]
+#[derive(Clone, Copy)]
 pub struct Edited {
     pub answer: Done,
     pub roll: Roll,

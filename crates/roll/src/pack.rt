@@ -11,7 +11,7 @@ use store::fresh::store_text;
 use store::measure::{Extent, measure};
 use symbols::size::room_of;
 
-#[derive(Drop)]
+#[derive(Clone, Copy)]
 pub struct Packed {
     pub answer: Done,
     pub roll: Roll,

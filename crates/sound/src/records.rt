@@ -2,7 +2,7 @@
 use stopper::table::Table;
 
 #[repr(C)]
-#[derive(Drop)]
+#[derive(Clone, Copy)]
 pub struct Roll {
     pub table: Table,
     pub n: u32,

@@ -21,7 +21,7 @@ module _ {one c : ℕ} where
   pub next : {i low many : ℕ} → At one c i low many → At one c (suc i) (low + many) (many * c)
   unfolding opens shorter
   next {i} a = record {
-    shorter_is = ap₂ (λ (x y : ℕ). x + y) a.shorter-is a.many_is;
+    shorter_is = ap₂ (λ (x y : ℕ). x + y) a.shorter_is a.many_is;
     many_is = rw add-sub_cancel_left (omega (arith, ap (λ (n : ℕ). n * c) a.many_is));
   }
 
@@ -30,7 +30,7 @@ module _ {one c : ℕ} where
 
   pub within : {r i low many : ℕ} → At one c i low many → low ≤ r → r < low + many → Within (one + c) (λ _. one) r i
   unfolding shorter
-  within a l h = record { above = omega (arith, a.shorter-is); below = omega (arith, a.shorter-is, a.many_is) }
+  within a l h = record { above = omega (arith, a.shorter_is); below = omega (arith, a.shorter_is, a.many_is) }
 
   -- each length has a codeword
   pub place_le : 0 < one → 0 < c → {r i : ℕ} → Within (one + c) (λ _. one) r i → i ≤ r
@@ -51,19 +51,19 @@ module _ {one c : ℕ} where
   lengths {i} {low} {many} a p k {r} l (inl e) =
       let x : ℕ = (r - low) / many in
       let b : At one c (i + x) (low + x * many) many = same e a x in
-      (within b (omega (arith, div-mul-le_self (r - low) many)) (omega (arith, lt-div-mul-add {a = r - low} p)), b.shorter-is)
+      (within b (omega (arith, div-mul-le_self (r - low) many)) (omega (arith, lt-div-mul-add {a = r - low} p)), b.shorter_is)
   lengths {i} {low} {many} a p k {r} l (inr h) = go ((r - low) / many) ((div-lt_iff_lt-mul {x = r - low} {y = 2} p).1 (omega arith)) (div-mul-le_self (r - low) many) (lt-div-mul-add {a = r - low} p)
     where
       go : (x : ℕ) → x < 2 → x * many ≤ r - low → r - low < x * many + many
           → Within (one + c) (λ _. one) r (i + x) × (low + x * many ≡ shorter (one + c) (λ _. one) (i + x))
       go zero t u v =
           let b : At one c (i + 0) (low + 0 * many) many = rw (add-zero, zero-mul, add-zero) a in
-          (within b (omega arith) (omega arith), b.shorter-is)
+          (within b (omega arith) (omega arith), b.shorter_is)
       go (suc zero) t u v =
           let n : low + many ≡ low + 1 * many = omega arith in
           let j : suc i ≡ i + 1 = omega arith in
           let b : At one c (i + 1) (low + 1 * many) (many * c) = rw (n, j) at (next a) in
-          (within b (omega arith) (omega (arith, mul-le-mul_left many k)), b.shorter-is)
+          (within b (omega arith) (omega (arith, mul-le-mul_left many k)), b.shorter_is)
       go (suc (suc x)) t u v = absurd (omega arith)
 
 -- of four base symbols or more, if c is not 1, eight codewords or more have three symbols

@@ -11,7 +11,7 @@ use crate::table::{Table, good_table};
 use ground::answers::Answer;
 
 // The rank of a row of symbols that is one codeword of a rank below sigma.
-#[derive(Drop)]
+#[derive(Clone, Copy)]
 pub enum Ranked {
     At(u32),
     Nothing,

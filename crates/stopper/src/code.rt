@@ -5,7 +5,7 @@ ghost use Rattle.stopper.specs.Paper.Table.{even_code, base, stoppers, good_widt
 ghost use Rattle.stopper.specs.Helpers.Answers.{place_of};
 
 #[repr(C)]
-#[derive(Drop)]
+#[derive(Clone, Copy)]
 pub struct Code {
     pub k: u8,
     pub s: u8,
@@ -22,7 +22,7 @@ pub fn even_code(k: u8, s: u8) -> Code
 }
 
 // Where the stopper of a codeword stands, and its rank less the number of shorter codewords.
-#[derive(Drop)]
+#[derive(Clone, Copy)]
 pub struct Place {
     pub at: u32,
     pub q: u32,
@@ -65,7 +65,7 @@ pub fn stoppers_at(code: Code, place: u32) -> u32
 }
 
 // Where the codewords of a length begin: the place of their stopper, and how many codewords are shorter.
-#[derive(Drop)]
+#[derive(Clone, Copy)]
 struct Border {
     at: u32,
     shorter: u32,

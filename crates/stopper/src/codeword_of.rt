@@ -10,13 +10,13 @@ use ground::answers::Done;
 
 // Symbols, one to a byte, 0 past the length.
 #[repr(C)]
-#[derive(Drop)]
+#[derive(Clone, Copy)]
 pub struct Codeword {
     pub length: usize,
     pub symbols: [u8; LONGEST],
 }
 
-#[derive(Drop)]
+#[derive(Clone, Copy)]
 pub struct Coded {
     pub answer: Done,
     pub word: Codeword,

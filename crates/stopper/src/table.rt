@@ -6,7 +6,7 @@ ghost use Rattle.stopper.specs.Helpers.Answers.{ranks_of};
 use crate::code::{Code, good_code};
 
 #[repr(C)]
-#[derive(Drop)]
+#[derive(Clone, Copy)]
 pub struct Table {
     pub code: Code,
     pub sigma: u16,

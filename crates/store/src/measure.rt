@@ -8,7 +8,7 @@ use crate::words::{first_foreign, fitting, spell_all};
 use stopper::table::Table;
 
 // All fit, with so many symbols; or the place of the first character that is not in the table; or, all being in it, of the first that does not fit.
-#[derive(Drop)]
+#[derive(Clone, Copy)]
 pub enum Extent {
     Fits(usize),
     Foreign(usize),

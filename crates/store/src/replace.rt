@@ -17,7 +17,7 @@ use symbols::run::{clear, clear_unused, down, up};
 use texts::entries::{clear_entries, entries_for};
 
 // Characters from start up to end, and the symbols from first up to last that they take.
-#[derive(Drop)]
+#[derive(Clone, Copy)]
 pub struct Run {
     pub start: usize,
     pub end: usize,

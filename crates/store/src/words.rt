@@ -35,7 +35,7 @@ pub fn spell_all(code: Code, sigma: u16, places: [u8; 256], lengths: &mut [u8], 
 }
 
 // How many characters from the first on are in the table and fit, and the symbols that they take.
-#[derive(Drop)]
+#[derive(Clone, Copy)]
 pub struct Fit {
     pub upto: usize,
     pub taken: usize,

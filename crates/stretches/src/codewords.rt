@@ -18,7 +18,7 @@ use symbols::symbol::get;
 pub const AT_ONCE: usize = 256;
 
 // What a symbol does: what x is taken times, and what is added; what is added for the rank; and 1 if it is a stopper.
-#[derive(Drop)]
+#[derive(Clone, Copy)]
 struct Role {
     pub times: u32,
     pub plus: u32,
@@ -27,7 +27,7 @@ struct Role {
 }
 
 // All symbols' roles.
-#[derive(Drop)]
+#[derive(Clone, Copy)]
 pub struct Roles {
     pub times: [u32; 16],
     pub plus: [u32; 16],
@@ -36,7 +36,7 @@ pub struct Roles {
 }
 
 // Whether good codewords were passed, up to symbol `to` where the last of them ends, and how many. If not, only less can be tried: what lies before `to`.
-#[derive(Drop)]
+#[derive(Clone, Copy)]
 pub struct Passed {
     pub whole: bool,
     pub to: usize,
@@ -45,7 +45,7 @@ pub struct Passed {
 
 // A stretch of symbols read up to symbol `to`: the reading state there, whether a codeword ends with its last symbol, and how many ended.
 // Not going: nothing is read, for no codeword ends well from here on.
-#[derive(Drop)]
+#[derive(Clone, Copy)]
 pub struct Stretch {
     pub going: bool,
     pub to: usize,

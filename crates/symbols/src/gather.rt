@@ -9,7 +9,7 @@ ghost use Rattle.symbols.specs.Helpers.Gathered.{digits, Joins, gathered, up_to,
 use crate::{bits, symbol};
 
 // So many symbols wait for byte `next`, as the lowest bits of a number.
-#[derive(Drop)]
+#[derive(Clone, Copy)]
 pub struct Gather {
     pub bits: u64,
     pub count: usize,

@@ -12,7 +12,7 @@ use symbols::symbol::get;
 
 // The rank of the first codeword that ends in a byte is the state so many times, plus so much; then the characters of the others, as far as there are some.
 // Nothing is known where `times` is 256.
-#[derive(Drop)]
+#[derive(Clone, Copy)]
 pub struct Gives {
     pub times: u32,
     pub plus: u32,
@@ -22,14 +22,14 @@ pub struct Gives {
 }
 
 // The move of a byte in one number, and what it gives in another.
-#[derive(Drop)]
+#[derive(Clone, Copy)]
 struct Known {
     pub go: u32,
     pub gives: u64,
 }
 
 // Those of all byte values.
-#[derive(Drop)]
+#[derive(Clone, Copy)]
 pub struct AllKnown {
     pub go: [u32; 256],
     pub gives: [u64; 256],

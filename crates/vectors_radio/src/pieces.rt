@@ -9,7 +9,7 @@ use radio::records::Searcher;
 // What lies in an entry when it is lent: more than any hit.
 const LENT: u32 = 2000000;
 
-#[derive(Drop)]
+#[derive(Clone, Copy)]
 struct Went {
     searcher: Searcher,
     next: usize,

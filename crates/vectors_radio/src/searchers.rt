@@ -4,25 +4,25 @@ use casebook::printed::{end, number_out, roll_out, runs};
 use judge::records::{Judge, Progress};
 use radio::records::Searcher;
 
-#[derive(Drop)]
+#[derive(Clone, Copy)]
 pub struct SearcherAt {
     pub searcher: Searcher,
     pub next: usize,
 }
 
-#[derive(Drop)]
+#[derive(Clone, Copy)]
 struct WordAt {
     word: u32,
     next: usize,
 }
 
-#[derive(Drop)]
+#[derive(Clone, Copy)]
 struct ProgressAt {
     progress: Progress,
     next: usize,
 }
 
-#[derive(Drop)]
+#[derive(Clone, Copy)]
 struct WideAt {
     wide: u64,
     next: usize,

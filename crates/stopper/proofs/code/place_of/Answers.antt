@@ -3,7 +3,6 @@ use mathlib.Core.Path.{◌≡◌, sym, ap, ap₂, ◌∙◌}
 use Prim.Native.Nat.{ℕ, zero, suc, ◌+◌, ◌-◌, ◌*◌, ◌≤◌, ◌<◌}
 use native.Mathlib.Nat.{zero-add, one-mul, mul-pos, mul-le-mul, le_refl}
 use native.Mathlib.Omega.{arith}
-use borrow.Author.Rules.{rules}
 use lib.Dec.{T}
 use Rattle.stopper.specs.Paper.Code.{Good, Within, opens, shorter, place}
 use Rattle.stopper.specs.Paper.Table.{base, stoppers, good_code}
@@ -14,8 +13,14 @@ use Rattle.stopper.specs.Laws.State.{stoppers_near}
 use Rattle.stopper.specs.declared.code.Code.{Code}
 use Rattle.stopper.specs.declared.code.Place.{Place}
 use Rattle.stopper.proofs.Borders.{place_le, shorter_later, within_later}
-use Rattle.stopper.proofs.code.place_of.Statement.{statement}
+use Rattle.stopper.proofs.code.place_of.Goals as goal
+use Rattle.stopper.proofs.code.place_of.Lts as lts
+use Rattle.stopper.proofs.code.place_of.Reads as reads
 use Rattle.stopper.proofs.code.place_of.Tie as tie
+
+-- what is known at these places
+abbrev After-stoppers_at-later : Type 0
+After-stoppers_at-later = lts.After-stoppers_at3 tie.the-claims reads.Pre reads.Post
 
 -- what was asked of the code: the number of base symbols, and the stoppers of the first place, the second and all later ones
 record Asked (code : Code) (m a b u : ℕ) : Type 0 where
@@ -114,72 +119,68 @@ module _ {code : Code} {m a b u : ℕ} (k : Asked code m a b u) where
         rest : (x : ℕ) → x ≤ r - a → r ≡ a + x + (r - a - x)
         rest x h = omega arith
 
-asked : (x : tie.After-stoppers-at3) → Asked x.before.before.before.before.args.code x.before.before.before.base-of.result x.before.before.stoppers-at.result
-    x.before.stoppers-at2.result x.stoppers-at3.result
+asked : (x : After-stoppers_at-later) → Asked x.args.code x.base_of-m.result x.stoppers_at-first.result
+    x.stoppers_at-second.result x.stoppers_at-later.result
 asked x = record {
-  good = x.before.before.before.before.requires.0;
-  symbols = x.before.before.before.base-of.ensures;
-  first = x.before.before.stoppers-at.ensures;
-  second = x.before.stoppers-at2.ensures;
-  later = x.stoppers-at3.ensures;
+  good = x.requires.0;
+  symbols = x.base_of-m.ensures;
+  first = x.stoppers_at-first.ensures;
+  second = x.stoppers_at-second.ensures;
+  later = x.stoppers_at-later.ensures;
 }
 
-border-of-requires : tie.Need-border-of-requires
-border-of-requires c κs =
+pub border_of-b-requires : goal.border_of-b-requires
+border_of-b-requires c =
     let s = sizes (asked c.before.before) in
-    (omega arith, omega arith, omega arith, omega arith, omega arith, c.before.before.before.before.before.before.requires.1)
+    (omega arith, omega arith, omega arith, omega arith, omega arith, c.requires.1)
 
-returns : tie.Need-returns
-returns c =
-    let x = c.before.before.before.before in
-    let b = c.before.border-of in
-    from_first (asked x) c.before.before.before.if1.true c.before.before.if2.true b.ensures
+pub returns-then-second-later : goal.returns-then-second-later
+returns-then-second-later c =
+    let b = c.border_of-b in
+    from_first (asked c.before.before.before.before) c.if-first-later.true c.if-second-later.true b.ensures
 
-returns-2 : tie.Need-returns-2
-returns-2 c = in_first (asked c.before.before) c.if3.true
+pub returns-then-rank-first : goal.returns-then-rank-first
+returns-then-rank-first c = in_first (asked c.before.before) c.if-rank-first.true
 
-returns-3 : tie.Need-returns-3
-returns-3 c = in_second (asked c.before.before.before) c.before.if3.false c.if4.true
+pub returns-then-rest-two : goal.returns-then-rest-two
+returns-then-rest-two c = in_second (asked c.before.before.before) c.if-rank-first.false c.if-rest-two.true
 
-border-of-requires-2 : tie.Need-border-of-requires-2
-border-of-requires-2 c κs =
+pub border_of-b-requires-2 : goal.border_of-b-requires-2
+border_of-b-requires-2 c =
     let k = asked c.before.before.before in
     let s = sizes k in
     (mul-pos (rows_pos k) (omega arith), three_few k, omega arith, omega arith, omega (arith, three_some k), omega arith)
 
-add-t14 : tie.Need-overflow-add-t14
-add-t14 c =
+pub overflow_add-result : goal.overflow_add-result
+overflow_add-result c =
     let k = asked c.before.before.before.before.before in
     let s = sizes k in
-    omega (arith, place_le (mul-pos (rows_pos k) (omega arith)) (omega arith) c.before.border-of2.ensures.0)
+    omega (arith, place_le (mul-pos (rows_pos k) (omega arith)) (omega arith) c.border_of-b-2.ensures.0)
 
-returns-4 : tie.Need-returns-4
-returns-4 c =
-    let x = c.before.before.before.before.before.before in
-    from_third (asked x) c.before.before.before.before.if3.false c.before.before.before.if4.false c.before.before.border-of2.ensures
+pub returns : goal.returns
+returns c =
+    from_third (asked c.before.before.before.before.before.before) c.if-rank-first.false c.if-rest-two.false c.border_of-b-2.ensures
 
-pub place_of_spec : {M : Type 1} → statement M
-place_of_spec =
-    tie.close
-    (tie.spec
-    (λ c κs. search rules)
-    (λ c κs. search rules)
-    (λ c κs. search rules)
-    (λ c κs. search rules)
-    (λ c. let s = sizes (asked c.before.before) in omega arith)
-    border-of-requires
-    (λ c. search rules)
-    returns
-    returns-2
-    (λ c. let s = sizes (asked c.before.before) in omega arith)
-    (λ c. omega (arith, two_few (asked c.before.before)))
-    returns-3
-    (λ c. let s = sizes (asked c.before.before.before) in omega arith)
-    (λ c. let s = sizes (asked c.before.before.before) in omega arith)
-    (λ c. omega (arith, rows_few (asked c.before.before.before)))
-    (λ c. omega (arith, three_few (asked c.before.before.before)))
-    (λ c. let s = sizes (asked c.before.before.before) in omega arith)
-    border-of-requires-2
-    add-t14
-    (λ c. search rules)
-    returns-4)
+pub overflow_sub-m : goal.overflow_sub-m
+overflow_sub-m c = let s = sizes (asked c.before.before) in omega arith
+
+pub overflow_sub-two : goal.overflow_sub-two
+overflow_sub-two c = let s = sizes (asked c.before.before) in omega arith
+
+pub overflow_mul-two : goal.overflow_mul-two
+overflow_mul-two c = omega (arith, two_few (asked c.before.before))
+
+pub overflow_sub-m-2 : goal.overflow_sub-m-2
+overflow_sub-m-2 c = let s = sizes (asked c.before.before.before) in omega arith
+
+pub overflow_sub-m-3 : goal.overflow_sub-m-3
+overflow_sub-m-3 c = let s = sizes (asked c.before.before.before) in omega arith
+
+pub overflow_mul-m : goal.overflow_mul-m
+overflow_mul-m c = omega (arith, rows_few (asked c.before.before.before))
+
+pub overflow_mul-m-2 : goal.overflow_mul-m-2
+overflow_mul-m-2 c = omega (arith, three_few (asked c.before.before.before))
+
+pub overflow_sub-m-4 : goal.overflow_sub-m-4
+overflow_sub-m-4 c = let s = sizes (asked c.before.before.before) in omega arith

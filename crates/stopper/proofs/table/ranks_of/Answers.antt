@@ -7,23 +7,12 @@ use native.Mathlib.Omega.{arith}
 use borrow.Author.Rules.{rules}
 use lib.ListN.{length, take, drop, get_or, set, replicate, length-replicate, get_or-replicate}
 use lib.Seq.{length-take-le, get_or-take}
-use Rattle.ground.specs.Paper.Rows.{tab}
 use Rattle.ground.specs.Laws.Rows.{length_tab, tab_at, tab_ext, tab_set}
 use Rattle.stopper.specs.Paper.Table.{rank_in}
 use Rattle.stopper.specs.Helpers.Answers.{ranks_of}
 use Rattle.stopper.specs.Laws.Characters.{rank_here, rank_next, rank_end}
-use Rattle.stopper.proofs.table.ranks_of.Statement.{statement}
-use Rattle.stopper.proofs.table.ranks_of.Tie as tie
-
--- the rank of b among the characters from place i on, counted from the first
-abbrev from : List ℕ → ℕ → ℕ → ℕ
-from l i b = i + rank_in (drop i l) b
-
-pub record Filled (places : List ℕ) (n : ℕ) (ranks : List ℕ) (i : ℕ) : Type 0 where
-  pub long : length (take n places) ≡ n
-  pub few : n ≤ 256
-  pub upto : i ≤ n
-  pub row : ranks ≡ tab (from (take n places) i) 0 256
+use Rattle.stopper.proofs.table.ranks_of.Invariants.{from, Filled}
+use Rattle.stopper.proofs.table.ranks_of.Goals as goal
 
 start : (places : List ℕ) (n : ℕ) → length places ≡ 256 → n ≤ 256 → Filled places n (replicate 256 n) n
 start places n e h =
@@ -57,19 +46,19 @@ unfolding ranks_of
 whole {places} {n} {i = zero} s h = s.row ∙ tab_ext (rank_in (take n places)) 256 _ (length_tab _ 0 256) (λ b k. tab_at _ 256 b k ∙ zero-add _)
 whole {i = suc i} s h = absurd (omega arith)
 
-abbrev invariant-loop : tie.invariant-loop
-invariant-loop sigma places ranks₀ i₀ ranks i = Filled places sigma ranks i
+pub loop-i-preserved : goal.loop-i-preserved
+loop-i-preserved c =
+    let a = c.args in
+    down (subst (Filled a.places a.sigma c.loop-i.ranks) (omega arith) c.loop-i.invariant) c.wide-b.ensures.0 c.wide-b.ensures.1
 
-abbrev decreases-loop : tie.decreases-loop
-decreases-loop sigma places ranks₀ i₀ ranks i = i
+pub loop-i-init : goal.loop-i-init
+loop-i-init c = start c.args.places c.args.sigma (search rules) c.requires
 
-loop-again : tie.Need-loop-preserved invariant-loop decreases-loop
-loop-again c =
-    let l = c.before.before in
-    let a = l.before.args in
-    down (subst (Filled a.t2 a.sigma l.loop.ranks) (omega arith) l.loop.invariant) c.wide.ensures.0 c.wide.ensures.1
+pub offset_bounds-ranks-b : goal.offset_bounds-ranks-b
+offset_bounds-ranks-b c = omega (arith, c.wide-b.ensures.1)
 
-pub ranks_of_spec : {M : Type 1} → statement M
-ranks_of_spec =
-    tie.close
-    (tie.spec invariant-loop decreases-loop (λ c. start c.args.t2 c.args.sigma (search rules) c.requires) (λ c. omega arith) (λ c. omega arith) (λ c. omega arith) (λ c κs. search rules) (λ c. omega (arith, c.wide.ensures.1)) (λ c. c.wide.ensures.1) (λ c. omega arith) loop-again (λ c. whole c.before.loop.invariant c.loop-test.false))
+pub bounds-ranks-b : goal.bounds-ranks-b
+bounds-ranks-b c = c.wide-b.ensures.1
+
+pub returns : goal.returns
+returns c = whole c.loop-i.invariant c.loop-i-test.false
