@@ -115,6 +115,7 @@ class Fn:
                 if m.start() and (rest or v != r):
                     self.say(f"bare {m[0]} after {name}")
                 return r
+            segs = [{"well-formed": "well_formed", "type-inv": "type_inv"}.get(x, x) for x in segs]
             for a, b in self.args:
                 if ".".join(segs) == a or ".".join(segs).startswith(a + "."):
                     segs = (b + ".".join(segs)[len(a):]).split(".")
@@ -395,7 +396,7 @@ def turn(path, fn, modpath):
     for n, d in named.items():
         txt = "\n".join(d[2])
         sg = txt.split("\n")[0]
-        mm = re.search(rf"\({NAME} : tie\.({NAME})", txt)
+        mm = re.search(rf"(?:\({NAME} : |^[^\n(→]* : )tie\.({NAME})", txt)
         if mm and n not in goal_of:
             fn.helpers[n] = fn.new_place.get(norm(mm[1]))
     for n, g in goal_of.items():
@@ -466,6 +467,11 @@ def turn(path, fn, modpath):
         roots = {v: None for v in []}
         for v, pl in re.findall(rf"\(({NAME}) : tie\.({NAME})", txt):
             roots[v] = fn.new_place.get(norm(pl))
+        mm = n and re.search(rf"^[^\n(→]* : tie\.({NAME})[^→\n]*→", txt)
+        if mm:
+            cl = re.search(rf"^{re.escape(n)} ({NAME})", "\n".join(txt.split("\n")[1:]), re.M)
+            if cl:
+                roots[cl[1]] = fn.new_place.get(norm(mm[1]))
         x = fn.type(txt)
         if roots:
             lines = x.split("\n")
@@ -534,10 +540,10 @@ def turn(path, fn, modpath):
                         out.append("tie.the-claims")
                     elif g.startswith("Reads"):
                         out.append("reads." + g.split(".")[1])
-                        if g.endswith(".Post") and ".".join(modpath.split(".")[2:]) in CLAUSED:
-                            out.append("tie.handed_clauses")
                     else:
                         out.append(inv.pop(0) if inv else "??")
+                if ".".join(modpath.split(".")[2:]) in CLAUSED:
+                    out.append("tie.handed_clauses")
                 ab.append(f"abbrev {new} : Type 0\n{new} = lts.{old} {' '.join(out)}")
             b = "-- what is known at these places\n" + "\n\n".join(ab) + "\n\n" + b
             tie = [f"use {mod}.Lts as lts", f"use {mod}.Reads as reads"] + ([f"use {mod}.Tie as tie"] if "tie." in b else [])

@@ -15,14 +15,8 @@ use Rattle.stopper.specs.Paper.Table.{has}
 use Rattle.stopper.specs.Laws.Characters.{◌∈◌, has_mem, mem_at}
 use Rattle.choosing.specs.Paper.Choosing.{twelve, at_least, counted}
 use Rattle.choosing.specs.Laws.Raised.{twelve_byte, twelve_least, counted_lower, counted_least, counted_one}
-use Rattle.choosing.proofs.raising.raised_of.Statement.{statement}
-use Rattle.choosing.proofs.raising.raised_of.Tie as tie
-
-pub record Upto (counts raised : List ℕ) (i : ℕ) : Type 0 where
-  pub long : length raised ≡ 256
-  pub low : (b : ℕ) → get_or counts b 0 ≤ get_or raised b 0
-  pub high : (b : ℕ) → get_or raised b 0 ≤ counted counts b
-  pub first : (j : ℕ) → j < i → 0 < get_or raised (get_or twelve j 0) 0
+use Rattle.choosing.proofs.raising.raised_of.Invariants.{Upto}
+use Rattle.choosing.proofs.raising.raised_of.Goals as goal
 
 -- what holds at each place of a row holds of its members
 each : (P : ℕ → Type 0) (l : List ℕ) → ((j : ℕ) → j < length l → P (get_or l j 0)) → (b : ℕ) → b ∈ l → P b
@@ -93,42 +87,43 @@ module _ {counts raised : List ℕ} {i : ℕ} (u : Upto counts raised i) where
           omega (arith, twelve_least b m, each (λ (y : ℕ). 0 < get_or raised y 0) twelve (λ j k. u.first j (omega (arith, twelve_long))) b m))
           (λ e. rw e (omega arith))
 
-abbrev invariant-loop : tie.invariant-loop
-invariant-loop counts twelve raised₀ i₀ raised i = Upto counts raised i
-
-abbrev decreases-loop : tie.decreases-loop
-decreases-loop counts twelve raised₀ i₀ raised i = 12 - i
-
 -- the array is the row
 byte : (i : ℕ) → i < 12 → get_or (10 ∷ 43 ∷ 48 ∷ 49 ∷ 50 ∷ 51 ∷ 52 ∷ 53 ∷ 54 ∷ 55 ∷ 56 ∷ 57 ∷ []) i 0 < 256
 unfolding twelve
 byte i h = twelve_byte (get_or twelve i 0) (mem_at twelve i h)
 
-loop-again : tie.Need-loop-preserved invariant-loop decreases-loop
+pub loop-i-preserved : goal.loop-i-preserved
 unfolding twelve
-loop-again c =
-    let l = c.before.before in
-    let h = c.before.loop-test.true in
+loop-i-preserved c =
+    let h = c.loop-i-test.true in
     ⊎_elim
-    (λ w. rw w.1 (lifted l.loop.invariant h w.0.taken))
-    (λ w. rw w.1 (kept l.loop.invariant h (omega (arith, w.0.left))))
-    c.if1.branch
+    (λ w. rw w.1 (lifted c.loop-i.invariant h w.0.taken))
+    (λ w. rw w.1 (kept c.loop-i.invariant h (omega (arith, w.0.left))))
+    c.if-raised-b-eq0.branch
 
-pub raised_of_spec : {M : Type 1} → statement M
-raised_of_spec =
-    tie.close
-    (tie.spec
-    invariant-loop
-    decreases-loop
-    (λ c κs. c.before.before.before.requires)
-    (λ c. start c.copy_of.ensures c.before.before.before.before.requires)
-    (λ c. c.loop-test.true)
-    (λ c. omega (arith, byte c.before.loop.i c.loop-test.true))
-    (λ c. omega (arith, byte c.before.loop.i c.loop-test.true))
-    (λ c. byte c.before.loop.i c.loop-test.true)
-    (λ c. omega (arith, byte c.before.before.loop.i c.before.loop-test.true))
-    (λ c. byte c.before.before.loop.i c.before.loop-test.true)
-    (λ c. omega arith)
-    (λ c. omega arith)
-    loop-again
-    (λ c. done c.before.loop.invariant c.loop-test.false))
+pub copy_of-raised-requires : goal.copy_of-raised-requires
+copy_of-raised-requires c = c.requires
+
+pub loop-i-init : goal.loop-i-init
+loop-i-init c = start c.copy_of-raised.ensures c.requires
+
+pub bounds-twelve-i : goal.bounds-twelve-i
+bounds-twelve-i c = c.loop-i-test.true
+
+pub overflow_cast-b : goal.overflow_cast-b
+overflow_cast-b c = omega (arith, byte c.loop-i.i c.loop-i-test.true)
+
+pub offset_bounds-raised-b : goal.offset_bounds-raised-b
+offset_bounds-raised-b c = omega (arith, byte c.loop-i.i c.loop-i-test.true)
+
+pub bounds-raised-b : goal.bounds-raised-b
+bounds-raised-b c = byte c.loop-i.i c.loop-i-test.true
+
+pub offset_bounds-raised-b-then-raised-b-eq0 : goal.offset_bounds-raised-b-then-raised-b-eq0
+offset_bounds-raised-b-then-raised-b-eq0 c = omega (arith, byte c.loop-i.i c.loop-i-test.true)
+
+pub bounds-raised-b-then-raised-b-eq0 : goal.bounds-raised-b-then-raised-b-eq0
+bounds-raised-b-then-raised-b-eq0 c = byte c.loop-i.i c.loop-i-test.true
+
+pub returns : goal.returns
+returns c = done c.loop-i.invariant c.loop-i-test.false

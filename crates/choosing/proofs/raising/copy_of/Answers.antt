@@ -6,12 +6,8 @@ use native.Mathlib.Decide.{ℕ_discrete}
 use native.Mathlib.Omega.{arith}
 use lib.ListN.{length, get_or, set, length-set}
 use lib.Seq.{ext_get_or, get_or-set_same, get_or-set_other}
-use Rattle.choosing.proofs.raising.copy_of.Statement.{statement}
-use Rattle.choosing.proofs.raising.copy_of.Tie as tie
-
-pub record Upto (counts copy : List ℕ) (i : ℕ) : Type 0 where
-  pub long : length copy ≡ 256
-  pub below : (j : ℕ) → j < i → get_or copy j 0 ≡ get_or counts j 0
+use Rattle.choosing.proofs.raising.copy_of.Invariants.{Upto}
+use Rattle.choosing.proofs.raising.copy_of.Goals as goal
 
 module _ {counts copy : List ℕ} {i : ℕ} (u : Upto counts copy i) where
   next : {n : ℕ} → i < 256 → n ≡ get_or counts i 0 → Upto counts (set copy i n) (i + 1)
@@ -24,24 +20,17 @@ module _ {counts copy : List ℕ} {i : ℕ} (u : Upto counts copy i) where
   done : length counts ≡ 256 → 256 ≤ i → copy ≡ counts
   done l h = ext_get_or 0 copy counts (u.long ∙ sym l) (λ j k. u.below j (omega (arith, u.long)))
 
-abbrev invariant-loop : tie.invariant-loop
-invariant-loop counts copy₀ i₀ copy i = Upto counts copy i
+pub loop-i-init : goal.loop-i-init
+loop-i-init c = record { long = refl; below = λ j k. absurd (omega arith) }
 
-abbrev decreases-loop : tie.decreases-loop
-decreases-loop counts copy₀ i₀ copy i = 256 - i
+pub bounds-counts-i : goal.bounds-counts-i
+bounds-counts-i c = omega (arith, c.requires)
 
-pub copy_of_spec : {M : Type 1} → statement M
-copy_of_spec =
-    tie.close
-    (tie.spec
-    invariant-loop
-    decreases-loop
-    (λ c. record { long = refl; below = λ j k. absurd (omega arith) })
-    (λ c. omega arith)
-    (λ c. omega (arith, c.before.before.before.requires))
-    (λ c. omega arith)
-    (λ c. c.before.loop-test.true)
-    (λ c. omega arith)
-    (λ c. omega arith)
-    (λ c. next c.before.before.loop.invariant c.before.loop-test.true refl)
-    (λ c. done c.before.loop.invariant c.before.before.requires c.loop-test.false))
+pub bounds-copy-i : goal.bounds-copy-i
+bounds-copy-i c = c.loop-i-test.true
+
+pub loop-i-preserved : goal.loop-i-preserved
+loop-i-preserved c = next c.loop-i.invariant c.loop-i-test.true refl
+
+pub returns : goal.returns
+returns c = done c.loop-i.invariant c.requires c.loop-i-test.false
