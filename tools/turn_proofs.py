@@ -38,6 +38,7 @@ class Fn:
         self.place_of_need = {new: at[1] for (old, new), at in zip(d["needs"], d["asked_at"])}
         self.args = [(a.replace(" ", "").strip("."), b.replace(" ", "").strip(".")) for a, b in d["args"]]
         raw = dict(self.parent)
+        self.raw = raw
         self.arm = {}
         for new, a in zip(d["places_by_name"], d["arms"]):
             if a:
@@ -60,9 +61,10 @@ class Fn:
 
     def ups(self, place):
         out = []
+        chain = self.raw if self.in_helper in self.lifted else self.parent
         while place:
             out.append(place)
-            place = self.parent.get(place)
+            place = chain.get(place)
         return out
 
     def away(self, frm, to):
@@ -116,6 +118,13 @@ class Fn:
                     self.say(f"bare {m[0]} after {name}")
                 return r
             segs = [{"well-formed": "well_formed", "type-inv": "type_inv"}.get(x, x) for x in segs]
+            if segs[0] == "pre":
+                segs[0] = "requires"
+            if len(segs) > 1:
+                if re.match(r"if\d|.*-test$", segs[0]):
+                    segs[1] = {"taken": "true", "left": "false"}.get(segs[1], segs[1])
+                elif segs[0] not in ("args", "requires"):
+                    segs[1] = {"inv": "invariant", "post": "ensures"}.get(segs[1], segs[1])
             for a, b in self.args:
                 if ".".join(segs) == a or ".".join(segs).startswith(a + "."):
                     segs = (b + ".".join(segs)[len(a):]).split(".")
@@ -472,6 +481,15 @@ def turn(path, fn, modpath):
             cl = re.search(rf"^{re.escape(n)} ({NAME})", "\n".join(txt.split("\n")[1:]), re.M)
             if cl:
                 roots[cl[1]] = fn.new_place.get(norm(mm[1]))
+        sg, cl = txt.split("\n")[0], re.search(rf"^{re.escape(n or '?')} ([^=]*?) =(?= |$)", "\n".join(txt.split("\n")[1:]), re.M)
+        if cl and roots:
+            binders = [b for m_ in re.finditer(rf"\(((?:{NAME} )+):", txt.split("=")[0]) for b in m_[1].split()]
+            for b, v in zip(binders, cl[1].split()):
+                if b in roots and v != b:
+                    roots[v] = roots[b]
+        for v, pl in roots.items():
+            if pl in fn.arm and n in fn.lifted:
+                fn.say(f"helper {n} at an arm {pl}")
         x = fn.type(txt)
         if roots:
             lines = x.split("\n")
