@@ -557,14 +557,14 @@ def turn(path, fn, modpath):
                     if g == "the-claims":
                         out.append("tie.the-claims")
                     elif g.startswith("Reads"):
-                        out.append("reads." + g.split(".")[1])
+                        out.append("Clauses." + g.split(".")[1])
                     else:
                         out.append(inv.pop(0) if inv else "??")
                 if ".".join(modpath.split(".")[2:]) in CLAUSED:
                     out.append("tie.handed_clauses")
-                ab.append(f"abbrev {new} : Type 0\n{new} = lts.{old} {' '.join(out)}")
+                ab.append(f"abbrev {new} : Type 0\n{new} = Places.{old} {' '.join(out)}")
             b = "-- what is known at these places\n" + "\n\n".join(ab) + "\n\n" + b
-            tie = [f"use {mod}.Lts as lts", f"use {mod}.Reads as reads"] + ([f"use {mod}.Tie as tie"] if "tie." in b else [])
+            tie = [f"use {mod}.Lts as Places", f"use {mod}.Reads as Clauses"] + ([f"use {mod}.Tie as tie"] if "tie." in b else [])
         A = "\n".join(head + uses(use_lines, b) + [f"use {mod}.Goals as goal"] + tie) + "\n\n" + b + "\n"
     return I, A, fn.said
 

@@ -14,16 +14,16 @@ use Rattle.choosing.specs.Laws.Accepting.{chooses_is}
 use Rattle.choosing.specs.Laws.Operations.{choose_refused, raised_ranking, raised_best, choose_yes}
 use Rattle.choosing.specs.declared.ranking.Ranking.{Ranking}
 use Rattle.choosing.proofs.choose.choose.Goals as goal
-use Rattle.choosing.proofs.choose.choose.Lts as lts
-use Rattle.choosing.proofs.choose.choose.Reads as reads
+use Rattle.choosing.proofs.choose.choose.Lts as Places
+use Rattle.choosing.proofs.choose.choose.Reads as Clauses
 use Rattle.choosing.proofs.choose.choose.Tie as tie
 
 -- what is known at these places
 abbrev Else-not-good_width : Type 0
-Else-not-good_width = lts.Else1 tie.the-claims reads.Pre reads.Post
+Else-not-good_width = Places.Else1 tie.the-claims Clauses.Pre Clauses.Post
 
 abbrev After-raised_of-raised : Type 0
-After-raised_of-raised = lts.After-raised_of tie.the-claims reads.Pre reads.Post
+After-raised_of-raised = Places.After-raised_of tie.the-claims Clauses.Pre Clauses.Post
 
 pub returns-then-not-good_width : goal.returns-then-not-good_width
 unfolding choose_says

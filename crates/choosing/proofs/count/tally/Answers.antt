@@ -14,15 +14,15 @@ use Rattle.ground.specs.Laws.Rows.{length_zeros, tab_at, tab_zeros, tab_set}
 use Rattle.choosing.specs.Paper.Choosing.{occurs, counts_of}
 use Rattle.choosing.specs.Laws.Counting.{occurs_none, occurs_more, occurs_le}
 use Rattle.choosing.proofs.count.tally.Goals as goal
-use Rattle.choosing.proofs.count.tally.Lts as lts
-use Rattle.choosing.proofs.count.tally.Reads as reads
+use Rattle.choosing.proofs.count.tally.Lts as Places
+use Rattle.choosing.proofs.count.tally.Reads as Clauses
 
 -- what is known at these places
 abbrev At-loop-i : Type 0
-At-loop-i = lts.At-loop reads.Pre reads.Post goal.the-invariant-loop-i goal.the-decreases-loop-i
+At-loop-i = Places.At-loop Clauses.Pre Clauses.Post goal.the-invariant-loop-i goal.the-decreases-loop-i
 
 abbrev After-shared_slice_known-1 : Type 0
-After-shared_slice_known-1 = lts.After-shared_slice_known reads.Pre reads.Post goal.the-invariant-loop-i goal.the-decreases-loop-i
+After-shared_slice_known-1 = Places.After-shared_slice_known Clauses.Pre Clauses.Post goal.the-invariant-loop-i goal.the-decreases-loop-i
 
 -- the text, and the character in hand
 abbrev text : At-loop-i → List ℕ

@@ -17,22 +17,22 @@ use Rattle.symbols.specs.Laws.Rows.{symbols_below}
 use Rattle.reading.specs.Paper.Reading.{row_upto}
 use Rattle.reading.specs.Laws.Codewords.{word_found, none_found}
 use Rattle.reading.proofs.codewords.codeword_at.Goals as goal
-use Rattle.reading.proofs.codewords.codeword_at.Lts as lts
-use Rattle.reading.proofs.codewords.codeword_at.Reads as reads
+use Rattle.reading.proofs.codewords.codeword_at.Lts as Places
+use Rattle.reading.proofs.codewords.codeword_at.Reads as Clauses
 use Rattle.reading.proofs.codewords.codeword_at.Tie as tie
 
 -- what is known at these places
 abbrev Start : Type 0
-Start = lts.Start tie.the-claims reads.Pre reads.Post goal.the-invariant-loop-i goal.the-decreases-loop-i
+Start = Places.Start tie.the-claims Clauses.Pre Clauses.Post goal.the-invariant-loop-i goal.the-decreases-loop-i
 
 abbrev In-loop-i : Type 0
-In-loop-i = lts.In-loop tie.the-claims reads.Pre reads.Post goal.the-invariant-loop-i goal.the-decreases-loop-i
+In-loop-i = Places.In-loop tie.the-claims Clauses.Pre Clauses.Post goal.the-invariant-loop-i goal.the-decreases-loop-i
 
 abbrev After-get-y : Type 0
-After-get-y = lts.After-get tie.the-claims reads.Pre reads.Post goal.the-invariant-loop-i goal.the-decreases-loop-i
+After-get-y = Places.After-get tie.the-claims Clauses.Pre Clauses.Post goal.the-invariant-loop-i goal.the-decreases-loop-i
 
 abbrev After-read_symbol-next : Type 0
-After-read_symbol-next = lts.After-read_symbol tie.the-claims reads.Pre reads.Post goal.the-invariant-loop-i goal.the-decreases-loop-i
+After-read_symbol-next = Places.After-read_symbol tie.the-claims Clauses.Pre Clauses.Post goal.the-invariant-loop-i goal.the-decreases-loop-i
 
 -- all symbols, those up to h, and of these the ones from p on
 abbrev all : (c : Start) → List ℕ

@@ -9,13 +9,13 @@ use Rattle.reading.specs.Paper.Reading.{row_upto}
 use Rattle.reading.specs.Laws.Codewords.{found_word}
 use Rattle.reading.specs.Laws.Passed.{pass_word, pass_bad, pass_none}
 use Rattle.reading.proofs.codewords.pass_over.Goals as goal
-use Rattle.reading.proofs.codewords.pass_over.Lts as lts
-use Rattle.reading.proofs.codewords.pass_over.Reads as reads
+use Rattle.reading.proofs.codewords.pass_over.Lts as Places
+use Rattle.reading.proofs.codewords.pass_over.Reads as Clauses
 use Rattle.reading.proofs.codewords.pass_over.Tie as tie
 
 -- what is known at these places
 abbrev Start : Type 0
-Start = lts.Start tie.the-claims reads.Pre reads.Post goal.the-invariant-loop-left goal.the-decreases-loop-left
+Start = Places.Start tie.the-claims Clauses.Pre Clauses.Post goal.the-invariant-loop-left goal.the-decreases-loop-left
 
 abbrev row : (c : Start) → List ℕ
 row c = row_upto c.args.code c.args.h c.args.buf.now

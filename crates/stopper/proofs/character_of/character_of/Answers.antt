@@ -8,13 +8,13 @@ use Rattle.stopper.specs.Paper.Operations.{word_in, character_says}
 use Rattle.stopper.specs.Laws.Table.{is_good, table_code, table_few}
 use Rattle.stopper.specs.Laws.Operations.{rank_below, character_none, character_read}
 use Rattle.stopper.proofs.character_of.character_of.Goals as goal
-use Rattle.stopper.proofs.character_of.character_of.Lts as lts
-use Rattle.stopper.proofs.character_of.character_of.Reads as reads
+use Rattle.stopper.proofs.character_of.character_of.Lts as Places
+use Rattle.stopper.proofs.character_of.character_of.Reads as Clauses
 use Rattle.stopper.proofs.character_of.character_of.Tie as tie
 
 -- what is known at these places
 abbrev Else-not-good_table : Type 0
-Else-not-good_table = lts.Else1 tie.the-claims reads.Pre reads.Post
+Else-not-good_table = Places.Else1 tie.the-claims Clauses.Pre Clauses.Post
 
 good : (c : Else-not-good_table) → good_table c.args.table ≡ true
 good c = sym c.good_table.ensures ∙ c.if-not-good_table.false

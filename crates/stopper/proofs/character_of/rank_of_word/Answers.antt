@@ -10,16 +10,16 @@ use Rattle.stopper.specs.Paper.Table.{longest}
 use Rattle.stopper.specs.Laws.Seen.{seen_none, seen_small, seen_open}
 use Rattle.stopper.proofs.Words.{ended, too_big, is_bad_lem, is_rank}
 use Rattle.stopper.proofs.character_of.rank_of_word.Goals as goal
-use Rattle.stopper.proofs.character_of.rank_of_word.Lts as lts
-use Rattle.stopper.proofs.character_of.rank_of_word.Reads as reads
+use Rattle.stopper.proofs.character_of.rank_of_word.Lts as Places
+use Rattle.stopper.proofs.character_of.rank_of_word.Reads as Clauses
 use Rattle.stopper.proofs.character_of.rank_of_word.Tie as tie
 
 -- what is known at these places
 abbrev Start : Type 0
-Start = lts.Start tie.the-claims reads.Pre reads.Post goal.the-invariant-loop-i goal.the-decreases-loop-i
+Start = Places.Start tie.the-claims Clauses.Pre Clauses.Post goal.the-invariant-loop-i goal.the-decreases-loop-i
 
 abbrev In-loop-i : Type 0
-In-loop-i = lts.In-loop tie.the-claims reads.Pre reads.Post goal.the-invariant-loop-i goal.the-decreases-loop-i
+In-loop-i = Places.In-loop tie.the-claims Clauses.Pre Clauses.Post goal.the-invariant-loop-i goal.the-decreases-loop-i
 
 -- the symbols up to the length, and the one in hand
 abbrev word : (c : Start) → List ℕ

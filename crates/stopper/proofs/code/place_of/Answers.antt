@@ -14,13 +14,13 @@ use Rattle.stopper.specs.declared.code.Code.{Code}
 use Rattle.stopper.specs.declared.code.Place.{Place}
 use Rattle.stopper.proofs.Borders.{place_le, shorter_later, within_later}
 use Rattle.stopper.proofs.code.place_of.Goals as goal
-use Rattle.stopper.proofs.code.place_of.Lts as lts
-use Rattle.stopper.proofs.code.place_of.Reads as reads
+use Rattle.stopper.proofs.code.place_of.Lts as Places
+use Rattle.stopper.proofs.code.place_of.Reads as Clauses
 use Rattle.stopper.proofs.code.place_of.Tie as tie
 
 -- what is known at these places
 abbrev After-stoppers_at-later : Type 0
-After-stoppers_at-later = lts.After-stoppers_at3 tie.the-claims reads.Pre reads.Post
+After-stoppers_at-later = Places.After-stoppers_at3 tie.the-claims Clauses.Pre Clauses.Post
 
 -- what was asked of the code: the number of base symbols, and the stoppers of the first place, the second and all later ones
 record Asked (code : Code) (m a b u : ℕ) : Type 0 where

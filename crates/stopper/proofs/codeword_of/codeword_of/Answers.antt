@@ -17,19 +17,19 @@ use Rattle.stopper.specs.Laws.Characters.{has_rank}
 use Rattle.stopper.specs.Laws.Accepting.{codes_is}
 use Rattle.stopper.specs.Laws.Operations.{codeword_refused, codeword_yes}
 use Rattle.stopper.proofs.codeword_of.codeword_of.Goals as goal
-use Rattle.stopper.proofs.codeword_of.codeword_of.Lts as lts
-use Rattle.stopper.proofs.codeword_of.codeword_of.Reads as reads
+use Rattle.stopper.proofs.codeword_of.codeword_of.Lts as Places
+use Rattle.stopper.proofs.codeword_of.codeword_of.Reads as Clauses
 use Rattle.stopper.proofs.codeword_of.codeword_of.Tie as tie
 
 -- what is known at these places
 abbrev Start : Type 0
-Start = lts.Start tie.the-claims reads.Pre reads.Post tie.handed_clauses
+Start = Places.Start tie.the-claims Clauses.Pre Clauses.Post tie.handed_clauses
 
 abbrev Else-not-good_table : Type 0
-Else-not-good_table = lts.Else1 tie.the-claims reads.Pre reads.Post tie.handed_clauses
+Else-not-good_table = Places.Else1 tie.the-claims Clauses.Pre Clauses.Post tie.handed_clauses
 
 abbrev After-rank_of-rank : Type 0
-After-rank_of-rank = lts.After-rank_of tie.the-claims reads.Pre reads.Post tie.handed_clauses
+After-rank_of-rank = Places.After-rank_of tie.the-claims Clauses.Pre Clauses.Post tie.handed_clauses
 
 long : (c : Start) → length c.args.table.places ≡ 256
 long c = search rules

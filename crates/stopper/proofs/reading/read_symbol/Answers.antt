@@ -9,16 +9,16 @@ use Rattle.stopper.specs.declared.reading.Reader.{Reader}
 use Rattle.stopper.specs.declared.reading.Step.{Step}
 use Rattle.stopper.specs.declared.reading.Step.TheVariants.{Open}
 use Rattle.stopper.proofs.reading.read_symbol.Goals as goal
-use Rattle.stopper.proofs.reading.read_symbol.Lts as lts
-use Rattle.stopper.proofs.reading.read_symbol.Reads as reads
+use Rattle.stopper.proofs.reading.read_symbol.Lts as Places
+use Rattle.stopper.proofs.reading.read_symbol.Reads as Clauses
 use Rattle.stopper.proofs.reading.read_symbol.Tie as tie
 
 -- what is known at these places
 abbrev After-stoppers_at-s : Type 0
-After-stoppers_at-s = lts.After-stoppers_at tie.the-claims reads.Pre reads.Post
+After-stoppers_at-s = Places.After-stoppers_at tie.the-claims Clauses.Pre Clauses.Post
 
 abbrev After-base_of : Type 0
-After-base_of = lts.After-base_of tie.the-claims reads.Pre reads.Post
+After-base_of = Places.After-base_of tie.the-claims Clauses.Pre Clauses.Post
 
 -- before a rank is worked out, and before the next state is
 small : (c : After-stoppers_at-s) → (m : ℕ) → m ≡ base c.args.code → Sizes m c.stoppers_at-s.result c.args.r

@@ -8,13 +8,13 @@ use Rattle.stopper.specs.Laws.Table.{code_base, code_good, length_place}
 use Rattle.stopper.specs.declared.code.Place.{Place}
 use Rattle.stopper.proofs.Spelling.{written}
 use Rattle.stopper.proofs.word.spell_word.Goals as goal
-use Rattle.stopper.proofs.word.spell_word.Lts as lts
-use Rattle.stopper.proofs.word.spell_word.Reads as reads
+use Rattle.stopper.proofs.word.spell_word.Lts as Places
+use Rattle.stopper.proofs.word.spell_word.Reads as Clauses
 use Rattle.stopper.proofs.word.spell_word.Tie as tie
 
 -- what is known at these places
 abbrev After-stoppers_at-s : Type 0
-After-stoppers_at-s = lts.After-stoppers_at tie.the-claims reads.Pre reads.Post tie.handed_clauses
+After-stoppers_at-s = Places.After-stoppers_at tie.the-claims Clauses.Pre Clauses.Post tie.handed_clauses
 
 -- there are stoppers, fewer than 16
 some : (c : goal.After-stoppers_at-s) → (0 < c.stoppers_at-s.result) × (c.stoppers_at-s.result < 16)

@@ -10,13 +10,13 @@ use Rattle.symbols.specs.Helpers.Gathered.{digits, gathered}
 use Rattle.symbols.specs.Laws.Gathered.{digits_length, bits_under, joined_small, waiting_more}
 use Rattle.symbols.specs.Laws.Width.{by_width, per_few}
 use Rattle.symbols.proofs.gather.add.Goals as goal
-use Rattle.symbols.proofs.gather.add.Lts as lts
-use Rattle.symbols.proofs.gather.add.Reads as reads
+use Rattle.symbols.proofs.gather.add.Lts as Places
+use Rattle.symbols.proofs.gather.add.Reads as Clauses
 use Rattle.symbols.proofs.gather.add.Tie as tie
 
 -- what is known at these places
 abbrev Start : Type 0
-Start = lts.Start tie.the-claims reads.Pre reads.Post
+Start = Places.Start tie.the-claims Clauses.Pre Clauses.Post
 
 -- the bits of the row, and of all that wait
 few : (c : Start) → c.args.k * c.args.count ≤ 32
@@ -61,13 +61,12 @@ returns-then-all-per_byte c =
     }
 
 pub store-requires : goal.store-requires
-store-requires c =
-    (
-      c.requires.0,
-      omega (arith, c.requires.1.few, c.per_byte.ensures, many c.before.before.before.before.before.before.before),
-      rw (shifted c.before.before.before.before.before.before.before) (small c.before.before.before.before.before.before.before),
-      omega (arith, c.requires.1.within),
-    )
+store-requires c = (
+  c.requires.0,
+  omega (arith, c.requires.1.few, c.per_byte.ensures, many c.before.before.before.before.before.before.before),
+  rw (shifted c.before.before.before.before.before.before.before) (small c.before.before.before.before.before.before.before),
+  omega (arith, c.requires.1.within),
+)
 
 pub returns : goal.returns
 unfolding gathered

@@ -12,16 +12,16 @@ use Rattle.symbols.specs.Laws.Gathered.{bits_under, begun}
 use Rattle.symbols.specs.Laws.Rows.{starts_within, symbols_take}
 use Rattle.symbols.specs.Laws.Width.{per_pos, per_few, wide}
 use Rattle.symbols.proofs.gather.begin.Goals as goal
-use Rattle.symbols.proofs.gather.begin.Lts as lts
-use Rattle.symbols.proofs.gather.begin.Reads as reads
+use Rattle.symbols.proofs.gather.begin.Lts as Places
+use Rattle.symbols.proofs.gather.begin.Reads as Clauses
 use Rattle.symbols.proofs.gather.begin.Tie as tie
 
 -- what is known at these places
 abbrev After-place_in_byte-count : Type 0
-After-place_in_byte-count = lts.After-place_in_byte tie.the-claims reads.Pre reads.Post tie.handed_clauses
+After-place_in_byte-count = Places.After-place_in_byte tie.the-claims Clauses.Pre Clauses.Post tie.handed_clauses
 
 abbrev Else-count-eq0 : Type 0
-Else-count-eq0 = lts.Else1 tie.the-claims reads.Pre reads.Post tie.handed_clauses
+Else-count-eq0 = Places.Else1 tie.the-claims Clauses.Pre Clauses.Post tie.handed_clauses
 
 -- the place is within the byte
 within : (c : After-place_in_byte-count) → c.place_in_byte-count.result < per c.args.k

@@ -14,16 +14,16 @@ use Rattle.symbols.specs.Laws.Gathered.{digits_length, bits_under, laid_more}
 use Rattle.symbols.specs.Laws.Rows.{symbols_even}
 use Rattle.symbols.specs.Laws.Width.{narrow}
 use Rattle.symbols.proofs.gather.finish.Goals as goal
-use Rattle.symbols.proofs.gather.finish.Lts as lts
-use Rattle.symbols.proofs.gather.finish.Reads as reads
+use Rattle.symbols.proofs.gather.finish.Lts as Places
+use Rattle.symbols.proofs.gather.finish.Reads as Clauses
 use Rattle.symbols.proofs.gather.finish.Tie as tie
 
 -- what is known at these places
 abbrev At-loop-i : Type 0
-At-loop-i = lts.At-loop tie.the-claims reads.Pre reads.Post goal.the-invariant-loop-i goal.the-decreases-loop-i
+At-loop-i = Places.At-loop tie.the-claims Clauses.Pre Clauses.Post goal.the-invariant-loop-i goal.the-decreases-loop-i
 
 abbrev In-loop-i : Type 0
-In-loop-i = lts.In-loop tie.the-claims reads.Pre reads.Post goal.the-invariant-loop-i goal.the-decreases-loop-i
+In-loop-i = Places.In-loop tie.the-claims Clauses.Pre Clauses.Post goal.the-invariant-loop-i goal.the-decreases-loop-i
 
 -- the bits of those that are left are within the number
 within : (c : At-loop-i) (n : ℕ) → n ≤ c.args.g.count

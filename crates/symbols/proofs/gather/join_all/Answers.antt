@@ -13,12 +13,12 @@ use Rattle.symbols.specs.Helpers.Gathered.{digits}
 use Rattle.symbols.specs.Laws.Gathered.{digits_more, joined_small}
 use Rattle.symbols.specs.Laws.Width.{by_width}
 use Rattle.symbols.proofs.gather.join_all.Goals as goal
-use Rattle.symbols.proofs.gather.join_all.Lts as lts
-use Rattle.symbols.proofs.gather.join_all.Reads as reads
+use Rattle.symbols.proofs.gather.join_all.Lts as Places
+use Rattle.symbols.proofs.gather.join_all.Reads as Clauses
 
 -- what is known at these places
 abbrev In-loop-i : Type 0
-In-loop-i = lts.In-loop reads.Pre reads.Post goal.the-invariant-loop-i goal.the-decreases-loop-i
+In-loop-i = Places.In-loop Clauses.Pre Clauses.Post goal.the-invariant-loop-i goal.the-decreases-loop-i
 
 -- one more is within 32 bits
 more : (c : In-loop-i) → c.args.k * c.loop-i.i + c.args.k ≤ 32

@@ -13,16 +13,16 @@ use Rattle.symbols.specs.Laws.Gathered.{bits_under, stored_more, stored_all}
 use Rattle.symbols.specs.Laws.Rows.{symbols_length}
 use Rattle.symbols.specs.Laws.Width.{per_pos}
 use Rattle.symbols.proofs.gather.store.Goals as goal
-use Rattle.symbols.proofs.gather.store.Lts as lts
-use Rattle.symbols.proofs.gather.store.Reads as reads
+use Rattle.symbols.proofs.gather.store.Lts as Places
+use Rattle.symbols.proofs.gather.store.Reads as Clauses
 use Rattle.symbols.proofs.gather.store.Tie as tie
 
 -- what is known at these places
 abbrev At-loop-count : Type 0
-At-loop-count = lts.At-loop tie.the-claims reads.Pre reads.Post goal.the-invariant-loop-count goal.the-decreases-loop-count
+At-loop-count = Places.At-loop tie.the-claims Clauses.Pre Clauses.Post goal.the-invariant-loop-count goal.the-decreases-loop-count
 
 abbrev In-loop-count : Type 0
-In-loop-count = lts.In-loop tie.the-claims reads.Pre reads.Post goal.the-invariant-loop-count goal.the-decreases-loop-count
+In-loop-count = Places.In-loop tie.the-claims Clauses.Pre Clauses.Post goal.the-invariant-loop-count goal.the-decreases-loop-count
 
 -- the bits of those that wait are within the number
 within : (c : At-loop-count) (n : ℕ) → n ≤ c.loop-count.count → c.args.k * n < 8 * 8

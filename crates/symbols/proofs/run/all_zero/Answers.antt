@@ -8,13 +8,13 @@ use Rattle.ground.specs.Paper.Rows.{all_zero}
 use Rattle.ground.specs.Laws.Runs.{zero_none, zero_more, zero_not}
 use Rattle.symbols.specs.Paper.Symbols.{symbols_of}
 use Rattle.symbols.proofs.run.all_zero.Goals as goal
-use Rattle.symbols.proofs.run.all_zero.Lts as lts
-use Rattle.symbols.proofs.run.all_zero.Reads as reads
+use Rattle.symbols.proofs.run.all_zero.Lts as Places
+use Rattle.symbols.proofs.run.all_zero.Reads as Clauses
 use Rattle.symbols.proofs.run.all_zero.Tie as tie
 
 -- what is known at these places
 abbrev Start : Type 0
-Start = lts.Start tie.the-claims reads.Pre reads.Post goal.the-invariant-loop-i goal.the-decreases-loop-i
+Start = Places.Start tie.the-claims Clauses.Pre Clauses.Post goal.the-invariant-loop-i goal.the-decreases-loop-i
 
 abbrev all : (c : Start) → List ℕ
 all c = symbols_of c.args.k c.args.buf.now

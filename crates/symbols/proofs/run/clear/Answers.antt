@@ -9,13 +9,13 @@ use Rattle.symbols.specs.Laws.Whole.{symbols_cleared}
 use Rattle.symbols.specs.Laws.Rows.{symbols_even}
 use Rattle.symbols.proofs.Between.{Between, between}
 use Rattle.symbols.proofs.run.clear.Goals as goal
-use Rattle.symbols.proofs.run.clear.Lts as lts
-use Rattle.symbols.proofs.run.clear.Reads as reads
+use Rattle.symbols.proofs.run.clear.Lts as Places
+use Rattle.symbols.proofs.run.clear.Reads as Clauses
 use Rattle.symbols.proofs.run.clear.Tie as tie
 
 -- what is known at these places
 abbrev After-per_byte-per : Type 0
-After-per_byte-per = lts.After-per_byte tie.the-claims reads.Pre reads.Post
+After-per_byte-per = Places.After-per_byte tie.the-claims Clauses.Pre Clauses.Post
 
 known : (c : After-per_byte-per)
     → Between

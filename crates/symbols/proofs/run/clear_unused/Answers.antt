@@ -8,13 +8,13 @@ use Rattle.symbols.specs.Laws.Rows.{ends_inside}
 use Rattle.symbols.specs.Laws.Sizes.{bytes_for_enough, bytes_for_least}
 use Rattle.symbols.specs.Laws.Width.{per_few}
 use Rattle.symbols.proofs.run.clear_unused.Goals as goal
-use Rattle.symbols.proofs.run.clear_unused.Lts as lts
-use Rattle.symbols.proofs.run.clear_unused.Reads as reads
+use Rattle.symbols.proofs.run.clear_unused.Lts as Places
+use Rattle.symbols.proofs.run.clear_unused.Reads as Clauses
 use Rattle.symbols.proofs.run.clear_unused.Tie as tie
 
 -- what is known at these places
 abbrev After-unused : Type 0
-After-unused = lts.After-unused tie.the-claims reads.Pre reads.Post
+After-unused = Places.After-unused tie.the-claims Clauses.Pre Clauses.Post
 
 end : (c : After-unused) → let a = c.args in a.h + c.unused.result ≡ bytes_for a.k a.h * per a.k
 end c = omega (arith, c.unused.ensures, bytes_for_enough c.requires.0 c.args.h)

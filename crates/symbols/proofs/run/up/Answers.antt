@@ -8,13 +8,13 @@ use Rattle.symbols.specs.Paper.Symbols.{symbols_of}
 use Rattle.symbols.specs.Laws.Rows.{symbols_even}
 use Rattle.symbols.proofs.Between.{Between, between}
 use Rattle.symbols.proofs.run.up.Goals as goal
-use Rattle.symbols.proofs.run.up.Lts as lts
-use Rattle.symbols.proofs.run.up.Reads as reads
+use Rattle.symbols.proofs.run.up.Lts as Places
+use Rattle.symbols.proofs.run.up.Reads as Clauses
 use Rattle.symbols.proofs.run.up.Tie as tie
 
 -- what is known at these places
 abbrev After-per_byte-per : Type 0
-After-per_byte-per = lts.After-per_byte tie.the-claims reads.Pre reads.Post
+After-per_byte-per = Places.After-per_byte tie.the-claims Clauses.Pre Clauses.Post
 
 known : (c : After-per_byte-per)
     → Between

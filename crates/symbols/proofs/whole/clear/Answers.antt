@@ -5,12 +5,12 @@ use native.Mathlib.Omega.{arith}
 use lib.ListN.{length}
 use Rattle.ground.specs.Laws.Runs.{cleared_none, cleared_one, cleared_more, cleared_length}
 use Rattle.symbols.proofs.whole.clear.Goals as goal
-use Rattle.symbols.proofs.whole.clear.Lts as lts
-use Rattle.symbols.proofs.whole.clear.Reads as reads
+use Rattle.symbols.proofs.whole.clear.Lts as Places
+use Rattle.symbols.proofs.whole.clear.Reads as Clauses
 
 -- what is known at these places
 abbrev At-loop-j : Type 0
-At-loop-j = lts.At-loop reads.Pre reads.Post goal.the-invariant-loop-j goal.the-decreases-loop-j
+At-loop-j = Places.At-loop Clauses.Pre Clauses.Post goal.the-invariant-loop-j goal.the-decreases-loop-j
 
 kept_length : (l : At-loop-j) → length l.loop-j.buf ≡ length l.args.buf.now
 kept_length l =

@@ -10,16 +10,16 @@ use Rattle.symbols.specs.Laws.Rows.{symbols_even, starts_within}
 use Rattle.symbols.specs.Laws.Width.{per_pos, per_few}
 use Rattle.symbols.proofs.Moves.{byte_down}
 use Rattle.symbols.proofs.whole.down.Goals as goal
-use Rattle.symbols.proofs.whole.down.Lts as lts
-use Rattle.symbols.proofs.whole.down.Reads as reads
+use Rattle.symbols.proofs.whole.down.Lts as Places
+use Rattle.symbols.proofs.whole.down.Reads as Clauses
 use Rattle.symbols.proofs.whole.down.Tie as tie
 
 -- what is known at these places
 abbrev After-place_in_byte-place : Type 0
-After-place_in_byte-place = lts.After-place_in_byte tie.the-claims reads.Pre reads.Post goal.the-invariant-loop-j goal.the-decreases-loop-j
+After-place_in_byte-place = Places.After-place_in_byte tie.the-claims Clauses.Pre Clauses.Post goal.the-invariant-loop-j goal.the-decreases-loop-j
 
 abbrev In-loop-j : Type 0
-In-loop-j = lts.In-loop tie.the-claims reads.Pre reads.Post goal.the-invariant-loop-j goal.the-decreases-loop-j
+In-loop-j = Places.In-loop tie.the-claims Clauses.Pre Clauses.Post goal.the-invariant-loop-j goal.the-decreases-loop-j
 
 -- what `by` is in whole bytes and symbols
 known : (c : After-place_in_byte-place)

@@ -12,13 +12,13 @@ use Rattle.symbols.specs.Laws.Sizes.{bytes_for_enough, bytes_for_least, bytes_fo
 use Rattle.symbols.specs.Laws.Width.{per_pos, per_few}
 use Rattle.symbols.proofs.Moves.{byte_up}
 use Rattle.symbols.proofs.whole.up.Goals as goal
-use Rattle.symbols.proofs.whole.up.Lts as lts
-use Rattle.symbols.proofs.whole.up.Reads as reads
+use Rattle.symbols.proofs.whole.up.Lts as Places
+use Rattle.symbols.proofs.whole.up.Reads as Clauses
 use Rattle.symbols.proofs.whole.up.Tie as tie
 
 -- what is known at these places
 abbrev After-unused-place : Type 0
-After-unused-place = lts.After-unused tie.the-claims reads.Pre reads.Post goal.the-invariant-loop-j goal.the-decreases-loop-j
+After-unused-place = Places.After-unused tie.the-claims Clauses.Pre Clauses.Post goal.the-invariant-loop-j goal.the-decreases-loop-j
 
 -- what `by` is in whole bytes and symbols
 known : (c : After-unused-place)

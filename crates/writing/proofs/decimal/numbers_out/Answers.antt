@@ -6,13 +6,13 @@ use lib.ListN.{drop, get_or, length-append}
 use Rattle.writing.specs.Paper.Written.{decimal, number_lines}
 use Rattle.writing.specs.Laws.Written.{Going, going_none, going_as, going_room, going_more, going_byte, going_all, numbers_done, numbers_more}
 use Rattle.writing.proofs.decimal.numbers_out.Goals as goal
-use Rattle.writing.proofs.decimal.numbers_out.Lts as lts
-use Rattle.writing.proofs.decimal.numbers_out.Reads as reads
+use Rattle.writing.proofs.decimal.numbers_out.Lts as Places
+use Rattle.writing.proofs.decimal.numbers_out.Reads as Clauses
 use Rattle.writing.proofs.decimal.numbers_out.Tie as tie
 
 -- what is known at these places
 abbrev In-loop-i : Type 0
-In-loop-i = lts.In-loop tie.the-claims reads.Pre reads.Post goal.the-invariant-loop-i goal.the-decreases-loop-i tie.handed_clauses
+In-loop-i = Places.In-loop tie.the-claims Clauses.Pre Clauses.Post goal.the-invariant-loop-i goal.the-decreases-loop-i tie.handed_clauses
 
 -- before a number, and behind it
 before : (c : In-loop-i)
