@@ -125,6 +125,8 @@ class Fn:
                     segs[1] = {"taken": "true", "left": "false"}.get(segs[1], segs[1])
                 elif segs[0] not in ("args", "requires"):
                     segs[1] = {"inv": "invariant", "post": "ensures"}.get(segs[1], segs[1])
+            if segs[0] == "fits" and len(segs) == 2:
+                segs = ["ranges", segs[1], "fits"]
             for a, b in self.args:
                 if ".".join(segs) == a or ".".join(segs).startswith(a + "."):
                     segs = (b + ".".join(segs)[len(a):]).split(".")
@@ -447,7 +449,11 @@ def turn(path, fn, modpath):
                     to[p] = ("l.initial." if ch[i] else "l.") + vars_[i]
                 elif i - len(vars_) < len(changed):
                     to[p] = "l." + changed[i - len(vars_)]
-            b = PATH.sub(lambda m: to[m[1]] + m[2] if m[1] in to else m[0], cl[2])
+            def put(m):
+                if m[1] not in to or not m[2] and m.string[m.end():m.end() + 3] == " = " and re.search(r"[{;]\s*$", m.string[:m.start()]):
+                    return m[0]
+                return to[m[1]] + m[2]
+            b = PATH.sub(put, cl[2])
             unf = re.search(r"^unfolding [^\n]*\n", txt, re.M)
             inv.append("\n".join(com + [f"abbrev pub {kind}-{new} : goal.{kind}-{new}"] + ([unf[0].rstrip()] if unf else []) + [f"{kind}-{new} l ={b}"]))
             continue
