@@ -1,18 +1,18 @@
 -- `writing::decimal::numbers_out` meets its contract: the lines of the numbers passed are put.
 use mathlib.Core.List.{◌∷◌, ◌++◌}
-use Prim.Native.Nat.{◌+◌, ◌-◌}
+use Prim.Native.Nat.{◌+◌}
 use native.Mathlib.Omega.{arith}
 use lib.ListN.{drop, get_or, length-append}
 use Rattle.writing.specs.Paper.Written.{decimal, number_lines}
 use Rattle.writing.specs.Laws.Written.{Going, going_none, going_as, going_room, going_more, going_byte, going_all, numbers_done, numbers_more}
 use Rattle.writing.proofs.decimal.numbers_out.Goals as goal
-use Rattle.writing.proofs.decimal.numbers_out.Lts as Places
-use Rattle.writing.proofs.decimal.numbers_out.Reads as Clauses
+use Rattle.writing.proofs.decimal.numbers_out.Lts as lts
+use Rattle.writing.proofs.decimal.numbers_out.Reads as reads
 use Rattle.writing.proofs.decimal.numbers_out.Tie as tie
 
 -- what is known at these places
 abbrev In-loop-i : Type 0
-In-loop-i = Places.In-loop tie.the-claims Clauses.Pre Clauses.Post goal.the-invariant-loop-i goal.the-decreases-loop-i tie.handed_clauses
+In-loop-i = lts.In-loop tie.the-claims reads.Pre reads.Post goal.the-invariant-loop-i goal.the-decreases-loop-i tie.handed_clauses
 
 -- before a number, and behind it
 before : (c : In-loop-i)
@@ -33,9 +33,6 @@ pub loop-i-init : goal.loop-i-init
 loop-i-init c =
     let a = c.args in
     (omega arith, going_none (number_lines a.numbers.now) a.out.now a.at)
-
-pub overflow_cast-numbers : goal.overflow_cast-numbers
-overflow_cast-numbers c = omega (arith, c.shared_slice_known-in-loop-i-1.given c.loop-i.i)
 
 pub decimal_out-p-requires : goal.decimal_out-p-requires
 decimal_out-p-requires c =
@@ -59,4 +56,5 @@ shape_of-out c =
 
 pub returns : goal.returns
 returns c =
-    going_all c.requires (going_as (numbers_done c.args.numbers.now c.loop-i.i c.loop-i-test.false) c.loop-i.invariant.1)
+    let g = going_all c.requires (going_as (numbers_done c.args.numbers.now c.loop-i.i c.loop-i-test.false) c.loop-i.invariant.1) in
+    record { next = g.0; out = g.1 }

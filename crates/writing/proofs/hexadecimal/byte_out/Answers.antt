@@ -10,7 +10,7 @@ pub returns : goal.returns
 returns c =
     let h = c.requires in
     let g = going_byte h (going_byte h (going_none (hex_of c.args.b) c.args.out.now c.args.at)) in
-    record { next = refl; out = rw (c.glyph_of.ensures, c.glyph_of-2.ensures) (going_all h g).1; }
+    record { next = refl; out = rw (c.glyph_of.ensures, c.glyph_of-2.ensures) (going_all h g).1 }
 
 pub bounds-out-at-2 : goal.bounds-out-at-2
 bounds-out-at-2 c = simp length-set (omega arith)

@@ -1,18 +1,18 @@
 -- `writing::hexadecimal::row_out` meets its contract: the bytes passed are put.
 use mathlib.Core.List.{◌++◌}
-use Prim.Native.Nat.{◌+◌, ◌-◌, ◌<◌}
+use Prim.Native.Nat.{◌+◌, ◌<◌}
 use native.Mathlib.Omega.{arith}
 use lib.ListN.{length, drop, get_or}
 use Rattle.writing.specs.Paper.Written.{hex_of, hex_row}
 use Rattle.writing.specs.Laws.Written.{Going, going_none, going_as, going_room, going_next, going_more, going_all, row_done, row_more}
 use Rattle.writing.proofs.hexadecimal.row_out.Goals as goal
-use Rattle.writing.proofs.hexadecimal.row_out.Lts as Places
-use Rattle.writing.proofs.hexadecimal.row_out.Reads as Clauses
+use Rattle.writing.proofs.hexadecimal.row_out.Lts as lts
+use Rattle.writing.proofs.hexadecimal.row_out.Reads as reads
 use Rattle.writing.proofs.hexadecimal.row_out.Tie as tie
 
 -- what is known at these places
 abbrev At-loop-i : Type 0
-At-loop-i = Places.At-loop tie.the-claims Clauses.Pre Clauses.Post goal.the-invariant-loop-i goal.the-decreases-loop-i tie.handed_clauses
+At-loop-i = lts.At-loop tie.the-claims reads.Pre reads.Post goal.the-invariant-loop-i goal.the-decreases-loop-i tie.handed_clauses
 
 pub loop-i-init : goal.loop-i-init
 loop-i-init c = let a = c.args in (omega arith, going_none (hex_row a.bytes.now) a.out.now a.at)
@@ -35,4 +35,5 @@ shape_of-out c = (going_room c.requires c.loop-i.invariant.1).1
 
 pub returns : goal.returns
 returns c =
-    going_all c.requires (going_as (row_done c.args.bytes.now c.loop-i.i c.loop-i-test.false) c.loop-i.invariant.1)
+    let g = going_all c.requires (going_as (row_done c.args.bytes.now c.loop-i.i c.loop-i-test.false) c.loop-i.invariant.1) in
+    record { next = g.0; out = g.1 }

@@ -1,5 +1,4 @@
 -- `writing::plain::text_out` meets its contract: the bytes passed are put.
-use Prim.Native.Nat.{◌-◌}
 use native.Mathlib.Nat.{add-zero, add_assoc}
 use native.Mathlib.Omega.{arith}
 use lib.ListN.{drop_of_length-le}
@@ -28,4 +27,5 @@ shape_of-out c =
 pub returns : goal.returns
 returns c =
     let text = c.args.text.now in
-    going_all c.requires (going_as (drop_of_length-le text c.loop-i-test.false) c.loop-i.invariant.1)
+    let g = going_all c.requires (going_as (drop_of_length-le text c.loop-i-test.false) c.loop-i.invariant.1) in
+    record { next = g.0; out = g.1 }
