@@ -125,6 +125,8 @@ class Fn:
                     segs[1] = {"taken": "true", "left": "false"}.get(segs[1], segs[1])
                 elif segs[0] not in ("args", "requires"):
                     segs[1] = {"inv": "invariant", "post": "ensures"}.get(segs[1], segs[1])
+            if segs[0] == "good" and len(segs) == 2 and segs[1].isdigit():
+                segs[0] = "well_formed"
             if segs[0] == "fits" and len(segs) == 2:
                 segs = ["ranges", segs[1], "fits"]
             for a, b in self.args:
@@ -357,6 +359,7 @@ def as_record(b, names, fn):
 
 def turn(path, fn, modpath):
     t = accessors(path.read_text(encoding="utf-8"))
+    t = re.sub(r"(?m)^-- the way back from [^\n]*\n", "", t)
     t = re.sub(r"(?<=[\w'\])])\.pre\.(?=\d)", ".requires.", t)
     atom = rf"(?:{NAME}(?:\.{NAME})*)"
     t = re.sub(rf"(?<![^\s(){{}},])not-(?:true|false) {atom} ({atom})", r"\1", t)

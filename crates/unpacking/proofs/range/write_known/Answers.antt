@@ -32,7 +32,6 @@ In-loop-j = Places.In-loop tie.the-claims Clauses.Pre Clauses.Post goal.the-inva
 abbrev Else-bound_of-x : Type 0
 Else-bound_of-x = Places.Else2 tie.the-claims Clauses.Pre Clauses.Post goal.the-invariant-loop-j goal.the-decreases-loop-j
 
--- the way back from a place
 abbrev code_of : Start → Code
 code_of s = even_code s.args.k s.args.s
 

@@ -35,7 +35,6 @@ After-byte-y = Places.After-byte2 tie.the-claims Clauses.Pre Clauses.Post goal.t
 abbrev Then-y-few : Type 0
 Then-y-few = Places.Then2 tie.the-claims Clauses.Pre Clauses.Post goal.the-invariant-loop-at goal.the-decreases-loop-at
 
--- the way back from a place
 abbrev code_of : Start → Code
 code_of s = even_code s.args.k s.args.s
 

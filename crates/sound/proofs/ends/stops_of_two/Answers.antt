@@ -3,12 +3,8 @@ use mathlib.Core.Path.{refl}
 use Rattle.ground.specs.Paper.Rows.{tab}
 use Rattle.symbols.specs.Paper.Symbols.{per, shift, symbol_at, symbols_of}
 use Rattle.sound.specs.Helpers.Ends.{stops, stops_of_two}
-use Rattle.sound.proofs.ends.stops_of_two.Statement.{statement}
-use Rattle.sound.proofs.ends.stops_of_two.Tie as tie
+use Rattle.sound.proofs.ends.stops_of_two.Goals as goal
 
-returns : tie.Need-returns
+pub returns : goal.returns
 unfolding stops_of_two tab stops symbols_of symbol_at per shift
 returns c = refl
-
-pub stops_of_two_spec : {M : Type 1} → statement M
-stops_of_two_spec = tie.close (tie.spec returns)
