@@ -125,7 +125,7 @@ class Fn:
                     segs[1] = {"taken": "true", "left": "false"}.get(segs[1], segs[1])
                 elif segs[0] not in ("args", "requires"):
                     segs[1] = {"inv": "invariant", "post": "ensures"}.get(segs[1], segs[1])
-            if segs[0] == "good" and len(segs) == 2 and segs[1].isdigit():
+            if segs[0] == "good" and len(segs) > 1 and segs[1].isdigit():
                 segs[0] = "well_formed"
             if segs[0] == "fits" and len(segs) == 2:
                 segs = ["ranges", segs[1], "fits"]

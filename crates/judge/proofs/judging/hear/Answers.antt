@@ -1,0 +1,30 @@
+-- `judge::judging::hear` meets its contract.
+use mathlib.Core.Path.{sym, ap, ◌∙◌}
+use native.Mathlib.Omega.{arith}
+use Rattle.stopper.specs.Helpers.State.{stepped}
+use Rattle.stopper.specs.declared.reading.Reader.{Reader}
+use Rattle.judge.specs.Paper.Judge.{heard_as}
+use Rattle.judge.specs.Laws.Judge.{hears_bad, hears_unused, hears_symbol}
+use Rattle.judge.proofs.judging.hear.Goals as goal
+
+pub returns-then-p-ne0 : goal.returns-then-p-ne0
+returns-then-p-ne0 c = let a = c.args in sym (hears_bad a.code a.sigma a.h a.p a.symbol c.if-p-ne0.true)
+
+pub returns-then-h-p : goal.returns-then-h-p
+returns-then-h-p c =
+    let a = c.args in
+    c.stained_by.ensures ∙ sym (hears_unused a.code a.sigma a.h a.p a.symbol c.if-p-ne0.false c.if-h-p.true)
+
+pub read_symbol-step-requires : goal.read_symbol-step-requires
+read_symbol-step-requires c =
+    (c.requires.0, c.requires.1, rw c.reader_of-r.ensures c.requires.2.small)
+
+pub heard-requires : goal.heard-requires
+heard-requires c = (c.if-h-p.false, omega (arith, c.requires.2.count, c.requires.2.first))
+
+pub returns : goal.returns
+returns c =
+    let a = c.args in
+    c.heard.ensures
+    ∙ ap (heard_as a.h a.p) (c.read_symbol-step.ensures ∙ ap (λ (x : Reader). stepped a.code a.sigma x a.symbol) c.reader_of-r.ensures)
+    ∙ sym (hears_symbol a.code a.sigma a.h a.p a.symbol c.if-p-ne0.false c.if-h-p.false)

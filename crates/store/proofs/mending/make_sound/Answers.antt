@@ -1,0 +1,18 @@
+-- `store::mending::make_sound` meets its contract.
+use mathlib.Core.Path.{refl, ◌∙◌}
+use native.Mathlib.Omega.{arith}
+use Rattle.ground.specs.Laws.Runs.{laid_whole}
+use Rattle.texts.specs.Paper.Directory.{entries, sum, start_at, directory_of}
+use Rattle.sound.specs.Paper.Lengths.{lengths_of}
+use Rattle.sound.specs.Laws.Directory.{sound_entries}
+use Rattle.store.proofs.mending.make_sound.Goals as goal
+
+pub mend-requires : goal.mend-requires
+unfolding start_at sum
+mend-requires c = let p = c.requires in (p.0, omega arith, omega arith, p.1, refl)
+
+pub returns : goal.returns
+unfolding entries
+returns c =
+    c.mend.ensures
+    ∙ laid_whole c.args.dir.now (directory_of (lengths_of c.args.roll c.args.buf.now)) (entries c.args.roll.n) (sound_entries c.requires.0)
