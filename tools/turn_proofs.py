@@ -55,6 +55,7 @@ class Fn:
         self.helpers, self.lifted, self.calls = {}, set(), []
         self.old_place = {norm(n[0]): n[0] for n in d["places"]}
         self.in_helper, self.abbrevs = None, {}
+        self.plain_args, self.uses, self.lfts = set(), {}, None
 
     def say(self, t):
         self.said.append(t)
@@ -105,6 +106,10 @@ class Fn:
                 before = m.string[: m.start()]
                 head = re.search(rf"({NAME}) $", before)
                 name = head and head[1]
+                if self.in_helper:
+                    self.uses.setdefault(self.in_helper, set()).add(("bare", name))
+                if name in self.plain_args:
+                    return r if self.in_helper in self.plain_args else r + ".args"
                 if name in self.helpers and roots[r]:
                     self.calls.append((name, self.in_helper, roots[r]))
                     k = self.away(roots[r], self.helpers[name])
@@ -117,6 +122,13 @@ class Fn:
                 if m.start() and (rest or v != r):
                     self.say(f"bare {m[0]} after {name}")
                 return r
+            if self.in_helper:
+                self.uses.setdefault(self.in_helper, set()).add(("path", segs[0] if len(segs) > 1 else "whole"))
+            if self.in_helper in self.plain_args and segs[0] == "args":
+                for a, b in self.args:
+                    if ".".join(segs) == a or ".".join(segs).startswith(a + "."):
+                        segs = (b + ".".join(segs)[len(a):]).split(".")
+                return ".".join([r] + segs[1:])
             segs = [{"well-formed": "well_formed", "type-inv": "type_inv"}.get(x, x) for x in segs]
             if segs[0] == "pre":
                 segs[0] = "requires"
@@ -125,7 +137,7 @@ class Fn:
                     segs[1] = {"taken": "true", "left": "false"}.get(segs[1], segs[1])
                 elif segs[0] not in ("args", "requires"):
                     segs[1] = {"inv": "invariant", "post": "ensures"}.get(segs[1], segs[1])
-            if segs[0] == "good" and len(segs) > 1 and segs[1].isdigit():
+            if segs[0] == "good" and (len(segs) == 1 or segs[1].isdigit()):
                 segs[0] = "well_formed"
             if segs[0] == "fits" and len(segs) == 2:
                 segs = ["ranges", segs[1], "fits"]
@@ -178,11 +190,17 @@ class Fn:
             if not new:
                 self.say(f"no place {m[1]}")
                 return m[0]
+            if self.in_helper in self.plain_args:
+                self.abbrevs["Args"] = ("Args", [])
+                return "Args κs" if self.lfts else "Args"
             if self.in_helper in self.lifted:
                 args = "".join(" goal.the-" + self.loop_word(w) for w in m[2].split())
                 self.abbrevs[new] = (self.old_place[norm(m[1])], [w for w in m[2].split()])
                 return new
             return f"goal.{new}"
+        if self.in_helper in self.plain_args and self.lfts:
+            t = re.sub(r"^((?:abbrev )?(?:pub )?\S+ :) ", rf"\1 {{κs : Lfts {self.lfts}}} → ", t, count=1)
+            t = re.sub(rf"(→|:) (tie\.{NAME}(?: (?:invariant|decreases)-loop\d*)*)", r"\1 \2", t)
         return re.sub(rf"\(?tie\.({NAME})((?: (?:invariant|decreases)-loop\d*)*)\)?(?=[ ,)→]|$)", lambda m: (place(m)) + (")" if m[0].endswith(")") and not m[0].startswith("(") else ""), t, flags=re.M)
 
 
@@ -558,7 +576,8 @@ def turn(path, fn, modpath):
             dump = (GEN / (f"Rattle-{modpath.split('.')[0]}-proofs/" + "/".join(modpath.split(".")[2:]) + "/Tie.antt")).read_text(encoding="utf-8")
             ab = []
             for new, (old, args) in fn.abbrevs.items():
-                mm = re.search(rf"^{re.escape(new)} =\s+(?:λ [^.]*\.\s+)?Lts\.{re.escape(new)}\s((?:.+\n)+)", dump, re.M)
+                like = "Start" if new == "Args" else new
+                mm = re.search(rf"^{re.escape(like)} =\s+(?:λ [^.]*\.\s+)?Lts\.{re.escape(like)}\s((?:.+\n)+)", dump, re.M)
                 got = mm[1].split() if mm else ["??"]
                 inv = [a for n, _, _ in fn.loops.values() for a in (f"goal.the-invariant-{n}", f"goal.the-decreases-{n}")]
                 out = []
@@ -571,9 +590,12 @@ def turn(path, fn, modpath):
                         out.append(inv.pop(0) if inv else "??")
                 if ".".join(modpath.split(".")[2:]) in CLAUSED:
                     out.append("tie.handed_clauses")
-                ab.append(f"abbrev {new} : Type 0\n{new} = Places.{old} {' '.join(out)}")
+                kind = f"Lfts {fn.lfts} → Type 0" if new == "Args" and fn.lfts else "Type 0"
+                ab.append(f"abbrev {new} : {kind}\n{new} = Places.{old} {' '.join(out)}")
             b = "-- what is known at these places\n" + "\n\n".join(ab) + "\n\n" + b
             tie = [f"use {mod}.Lts as Places", f"use {mod}.Reads as Clauses"] + ([f"use {mod}.Tie as tie"] if "tie." in b else [])
+            if "Lfts " in b:
+                use_lines = ["use contract.Lifetimes.{Lfts}"] + use_lines
         A = "\n".join(head + uses(use_lines, b) + [f"use {mod}.Goals as goal"] + tie) + "\n\n" + b + "\n"
     return I, A, fn.said
 
@@ -601,8 +623,18 @@ def main(argv):
         asked = set(fn.place_of_need.values())
         plain = {h for h, pl in fn.helpers.items() if pl in asked and all(who is None and at == pl for n, who, at in fn.calls if n == h)}
         lifted = {h for h, pl in fn.helpers.items() if h not in plain and pl and "§" not in h} - set(fn.goal_names)
+        plain_args = {h for h in fn.uses if h in fn.helpers and h not in fn.goal_names}
+        while True:
+            bad = {h for h in plain_args if any(k == "path" and w != "args" or k == "bare" and w not in plain_args for k, w in fn.uses[h])}
+            if not bad:
+                break
+            plain_args -= bad
         fn = Fn(names[key], rel)
-        fn.lifted = lifted
+        fn.lifted = lifted - plain_args
+        fn.plain_args = plain_args
+        lts = GEN / f"Rattle-{crate}-proofs" / rel / "Lts.antt"
+        mm = re.search(r"module _ \(κs : Lifetimes\.Lfts (\d+)\) where\s+pub record Args", lts.read_text(encoding="utf-8")) if lts.exists() else None
+        fn.lfts = mm and int(mm[1])
         I, A, said = turn(p, fn, mp)
         if I is None and A is None and "no spec" in said:
             print(f"{rel}: no spec")

@@ -51,7 +51,7 @@ pub returns-then-long-eq0 : goal.returns-then-long-eq0
 returns-then-long-eq0 c =
     let a = c.args in
     let e = row_none (held c.before.before.before.before.before.before.before.before.before.before.before) a.pattern.now c.requires.1 (sym c.spell_pattern-long.ensures.length ∙ c.if-long-eq0.true) in
-    record { total = sym (ap length e); list = sym (ap (λ (found : List ℕ). listed found a.slice.now) e ∙ listed_none a.slice.now); }
+    record { total = sym (ap length e); list = sym (ap (λ (found : List ℕ). listed found a.slice.now) e ∙ listed_none a.slice.now) }
 
 pub slice_bounds-symbols-end : goal.slice_bounds-symbols-end
 slice_bounds-symbols-end c =
@@ -66,7 +66,7 @@ hits_are e =
 pub returns : goal.returns
 returns c =
     let a = c.args in
-    record { total = c.list_hits.ensures.total ∙ ap length (hits_are c.before.before.before.before.before.before); list = c.list_hits.ensures.list ∙ ap (λ (found : List ℕ). listed found a.slice.now) (hits_are c.before.before.before.before.before.before); }
+    record { total = c.list_hits.ensures.total ∙ ap length (hits_are c.before.before.before.before.before.before); list = c.list_hits.ensures.list ∙ ap (λ (found : List ℕ). listed found a.slice.now) (hits_are c.before.before.before.before.before.before) }
 
 pub slice_bounds-list_hits-end : goal.slice_bounds-list_hits-end
 slice_bounds-list_hits-end c = symbols_long c.before.before.before.before

@@ -1,4 +1,5 @@
 -- `find::finding::spell_pattern` meets its contract: the characters passed are in the table, and their symbols stand at the front.
+use contract.Lifetimes.{Lfts}
 use mathlib.Core.Path.{◌≡◌, sym, ap, ap₂, ◌∙◌}
 use mathlib.Core.List.{List, [], ◌++◌, append_assoc}
 use Prim.Native.Nat.{ℕ, ◌+◌, ◌-◌, ◌*◌, ◌≤◌, ◌<◌}
@@ -30,6 +31,9 @@ use Rattle.find.proofs.finding.spell_pattern.Reads as Clauses
 use Rattle.find.proofs.finding.spell_pattern.Tie as tie
 
 -- what is known at these places
+abbrev Args : Lfts 2 → Type 0
+Args = Places.Args tie.the-claims Clauses.Pre Clauses.Post goal.the-invariant-loop-i goal.the-decreases-loop-i tie.handed_clauses
+
 abbrev Start : Type 0
 Start = Places.Start tie.the-claims Clauses.Pre Clauses.Post goal.the-invariant-loop-i goal.the-decreases-loop-i tie.handed_clauses
 
@@ -73,13 +77,13 @@ module _ {c : Code} {l pattern symbols : List ℕ} {p i : ℕ} (s : Spelling c l
       }
 
 -- the characters in rank order
-abbrev row : Start → List ℕ
-row s = take s.args.sigma s.args.places
+abbrev row : {κs : Lfts 2} → Args κs → List ℕ
+row s = take s.sigma s.places
 
 places_long : (s : Start) → length s.args.places ≡ 256
 places_long s = search rules
 
-row_long : (s : Start) → length (row s) ≡ s.args.sigma
+row_long : (s : Start) → length (row s.args) ≡ s.args.sigma
 row_long s = length-take-le s.args.sigma s.args.places (omega (arith, places_long s, s.requires.1))
 
 -- the character in hand, and its rank
@@ -95,8 +99,8 @@ unfolding ranks_of
 rank_is c l e = ap (λ (x : List ℕ). get_or x (character c) 0) e ∙ tab_at (rank_in l) 256 (character c) (byte c)
 
 -- what is spelt, of this row
-spelt : (l : At-loop-i) → Spelling l.args.code (row l.before.before.before.before) l.args.pattern.now l.loop-i.symbols l.loop-i.p l.loop-i.i
-spelt l = l.loop-i.invariant.3 (row l.before.before.before.before) (row_long l.before.before.before.before) l.ranks_of-ranks.ensures
+spelt : (l : At-loop-i) → Spelling l.args.code (row l.args) l.args.pattern.now l.loop-i.symbols l.loop-i.p l.loop-i.i
+spelt l = l.loop-i.invariant.3 (row l.args) (row_long l.before.before.before.before) l.ranks_of-ranks.ensures
 
 pub loop-i-init : goal.loop-i-init
 loop-i-init c =
@@ -108,8 +112,8 @@ shape_of-symbols-then-sigma-rank c = c.loop-i.invariant.2 ∙ sym c.requires.3
 
 pub returns-then-sigma-rank : goal.returns-then-sigma-rank
 returns-then-sigma-rank c =
-    let e = none (spelt c.before.before.before.before) c.loop-i-test.true (omega (arith, c.if-sigma-rank.true, rank_is c.before.before (row c.before.before.before.before.before.before.before.before) c.ranks_of-ranks.ensures, row_long c.before.before.before.before.before.before.before.before)) in
-    record { length = sym (ap length e); symbols = sym e; }
+    let e = none (spelt c.before.before.before.before) c.loop-i-test.true (omega (arith, c.if-sigma-rank.true, rank_is c.before.before (row c.args) c.ranks_of-ranks.ensures, row_long c.before.before.before.before.before.before.before.before)) in
+    record { length = sym (ap length e); symbols = sym e }
 
 -- the part that its word goes to, and the length of its word
 part_long : (l : At-loop-i) → l.loop-i.p + longest ≤ most_pattern * longest → length (take (l.loop-i.p + longest - l.loop-i.p) (drop l.loop-i.p l.loop-i.symbols)) ≡ longest
@@ -146,19 +150,11 @@ loop-i-preserved c =
 
 pub returns : goal.returns
 returns c =
-    all (spelt c.before.before) (omega (arith, c.loop-i.invariant.0, c.loop-i-test.false))
+    let s = all (spelt c.before.before) (omega (arith, c.loop-i.invariant.0, c.loop-i-test.false)) in
+    record { length = s.0; symbols = s.1 }
 
 pub ranks_of-ranks-requires : goal.ranks_of-ranks-requires
 ranks_of-ranks-requires c = c.requires.1
-
-pub overflow_cast-rank : goal.overflow_cast-rank
-overflow_cast-rank c = omega (arith, byte c.before)
-
-pub offset_bounds-ranks-pattern : goal.offset_bounds-ranks-pattern
-offset_bounds-ranks-pattern c = omega (arith, byte c.before)
-
-pub bounds-ranks-pattern : goal.bounds-ranks-pattern
-bounds-ranks-pattern c = omega (arith, byte c.before)
 
 pub shape_of-symbols : goal.shape_of-symbols
 shape_of-symbols c = c.loop-i.invariant.2 ∙ sym c.requires.3

@@ -18,7 +18,7 @@ pub record Spelling (c : Code) (l pattern symbols : List ℕ) (p i : ℕ) : Type
 
 abbrev pub invariant-loop-i : goal.invariant-loop-i
 invariant-loop-i l =
-    (l.i ≤ length l.pattern) × (l.p ≤ l.i * longest) × (length l.symbols ≡ most_pattern * longest) × ((l : List ℕ) → length l ≡ l.sigma → l.ranks ≡ ranks_of l → Spelling l.code l l.pattern l.symbols l.p l.i)
+    (l.i ≤ length l.pattern) × (l.p ≤ l.i * longest) × (length l.symbols ≡ most_pattern * longest) × ((row : List ℕ) → length row ≡ l.sigma → l.ranks ≡ ranks_of row → Spelling l.code row l.pattern l.symbols l.p l.i)
 
 abbrev pub decreases-loop-i : goal.decreases-loop-i
 decreases-loop-i l = length l.pattern - l.i
