@@ -1,12 +1,14 @@
 -- `choosing::choose::choose` meets its contract: the operation's refusals in order, and its acceptance.
 use mathlib.Core.Path.{◌≡◌, sym, ap, ◌∙◌}
-use mathlib.Core.Bool.{true}
+use mathlib.Core.List.{List}
+use Prim.Native.Nat.{ℕ}
 use native.Mathlib.Omega.{arith}
 use borrow.Author.Tests.{ne_eqb}
 use lib.ListN.{length}
+use Rattle.ground.specs.Paper.Rows.{tab}
 use Rattle.ground.specs.Laws.Rows.{length_tab}
 use Rattle.ground.specs.Laws.Tests.{true_yes}
-use Rattle.stopper.specs.Paper.Table.{good_width}
+use Rattle.choosing.specs.Paper.Choosing.{counted}
 use Rattle.choosing.specs.Paper.Operations.{choose_says}
 use Rattle.choosing.specs.Helpers.Answers.{count_in}
 use Rattle.choosing.specs.Laws.Ranking.{length_ranked}
@@ -14,36 +16,22 @@ use Rattle.choosing.specs.Laws.Accepting.{chooses_is}
 use Rattle.choosing.specs.Laws.Operations.{choose_refused, raised_ranking, raised_best, choose_yes}
 use Rattle.choosing.specs.declared.ranking.Ranking.{Ranking}
 use Rattle.choosing.proofs.choose.choose.Goals as goal
-use Rattle.choosing.proofs.choose.choose.Lts as Places
-use Rattle.choosing.proofs.choose.choose.Reads as Clauses
-use Rattle.choosing.proofs.choose.choose.Tie as tie
-
--- what is known at these places
-abbrev Else-not-good_width : Type 0
-Else-not-good_width = Places.Else1 tie.the-claims Clauses.Pre Clauses.Post
-
-abbrev After-raised_of-raised : Type 0
-After-raised_of-raised = Places.After-raised_of tie.the-claims Clauses.Pre Clauses.Post
 
 pub returns-then-not-good_width : goal.returns-then-not-good_width
 unfolding choose_says
 returns-then-not-good_width c = choose_refused 1 0 (rw (sym c.good_width.ensures ∙ c.if-not-good_width.true)) c.refused.ensures
 
--- the width is good
-width : (c : Else-not-good_width) → good_width c.args.k ≡ true
-width c = sym c.good_width.ensures ∙ c.if-not-good_width.false
-
 pub returns-then-counts-ne256 : goal.returns-then-counts-ne256
 unfolding choose_says
-returns-then-counts-ne256 c = choose_refused 2 _ (rw (width c.before.before.before, ne_eqb _ _ c.if-counts-ne256.true)) c.refused-then-counts-ne256.ensures
+returns-then-counts-ne256 c = choose_refused 2 _ (rw (sym c.good_width.ensures ∙ c.if-not-good_width.false, ne_eqb _ _ c.if-counts-ne256.true)) c.refused-then-counts-ne256.ensures
 
 -- the raised counts
-long : (r : After-raised_of-raised) → length r.raised_of-raised.result ≡ 256
-long r = ap length r.raised_of-raised.ensures ∙ length_tab _ 0 256
+long : (counts : List ℕ) {raised : List ℕ} → raised ≡ tab (counted counts) 0 256 → length raised ≡ 256
+long counts e = ap length e ∙ length_tab _ 0 256
 
 pub best_of-best-requires : goal.best_of-best-requires
 best_of-best-requires c =
-    (true_yes _ (width c.before.before.before.before.before.before), long c.before.before.before.before, c.ranking_of-ranking.ensures)
+    (true_yes _ (sym c.good_width.ensures ∙ c.if-not-good_width.false), long c.args.counts.now c.raised_of-raised.ensures, c.ranking_of-ranking.ensures)
 
 pub overflow_cast-result : goal.overflow_cast-result
 overflow_cast-result c =
@@ -52,10 +40,10 @@ overflow_cast-result c =
 pub returns : goal.returns
 returns c =
     let counts = c.args.counts.now in
-    let good = true_yes _ (width c.before.before.before.before.before.before.before.before.before.before) in
+    let good = true_yes _ (sym c.good_width.ensures ∙ c.if-not-good_width.false) in
     choose_yes ((chooses_is _ _).0 (good, c.if-counts-ne256.false))
     (c.ranking_of-ranking.ensures ∙ raised_ranking counts c.raised_of-raised.ensures)
     (c.best_of-best.ensures ∙ raised_best counts c.raised_of-raised.ensures _ good)
 
 pub ranking_of-ranking-requires : goal.ranking_of-ranking-requires
-ranking_of-ranking-requires c = long c.before.before
+ranking_of-ranking-requires c = long c.args.counts.now c.raised_of-raised.ensures

@@ -3,7 +3,7 @@ use mathlib.Core.Path.{◌≡◌, refl, sym, ap, subst, ◌∙◌}
 use mathlib.Core.Logic.{⊎_elim}
 use mathlib.Core.List.Memᴰ
 use mathlib.Core.List.{List, [], ◌∷◌}
-use Prim.Native.Nat.{ℕ, suc, ◌+◌, ◌-◌, ◌≤◌, ◌<◌}
+use Prim.Native.Nat.{ℕ, suc, ◌+◌, ◌≤◌, ◌<◌}
 use native.Mathlib.Decide.{ℕ_discrete}
 use native.Mathlib.Omega.{arith}
 use lib.ListN.{length, get_or, set, length-set}
@@ -17,6 +17,7 @@ use Rattle.choosing.specs.Paper.Choosing.{twelve, at_least, counted}
 use Rattle.choosing.specs.Laws.Raised.{twelve_byte, twelve_least, counted_lower, counted_least, counted_one}
 use Rattle.choosing.proofs.raising.raised_of.Invariants.{Upto}
 use Rattle.choosing.proofs.raising.raised_of.Goals as goal
+use Rattle.choosing.proofs.raising.raised_of.Goals.{then-raised-b-eq0, else-raised-b-eq0}
 
 -- what holds at each place of a row holds of its members
 each : (P : ℕ → Type 0) (l : List ℕ) → ((j : ℕ) → j < length l → P (get_or l j 0)) → (b : ℕ) → b ∈ l → P b
@@ -96,10 +97,10 @@ pub loop-i-preserved : goal.loop-i-preserved
 unfolding twelve
 loop-i-preserved c =
     let h = c.loop-i-test.true in
-    ⊎_elim
-    (λ w. rw w.1 (lifted c.loop-i.invariant h w.0.taken))
-    (λ w. rw w.1 (kept c.loop-i.invariant h (omega (arith, w.0.left))))
-    c.if-raised-b-eq0.branch
+    elim c.if-raised-b-eq0.branch [
+      | then-raised-b-eq0 w ↦ rw w.raised-is (lifted c.loop-i.invariant h w.if-raised-b-eq0.true)
+      | else-raised-b-eq0 w ↦ rw w.raised-is (kept c.loop-i.invariant h (omega (arith, w.if-raised-b-eq0.false)))
+    ]
 
 pub copy_of-raised-requires : goal.copy_of-raised-requires
 copy_of-raised-requires c = c.requires

@@ -48,13 +48,16 @@ pub returns : goal.returns
 returns c =
     let t = c.args.table in
     let p = c.requires.1 in
-    record { record = ap (λ (h : ℕ). record { table = t; n = length c.args.text.now; h = h }) p.count; bytes = packed_front p.laid.width (text_below t.code (table_code t c.requires.0) (characters t) c.args.text.now)
+    record {
+      «record» = ap (λ (h : ℕ). record { table = t; n = length c.args.text.now; h = h }) p.count;
+      bytes = packed_front p.laid.width (text_below t.code (table_code t c.requires.0) (characters t) c.args.text.now)
           (below_all 256 _ (λ i. (c.slice_known-1.given i).fits))
           (below_all 256 _ (λ i. (c.slice_known-3-1.given i).fits))
           c.write_text.ensures
           p.row
           p.count
-          c.clear_unused.ensures; }
+          c.clear_unused.ensures;
+    }
 
 pub overflow_cast-result-2 : goal.overflow_cast-result-2
 overflow_cast-result-2 c = omega (arith, few c.before.before.before.before.before.before.before.before.before.before.before.before.before.before)

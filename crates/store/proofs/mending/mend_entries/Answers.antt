@@ -2,7 +2,7 @@
 -- from that of `from` up to e are written.
 use mathlib.Core.Path.{◌≡◌, sym, ap, ap₂, ◌∙◌}
 use mathlib.Core.List.{List}
-use Prim.Native.Nat.{ℕ, ◌-◌, ◌*◌, ◌≤◌, ◌<◌}
+use Prim.Native.Nat.{ℕ, ◌*◌, ◌≤◌, ◌<◌}
 use native.Mathlib.Omega.{arith}
 use lib.ListN.{length, set}
 use Rattle.ground.specs.Helpers.Moved.{laid}
@@ -73,11 +73,10 @@ pub overflow_mul-e : goal.overflow_mul-e
 overflow_mul-e c = omega (arith, before_upto c.before.before, c.ranges.upto.fits)
 
 pub pass_ends-p-requires : goal.pass_ends-p-requires
-pass_ends-p-requires c =
-    (
-      entry_ending c.requires.0 c.loop-e.j c.loop-e.e c.loop-e.invariant.2 (inside c.before.before) c.loop-e.invariant.3,
-      c.stops_by_byte-stops.ensures,
-    )
+pass_ends-p-requires c = (
+  entry_ending c.requires.0 c.loop-e.j c.loop-e.e c.loop-e.invariant.2 (inside c.before.before) c.loop-e.invariant.3,
+  c.stops_by_byte-stops.ensures,
+)
 
 pub overflow_mul-j : goal.overflow_mul-j
 overflow_mul-j c = omega (arith, before_upto c.before.before.before, c.ranges.upto.fits)

@@ -14,7 +14,7 @@ write_text-requires c = laid_again c.requires.0.laid c.up.auto.buf
 pub clear_unused-requires : goal.clear_unused-requires
 clear_unused-requires c =
     let r = c.requires.0 in
-    let e = symbols_even c.args.k c.write_text.new.buf c.args.buf.now (c.write_text.auto.buf ∙ c.up.kept.1.0) in
+    let e = symbols_even c.args.k c.write_text.new.buf c.args.buf.now (c.write_text.auto.buf ∙ c.up.auto.buf) in
     (r.laid.laid.width, omega (arith, e, r.fits, r.ordered, r.inside, c.requires.1), omega (arith, r.few, r.ordered, r.inside, c.requires.1))
 
 pub returns : goal.returns

@@ -29,10 +29,10 @@ abbrev symbols : Start → ℕ
 symbols s = s.args.run.first + s.args.taken + (s.args.roll.h - s.args.run.last)
 
 count_few : (c : After-slice_known-3-1) → count c.before.before.before.before.before.before.before.before.before.before.before.before.before ≤ limit_bound
-count_few c = replaced.count-few c.requires
+count_few c = replaced.count_few c.requires
 
 symbols_few : (c : After-slice_known-3-1) → symbols c.before.before.before.before.before.before.before.before.before.before.before.before.before ≤ limit_bound
-symbols_few c = replaced.symbols-few c.requires
+symbols_few c = replaced.symbols_few c.requires
 
 pub overflow_sub-after : goal.overflow_sub-after
 overflow_sub-after c = omega (arith, run_inside c.requires.located)
@@ -48,10 +48,10 @@ changed_upto-upto-requires c = let p = c.requires.located in (p.ordered, run_ord
 
 -- the record and the bytes
 record_is : (c : After-slice_known-3-1) → record { table = c.args.roll.table; n = count c.before.before.before.before.before.before.before.before.before.before.before.before.before; h = symbols c.before.before.before.before.before.before.before.before.before.before.before.before.before } ≡ edited.roll_after c.args.roll c.args.buf.now c.args.run.start c.args.run.end c.args.text.now
-record_is c = replaced.roll-after c.requires refl refl
+record_is c = replaced.roll_after_lem c.requires refl refl
 
 bytes_are : (c : After-slice_known-3-1) → c.replace_symbols.new.buf ≡ bytes_after c.args.roll (edited.text_after c.args.roll c.args.buf.now c.args.run.start c.args.run.end c.args.text.now) c.args.buf.now
-bytes_are c = replaced.bytes_after c.requires c.replace_symbols.ensures
+bytes_are c = replaced.bytes_after_lem c.requires c.replace_symbols.ensures
 
 pub mend-requires : goal.mend-requires
 mend-requires c =
@@ -65,8 +65,12 @@ clear_entries-requires c =
 pub returns : goal.returns
 returns c =
     let p = c.requires in
-    record { record = record_is c.before.before.before.before.before.before.before.before.before.before.before.before.before.before.before.before; bytes = bytes_are c.before.before.before.before.before.before.before.before.before.before.before.before.before.before.before.before; directory = replaced.directory-after p (replaced.mended-upto p (record_is c.before.before.before.before.before.before.before.before.before.before.before.before.before.before.before.before) (bytes_are c.before.before.before.before.before.before.before.before.before.before.before.before.before.before.before.before) c.changed_upto-upto.ensures c.mend.ensures)
-            c.entries_for.ensures c.entries_for-2.ensures c.clear_entries.ensures; }
+    record {
+      «record» = record_is c.before.before.before.before.before.before.before.before.before.before.before.before.before.before.before.before;
+      bytes = bytes_are c.before.before.before.before.before.before.before.before.before.before.before.before.before.before.before.before;
+      directory = replaced.directory_after_lem p (replaced.mended_upto p (record_is c.before.before.before.before.before.before.before.before.before.before.before.before.before.before.before.before) (bytes_are c.before.before.before.before.before.before.before.before.before.before.before.before.before.before.before.before) c.changed_upto-upto.ensures c.mend.ensures)
+          c.entries_for.ensures c.entries_for-2.ensures c.clear_entries.ensures;
+    }
 
 pub replace_symbols-requires : goal.replace_symbols-requires
 replace_symbols-requires c = replaced.replaces c.requires

@@ -13,7 +13,7 @@ write_text-requires c = laid_again c.requires.0.laid c.down.auto.buf
 
 pub clear-requires : goal.clear-requires
 clear-requires c =
-    let e = symbols_even c.args.k c.write_text.new.buf c.args.buf.now (c.write_text.auto.buf ∙ c.down.kept.1.0) in
+    let e = symbols_even c.args.k c.write_text.new.buf c.args.buf.now (c.write_text.auto.buf ∙ c.down.auto.buf) in
     (c.requires.0.laid.laid.width, omega arith, omega (arith, e, c.requires.0.held))
 
 pub returns : goal.returns

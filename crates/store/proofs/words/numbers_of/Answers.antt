@@ -1,8 +1,7 @@
 -- `store::words::numbers_of` meets its contract: the codewords of the characters passed are joined.
 use mathlib.Core.Path.{◌≡◌, refl, ◌∙◌}
-use mathlib.Core.Logic.{⊎_elim}
 use mathlib.Core.List.{List}
-use Prim.Native.Nat.{ℕ, ◌+◌, ◌-◌, ◌≤◌, ◌<◌}
+use Prim.Native.Nat.{ℕ, ◌+◌, ◌≤◌, ◌<◌}
 use native.Mathlib.Decide.{dec_lt}
 use native.Mathlib.Omega.{arith}
 use lib.ListN.{get_or, set, length-set}
@@ -12,6 +11,7 @@ use Rattle.store.specs.Helpers.Words.{word_at}
 use Rattle.store.specs.Laws.Words.{lent, word_length}
 use Rattle.store.proofs.words.numbers_of.Invariants.{Joined}
 use Rattle.store.proofs.words.numbers_of.Goals as goal
+use Rattle.store.proofs.words.numbers_of.Goals.{then-long-lt-JOINED, else-long-lt-JOINED}
 
 module _ {k : ℕ} {lengths words numbers : List ℕ} {b : ℕ} (a : Joined k lengths words numbers b) (h : b < 256) where
   more : {v : ℕ} → Joins k (word_at lengths words b) v → Joined k lengths words (set numbers b v) (b + 1)
@@ -61,12 +61,12 @@ join_all-requires c =
 pub loop-b-preserved : goal.loop-b-preserved
 loop-b-preserved c =
     let h : c.loop-b.b < 256 = omega arith in
-    ⊎_elim
-    (λ v.
-    rw v.3
-    (more c.loop-b.invariant h (rw (lent c.args.lengths.now c.args.words.now c.loop-b.b c.wide-long.ensures.0) at v.2.ensures)))
-    (λ v. rw v.1 (skip c.loop-b.invariant h (omega (arith, v.0.left, c.wide-long.ensures.0))))
-    c.if-long-lt-JOINED.branch
+    elim c.if-long-lt-JOINED.branch [
+      | then-long-lt-JOINED v ↦
+          rw v.numbers-is
+          (more c.loop-b.invariant h (rw (lent c.args.lengths.now c.args.words.now c.loop-b.b c.wide-long.ensures.0) at v.join_all.ensures))
+      | else-long-lt-JOINED v ↦ rw v.numbers-is (skip c.loop-b.invariant h (omega (arith, v.if-long-lt-JOINED.false, c.wide-long.ensures.0)))
+    ]
 
 pub returns : goal.returns
 returns c =

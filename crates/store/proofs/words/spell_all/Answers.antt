@@ -153,10 +153,10 @@ pub loop-i-preserved : goal.loop-i-preserved
 loop-i-preserved c =
     let a = c.args in
     let at : ℕ = c.wide-b.result * longest in
-    let row = take a.sigma a.t3 in
+    let row = take a.sigma a.places in
     down c.requires.0
     (subst (λ (i : ℕ). From a.code row i c.loop-i.lengths c.loop-i.words) {y = suc (c.loop-i.i - 1)} (omega arith) c.loop-i.invariant)
-    (get_or-take a.sigma a.t3 (c.loop-i.i - 1) 0 (omega (arith, row_long c.before.before.before.before.before.before.before.before.before.before)) ∙ sym c.wide-b.ensures.0)
+    (get_or-take a.sigma a.places (c.loop-i.i - 1) 0 (omega (arith, row_long c.before.before.before.before.before.before.before.before.before.before)) ∙ sym c.wide-b.ensures.0)
     c.wide-b.ensures.1
     c.spell_word-long.ensures.length
     _

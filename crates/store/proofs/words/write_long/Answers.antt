@@ -1,6 +1,5 @@
 -- `store::words::write_long` meets its contract: the codewords of the characters passed are gathered.
 use mathlib.Core.Path.{◌∙◌}
-use Prim.Native.Nat.{◌-◌}
 use native.Mathlib.Omega.{arith}
 use Rattle.symbols.specs.Laws.Gathered.{finished}
 use Rattle.store.proofs.Written.{start, waits, ends, more, all_upto, all}
@@ -15,7 +14,7 @@ begin-g-requires c = (c.requires.laid.width, omega (arith, c.requires.fits))
 pub loop-i-init : goal.loop-i-init
 loop-i-init c =
     let g = c.begin-g.ensures in
-    start c.requires g.0.0 g.0.1 g.1.0 g.1.1
+    start c.requires g.few.0 g.few.1 g.upto g.symbols
 
 pub add_word-g-requires : goal.add_word-g-requires
 add_word-g-requires c =
