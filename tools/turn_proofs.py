@@ -418,7 +418,9 @@ def turn(path, fn, modpath):
             if not TRIVIAL.match(a):
                 fn.say("unplaced " + a)
     for a, g in pairs:
-        if a in named:
+        if a in named and "tie.Need-" not in "\n".join(named[a][2]):
+            inline.append((f"(λ c. {a} c)", g))
+        elif a in named:
             if a in goal_of:
                 inline.append((f"(λ c. {goal_of[a]} c)", g))
             goal_of[a] = g
@@ -462,9 +464,16 @@ def turn(path, fn, modpath):
             ps = cl[1].split()
             changed = [v for v, c in zip(vars_, ch) if c]
             want = len(vars_) + len(changed)
-            if len(ps) != want:
-                fn.say(f"{n}: {len(ps)} arguments for {want}: {vars_} {ch}")
+            by_name = len(ps) != want
+            if by_name:
+                fn.say(f"{n}: {len(ps)} arguments for {want}: by name: {ps}")
             to = {}
+            for p_ in ps if by_name else []:
+                base = p_.rstrip("₀₁")
+                if base not in vars_:
+                    fn.say(f"{n}: no variable {p_}")
+                to[p_] = ("l.initial." if base != p_ else "l.") + base
+            ps = [] if by_name else ps
             for i, p in enumerate(ps):
                 if i < len(vars_):
                     to[p] = ("l.initial." if ch[i] else "l.") + vars_[i]

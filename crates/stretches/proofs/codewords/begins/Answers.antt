@@ -6,8 +6,7 @@ use lib.Dec.{T, eqb}
 use Rattle.stopper.specs.Helpers.State.{opened}
 use Rattle.stopper.specs.declared.reading.Reader.{Reader}
 use Rattle.stretches.specs.Laws.Codewords.{opened_is}
-use Rattle.stretches.proofs.codewords.begins.Statement.{statement}
-use Rattle.stretches.proofs.codewords.begins.Tie as tie
+use Rattle.stretches.proofs.codewords.begins.Goals as goal
 
 not_yes : (b : Bool) → T (not b) → b ≡ false
 not_yes true t = absurd t
@@ -24,8 +23,5 @@ all_tests r t =
     let (past, place) = and_yes (not r.past) (eqb r.place 0) w in
     opened_is r (not_yes r.past past) (eqb_yes place) (eqb_yes shorter) (eqb_yes rows) (eqb_yes value)
 
-returns : tie.Need-returns
-returns c = all_tests c.before.before.before.before.before.args.r
-
-pub begins_spec : {M : Type 1} → statement M
-begins_spec = tie.close (tie.spec returns)
+pub returns : goal.returns
+returns c = all_tests c.args.r
