@@ -47,7 +47,7 @@ class Fn:
                 for _ in range(a[1]):
                     q = raw.get(q)
                 self.parent[new] = q
-        self.viewed = {new: bool(t) for new, t in zip(d["places_by_name"], d["typed"])}
+        self.viewed = {new: bool(t) or new in self.arm for new, t in zip(d["places_by_name"], d["typed"])}
         self.callee = {n[2][1]: n[3] for n in d["places"]}
         self.need = {}
         for old, new in d["needs"]:
@@ -62,11 +62,25 @@ class Fn:
 
     def ups(self, place):
         out = []
-        chain = self.raw if self.in_helper in self.lifted else self.parent
         while place:
             out.append(place)
-            place = chain.get(place)
+            place = self.parent.get(place)
         return out
+
+    def last_of_arm(self, place):
+        """The place where an arm of a match is read to its end: what stands behind it steps back to that one."""
+        if place not in self.arm:
+            return place
+        name = self.arm[place][0]
+        best = place
+        for q in self.arm:
+            if self.arm[q][0] == name:
+                r, n = q, 0
+                while r and r != place and n < 9:
+                    r, n = self.raw.get(r), n + 1
+                if r == place:
+                    best = q
+        return best
 
     def away(self, frm, to):
         u = self.ups(frm)
@@ -151,11 +165,13 @@ class Fn:
                 name, fields = self.arm[q]
                 best = None
                 for nf, step, pth in fields:
-                    if norm(step) == norm(segs[0]) and segs[1:1 + len(pth)] == pth and pth and (best is None or len(pth) > len(best[1])):
+                    if (norm(step) == norm(segs[0]) or norm(segs[0])[-1:].isdigit() and norm(step) == norm(segs[0])[:-1] and norm(segs[0]) not in self.step) and segs[1:1 + len(pth)] == pth and pth and (best is None or len(pth) > len(best[1])):
                         best = (nf, pth)
                 if best:
                     return r + "." + ".".join([name, best[0]] + segs[1 + len(best[1]):])
             s = norm(segs[0])
+            if s not in self.step and s[-1:].isdigit() and s[:-1] in self.step:
+                s = s[:-1]
             if s in self.step:
                 c = self.step[s]
                 if len(c) > 1:
@@ -195,7 +211,9 @@ class Fn:
                 return "Args κs" if self.lfts else "Args"
             if self.in_helper in self.lifted:
                 args = "".join(" goal.the-" + self.loop_word(w) for w in m[2].split())
-                self.abbrevs[new] = (self.old_place[norm(m[1])], [w for w in m[2].split()])
+                new = self.last_of_arm(new)
+                old = next(n[0] for n, w in zip(self.d["places"], self.d["places_by_name"]) if w == new)
+                self.abbrevs[new] = (("Past-" if new in self.arm else "") + old, [w for w in m[2].split()])
                 return new
             return f"goal.{new}"
         if self.in_helper in self.plain_args and self.lfts:
@@ -288,6 +306,14 @@ def accessors(t):
     """Helpers that only step back, as `begun c = c.before.before`: every record has the fields of those before it, so they go."""
     names = re.findall(rf"(?m)^abbrev ({NAME}) : (?:\({NAME} : )?tie\.[^→\n]*→ tie\.[^\n]*\n(?:unfolding[^\n]*\n)?\1 {NAME} =\s+\(*(?:{NAME} )?\(*{NAME}[^\n=]*before\)*$", t)
     names += re.findall(rf"(?m)^abbrev ({NAME}) : (?:\({NAME} : )?tie\.[^→\n]*→ tie\.[^\n]*\n\1 {NAME} = {NAME} \({NAME} {NAME}(?:\.before)*\)$", t)
+    more = True
+    while more:
+        more = False
+        for m in re.finditer(rf"(?m)^abbrev ({NAME}) : (?:\({NAME} : )?tie\.[^→\n]*→ tie\.[^\n]*\n\1 ({NAME}) = ([^\n=]*)$", t):
+            words = set(re.findall(NAME, m[3])) - {"before", m[2]}
+            if m[1] not in names and words <= set(names):
+                names.append(m[1])
+                more = True
     for n in sorted(set(names), key=len, reverse=True):
         t = re.sub(rf"(?m)^abbrev {re.escape(n)} :[^\n]*\n{re.escape(n)} [^\n]*\n(?:\n|$)", "", t)
     again = True
@@ -377,6 +403,7 @@ def as_record(b, names, fn):
 
 def turn(path, fn, modpath):
     t = accessors(path.read_text(encoding="utf-8"))
+    t = re.sub(r"\)\.well-formed\b", ").good", t)
     t = re.sub(r"(?m)^-- the way back from [^\n]*\n", "", t)
     t = re.sub(r"(?<=[\w'\])])\.pre\.(?=\d)", ".requires.", t)
     atom = rf"(?:{NAME}(?:\.{NAME})*)"
@@ -432,7 +459,7 @@ def turn(path, fn, modpath):
         sg = txt.split("\n")[0]
         mm = re.search(rf"(?:\({NAME} : |^[^\n(→]* : )tie\.({NAME})", txt)
         if mm and n not in goal_of:
-            fn.helpers[n] = fn.new_place.get(norm(mm[1]))
+            fn.helpers[n] = fn.last_of_arm(fn.new_place.get(norm(mm[1])))
     for n, g in goal_of.items():
         fn.helpers[n] = fn.place_of_need[g]
     inv, ans = [], []
@@ -511,21 +538,18 @@ def turn(path, fn, modpath):
         fn.in_helper = n
         roots = {v: None for v in []}
         for v, pl in re.findall(rf"\(({NAME}) : tie\.({NAME})", txt):
-            roots[v] = fn.new_place.get(norm(pl))
+            roots[v] = fn.last_of_arm(fn.new_place.get(norm(pl)))
         mm = n and re.search(rf"^[^\n(→]* : tie\.({NAME})[^→\n]*→", txt)
         if mm:
             cl = re.search(rf"^{re.escape(n)} ({NAME})", "\n".join(txt.split("\n")[1:]), re.M)
             if cl:
-                roots[cl[1]] = fn.new_place.get(norm(mm[1]))
+                roots[cl[1]] = fn.last_of_arm(fn.new_place.get(norm(mm[1])))
         sg, cl = txt.split("\n")[0], re.search(rf"^{re.escape(n or '?')} ([^=]*?) =(?= |$)", "\n".join(txt.split("\n")[1:]), re.M)
         if cl and roots:
             binders = [b for m_ in re.finditer(rf"\(((?:{NAME} )+):", txt.split("=")[0]) for b in m_[1].split()]
             for b, v in zip(binders, cl[1].split()):
                 if b in roots and v != b:
                     roots[v] = roots[b]
-        for v, pl in roots.items():
-            if pl in fn.arm and n in fn.lifted:
-                fn.say(f"helper {n} at an arm {pl}")
         x = fn.type(txt)
         if roots:
             lines = x.split("\n")

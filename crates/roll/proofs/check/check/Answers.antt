@@ -24,10 +24,10 @@ use Rattle.roll.proofs.check.check.Tie as tie
 
 -- what is known at these places
 abbrev In-Yes : Type 0
-In-Yes = Places.After-enum_told tie.the-claims Clauses.Pre Clauses.Post
+In-Yes = Places.Past-After-enum_told tie.the-claims Clauses.Pre Clauses.Post
 
-abbrev In-Whole-2 : Type 0
-In-Whole-2 = Places.After-read2 tie.the-claims Clauses.Pre Clauses.Post
+abbrev In-Whole : Type 0
+In-Whole = Places.Past-After-known_told2 tie.the-claims Clauses.Pre Clauses.Post
 
 abbrev After-unused : Type 0
 After-unused = Places.After-unused tie.the-claims Clauses.Pre Clauses.Post
@@ -36,24 +36,24 @@ abbrev After-all_zero : Type 0
 After-all_zero = Places.After-all_zero tie.the-claims Clauses.Pre Clauses.Post
 
 fits : (c : In-Yes) → let a = c.args in Accepted (fit_says a.roll a.buf.now)
-fits c = says_as c.fits2.ensures.says c.in-Yes.is
+fits c = says_as c.fits-fitting.ensures.says c.in-Yes.is
 
 -- symbols up to symbol h may be read
 reads : (c : In-Yes) → let a = c.args in Reads a.roll.table.code a.roll.table.sigma a.buf.now a.roll.h 0
 reads c = let a = c.args in fits_reads a.roll a.buf.now (fits c) 0 (omega arith)
 
 width : (c : In-Yes) → Width c.args.roll.table.code.k
-width c = code_width c.args.roll.table.code (reads c).well-formed
+width c = code_width c.args.roll.table.code (reads c).good
 
 -- all codewords are read
-whole : (c : In-Whole-2) → let a = c.args in Whole c.in-Whole.count ≡ scanned (reading a.roll a.buf.now)
+whole : (c : In-Whole) → let a = c.args in Whole c.in-Whole.count ≡ scanned (reading a.roll a.buf.now)
 unfolding reading_from
 whole c = sym c.in-Whole.is ∙ c.read_all-read.ensures
 
 -- the unused symbols end with the last byte
 end_is : (c : After-unused) → let a = c.args in
     a.roll.h + c.unused.result ≡ bytes_for a.roll.table.code.k a.roll.h * per a.roll.table.code.k
-end_is c = omega (arith, c.unused.ensures, bytes_for_enough (width c.before.before.before.before.before.before.before.before.before.before.before) c.args.roll.h)
+end_is c = omega (arith, c.unused.ensures, bytes_for_enough (width c.before.before.before.before.before.before.before.before.before) c.args.roll.h)
 
 zero_is : (c : After-all_zero) → let a = c.args in c.all_zero.result ≡ all_zero (unused_of a.roll a.buf.now)
 zero_is c =
@@ -62,10 +62,10 @@ zero_is c =
 
 pub returns-in_default : goal.returns-in_default
 unfolding check_says
-returns-in_default c = let e = c.in_default.is in record { says = rw (says_as c.fits2.ensures.says e, e) }
+returns-in_default c = let e = c.in_default.is in record { says = rw (says_as c.fits-fitting.ensures.says e, e) }
 
 pub returns-then-count-roll : goal.returns-then-count-roll
-returns-then-count-roll c = record { says = sym (check_7 _ _ (fits c.before.before.before.before.before.before.before.before.before) (whole c.before) c.if-count-roll.true) }
+returns-then-count-roll c = record { says = sym (check_7 _ _ (fits c.before.before.before.before.before.before.before.before.before) (whole c.before.before.before) c.if-count-roll.true) }
 
 pub overflow_add-h : goal.overflow_add-h
 overflow_add-h c =
@@ -77,7 +77,7 @@ all_zero-requires c =
 
 pub returns-then-not-all_zero : goal.returns-then-not-all_zero
 returns-then-not-all_zero c =
-    record { says = sym (check_last _ _ (fits c.before.before.before.before.before.before.before.before.before.before.before.before) (whole c.before) c.if-count-roll.false ∙ rw (sym (zero_is c.before.before) ∙ c.if-not-all_zero.true)) }
+    record { says = sym (check_last _ _ (fits c.before.before.before.before.before.before.before.before.before.before.before.before) (whole c.before.before.before.before.before.before) c.if-count-roll.false ∙ rw (sym (zero_is c.before.before) ∙ c.if-not-all_zero.true)) }
 
 pub returns-in-Bad : goal.returns-in-Bad
 unfolding reading_from
@@ -86,7 +86,7 @@ returns-in-Bad c =
 
 pub returns-else-not-all_zero : goal.returns-else-not-all_zero
 returns-else-not-all_zero c =
-    record { says = sym (check_last _ _ (fits c.before.before.before.before.before.before.before.before.before.before.before.before) (whole c.before) c.if-count-roll.false ∙ rw (sym (zero_is c.before.before) ∙ c.if-not-all_zero.false)) }
+    record { says = sym (check_last _ _ (fits c.before.before.before.before.before.before.before.before.before.before.before.before) (whole c.before.before.before.before.before.before) c.if-count-roll.false ∙ rw (sym (zero_is c.before.before) ∙ c.if-not-all_zero.false)) }
 
 pub read_all-read-requires : goal.read_all-read-requires
 read_all-read-requires c = reads c.before.before.before.before.before

@@ -12,7 +12,7 @@ use Rattle.roll.proofs.edit.check_directory.Tie as tie
 
 -- what is known at these places
 abbrev In-Yes : Type 0
-In-Yes = Places.After-enum_told tie.the-claims Clauses.Pre Clauses.Post
+In-Yes = Places.Past-After-enum_told tie.the-claims Clauses.Pre Clauses.Post
 
 sound : (c : In-Yes) → let a = c.args in Sound a.roll a.buf.now
 sound c = check_sound c.check-checked.ensures c.in-Yes.is

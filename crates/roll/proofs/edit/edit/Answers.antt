@@ -13,7 +13,7 @@ use Rattle.roll.proofs.edit.edit.Tie as tie
 
 -- what is known at these places
 abbrev In_default : Type 0
-In_default = Places.After-enum_told tie.the-claims Clauses.Pre Clauses.Post
+In_default = Places.Past-After-enum_told tie.the-claims Clauses.Pre Clauses.Post
 
 sound : (c : In_default) → let a = c.args in Sound a.roll a.buf.now × Right a.roll a.buf.now a.dir.now
 sound c = directory_sound c.check_directory-checked.ensures c.in_default.is
@@ -25,8 +25,7 @@ checked c = says_as c.check_directory-checked.ensures.says c.in_default.is
 pub returns-in-Refused : goal.returns-in-Refused
 unfolding edit_says
 returns-in-Refused c =
-    let g = c.checked-1.given in
-    edit_refused g.0.0 g.0.1.0 (rw (says_as c.check_directory-checked.ensures.says g.1)) c.refused.ensures
+    edit_refused c.in-Refused.number c.in-Refused.value (rw (says_as c.check_directory-checked.ensures.says c.in-Refused.is)) c.refused.ensures
 
 pub returns-then-end-start : goal.returns-then-end-start
 unfolding edit_says

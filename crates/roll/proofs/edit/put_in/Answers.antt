@@ -86,7 +86,7 @@ returns-then-dir-needed c =
 pub returns : goal.returns
 returns c =
     let made = c.replace-after.ensures in
-    edit_yes (decided c.before.before.before.before.before.before.before.before.before ∙ rw (le-ltb _ _ (rw (needed c.before.before.before.before.before.before.before.before.before) at c.if-dir-needed.false))) made.0 made.1.0 made.1.1
+    edit_yes (decided c.before.before.before.before.before.before.before.before.before ∙ rw (le-ltb _ _ (rw (needed c.before.before.before.before.before.before.before.before.before) at c.if-dir-needed.false))) made.«record» made.bytes made.directory
 
 pub overflow_add-run : goal.overflow_add-run
 overflow_add-run c = omega (arith, few c.before.before.before.before.before.before.before)

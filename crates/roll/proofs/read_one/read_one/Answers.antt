@@ -27,27 +27,24 @@ use Rattle.roll.proofs.read_one.read_one.Reads as Clauses
 use Rattle.roll.proofs.read_one.read_one.Tie as tie
 
 -- what is known at these places
-abbrev After-pass_over-passed : Type 0
-After-pass_over-passed = Places.After-pass_over tie.the-claims Clauses.Pre Clauses.Post
-
 abbrev In_default : Type 0
-In_default = Places.After-enum_told tie.the-claims Clauses.Pre Clauses.Post
+In_default = Places.Past-After-enum_told tie.the-claims Clauses.Pre Clauses.Post
 
 abbrev Args : Lfts 2 → Type 0
 Args = Places.Args tie.the-claims Clauses.Pre Clauses.Post
 
-abbrev In-At-2 : Type 0
-In-At-2 = Places.After-passed2 tie.the-claims Clauses.Pre Clauses.Post
+abbrev After-pass_over-passed : Type 0
+After-pass_over-passed = Places.After-pass_over tie.the-claims Clauses.Pre Clauses.Post
 
-abbrev In-Word-2 : Type 0
-In-Word-2 = Places.After-found tie.the-claims Clauses.Pre Clauses.Post
+abbrev In-At : Type 0
+In-At = Places.Past-After-known_told3 tie.the-claims Clauses.Pre Clauses.Post
 
-abbrev asked : After-pass_over-passed → In_default
-asked c = c
+abbrev In-Word : Type 0
+In-Word = Places.Past-After-known_told4 tie.the-claims Clauses.Pre Clauses.Post
 
 -- what `fits` leaves
 fits : (c : In_default) → let a = c.args in Accepted (fit_says a.roll a.buf.now)
-fits c = says_as c.fits2.ensures.says c.in_default.is
+fits c = says_as c.fits-fitting.ensures.says c.in_default.is
 
 reads : (c : In_default) → let a = c.args in (p : ℕ) → p ≤ a.roll.h → Reads a.roll.table.code a.roll.table.sigma a.buf.now a.roll.h p
 reads c = let a = c.args in fits_reads a.roll a.buf.now (fits c)
@@ -57,7 +54,7 @@ abbrev row : {κs : Lfts 2} → Args κs → List ℕ
 row s = row_upto s.roll.table.code s.roll.h s.buf.now
 
 long : (c : After-pass_over-passed) → length (row c.args) ≡ c.args.roll.h
-long c = let a = c.args in row_length a.roll a.buf.now ((fits_is a.roll a.buf.now).1 (fits (asked c))).1
+long c = let a = c.args in row_length a.roll a.buf.now ((fits_is a.roll a.buf.now).1 (fits c.before.before.before.before.before.before.before.before.before)).1
 
 -- reading is over before the codeword
 is_over : (c : After-pass_over-passed) {at : ℕ} → let a = c.args in let o = from_entry a.roll a.buf.now a.dir.now a.place in
@@ -68,31 +65,31 @@ is_over c (none, e) =
     let o = from_entry a.roll a.buf.now a.dir.now a.place in
     let short : length (ranks_read o) ≤ a.place % 32 = omega (arith, sym (length-drop (a.place % 32) (ranks_read o)) ∙ ap length none) in
     record {
-      says = rw (fits (asked c), lt-leb _ _ c.if-roll-place.false, lt-leb _ _ c.if-dir-entry.false, lt-leb _ _ c.if-h-first.false, le-leb _ _ short, rw (long c) at e);
+      says = rw (fits c.before.before.before.before.before.before.before.before.before, lt-leb _ _ c.if-roll-place.false, lt-leb _ _ c.if-dir-entry.false, lt-leb _ _ c.if-h-first.false, le-leb _ _ short, rw (long c) at e);
     }
 
 -- up to a place of the row
-passed_is : (c : In-At-2) → At c.in-At.at ≡ passed_from c.args.roll.table.code c.args.roll.table.sigma (row c.args) (get_or c.args.dir.now (c.args.place / 32) 0) (c.args.place % 32)
+passed_is : (c : In-At) → At c.in-At.at ≡ passed_from c.args.roll.table.code c.args.roll.table.sigma (row c.args) (get_or c.args.dir.now (c.args.place / 32) 0) (c.args.place % 32)
 passed_is c = sym c.in-At.is ∙ c.pass_over-passed.ensures
 
 code_is : (c : After-pass_over-passed) → T (good_code c.args.roll.table.code)
-code_is c = (reads (asked c) 0 (omega arith)).good
+code_is c = (reads c.before.before.before.before.before.before.before.before.before 0 (omega arith)).good
 
 entry_upto : (c : After-pass_over-passed) → let a = c.args in get_or a.dir.now (a.place / 32) 0 ≤ length (row c.args)
 entry_upto c = omega (arith, long c, c.if-h-first.false)
 
-at_upto : (c : In-At-2) → c.in-At.at ≤ length (row c.args)
+at_upto : (c : In-At) → c.in-At.at ≤ length (row c.args)
 at_upto c =
     let a = c.args in
-    passed_upto a.roll.table.code (code_is c.before.before) a.roll.table.sigma (row c.args) (get_or a.dir.now (a.place / 32) 0) (a.place % 32) (entry_upto c.before.before) (passed_is c)
+    passed_upto a.roll.table.code (code_is c.before) a.roll.table.sigma (row c.args) (get_or a.dir.now (a.place / 32) 0) (a.place % 32) (entry_upto c.before) (passed_is c)
 
 -- the codeword there
-word_is : (c : In-Word-2) → Word c.in-Word.rank c.in-Word.field-1 ≡ found_at c.args.roll.table.code c.args.roll.table.sigma (row c.args) c.in-At.at
+word_is : (c : In-Word) → Word c.in-Word.rank c.in-Word.field-1 ≡ found_at c.args.roll.table.code c.args.roll.table.sigma (row c.args) c.in-At.at
 word_is c = sym c.in-Word.is ∙ c.codeword_at-found.ensures
 
 pub returns-in-Refused : goal.returns-in-Refused
 unfolding read_says
-returns-in-Refused c = record { says = rw (says_as c.fits2.ensures.says c.in-Refused.is) }
+returns-in-Refused c = record { says = rw (says_as c.fits-fitting.ensures.says c.in-Refused.is) }
 
 pub returns-then-roll-place : goal.returns-then-roll-place
 unfolding read_says
@@ -115,13 +112,13 @@ pass_over-passed-requires c = reads c.before.before.before.before.before.before.
 
 pub codeword_at-found-requires : goal.codeword_at-found-requires
 codeword_at-found-requires c =
-    reads (asked c.before.before) c.in-At.at (omega (arith, at_upto c.before, long c.before.before))
+    reads c.before.before.before.before.before.before.before.before.before.before.before c.in-At.at (omega (arith, at_upto c.before, long c.before.before))
 
 pub bounds-table-rank : goal.bounds-table-rank
 bounds-table-rank c =
     let a = c.args in
-    let g = reads (asked c.before.before.before.before) 0 (omega arith) in
-    let w = found_word a.roll.table.code (code_is c.before.before.before.before) a.roll.table.sigma (row c.args) (word_is c.before) (at_upto c.before) in
+    let g = reads c.before.before.before.before.before.before.before.before.before.before.before.before.before 0 (omega arith) in
+    let w = found_word a.roll.table.code (code_is c.before.before.before.before) a.roll.table.sigma (row c.args) (word_is c.before) (at_upto c.before.before.before) in
     omega (arith, w.rank, g.few)
 
 pub returns-in-Bad : goal.returns-in-Bad
@@ -136,9 +133,9 @@ pub returns-in-Word : goal.returns-in-Word
 unfolding reading_from
 returns-in-Word c =
     let a = c.args in
-    let (good, within) = (fits_is a.roll a.buf.now).1 (fits (asked c.before.before.before.before.before)) in
+    let (good, within) = (fits_is a.roll a.buf.now).1 (fits c.before.before.before.before.before.before.before.before.before.before.before.before.before.before) in
     let (held, rank) = passed_word a.roll.table.code (code_is c.before.before.before.before.before) a.roll.table.sigma (row c.args) (get_or a.dir.now (a.place / 32) 0) (a.place % 32) (entry_upto c.before.before.before.before.before)
-    (passed_is c.before) (word_is c.before) in
+    (passed_is c.before.before.before.before) (word_is c.before.before) in
     let c : ReadsOne a.roll a.buf.now a.dir.now a.place
     = record { good = good; fits = within; inside = c.if-roll-place.false; held = c.if-dir-entry.false; below = c.if-h-first.false; reached = held } in
     rw (← rank) (record { says = sym ((reads_is a.roll a.buf.now a.dir.now a.place).0 c) })
@@ -148,5 +145,5 @@ unfolding reading_from
 returns-in-Bad-found c =
     let a = c.args in
     is_over c.before.before.before.before
-    (passed_none a.roll.table.code (code_is c.before.before.before.before) a.roll.table.sigma (row c.args) (get_or a.dir.now (a.place / 32) 0) (a.place % 32) (entry_upto c.before.before.before.before) (passed_is c.before)
+    (passed_none a.roll.table.code (code_is c.before.before.before.before) a.roll.table.sigma (row c.args) (get_or a.dir.now (a.place / 32) 0) (a.place % 32) (entry_upto c.before.before.before.before) (passed_is c.before.before.before)
     (sym c.in-Bad-found.is ∙ c.codeword_at-found.ensures))

@@ -10,7 +10,7 @@ use Rattle.roll.proofs.search.search.Tie as tie
 
 -- what is known at these places
 abbrev In_default : Type 0
-In_default = Places.After-enum_told tie.the-claims Clauses.Pre Clauses.Post tie.handed_clauses
+In_default = Places.Past-After-enum_told tie.the-claims Clauses.Pre Clauses.Post tie.handed_clauses
 
 -- nothing is refused
 accepted : (c : In_default) → let a = c.args in Sound a.roll a.buf.now × T (good_pattern a.pattern.now)

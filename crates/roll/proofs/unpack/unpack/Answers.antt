@@ -12,7 +12,7 @@ use Rattle.roll.proofs.unpack.unpack.Tie as tie
 
 -- what is known at these places
 abbrev In-Yes : Type 0
-In-Yes = Places.After-enum_told tie.the-claims Clauses.Pre Clauses.Post
+In-Yes = Places.Past-After-enum_told tie.the-claims Clauses.Pre Clauses.Post
 
 abbrev Else-out-end : Type 0
 Else-out-end = Places.Else3 tie.the-claims Clauses.Pre Clauses.Post
