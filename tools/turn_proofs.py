@@ -169,6 +169,8 @@ class Fn:
                         best = (nf, pth)
                 if best:
                     return r + "." + ".".join([name, best[0]] + segs[1 + len(best[1]):])
+            if segs[0].endswith("_lem") and norm(segs[0][:-4]) in self.step:
+                segs[0] = segs[0][:-4]
             s = norm(segs[0])
             if s not in self.step and s[-1:].isdigit() and s[:-1] in self.step:
                 s = s[:-1]

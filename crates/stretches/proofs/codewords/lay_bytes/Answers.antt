@@ -11,6 +11,7 @@ use Rattle.symbols.specs.Laws.Rows.{symbols_length}
 use Rattle.symbols.specs.Laws.Width.{per_pos}
 use Rattle.stretches.specs.Laws.Codewords.{bytes_more}
 use Rattle.stretches.proofs.codewords.lay_bytes.Goals as goal
+use Rattle.stretches.proofs.codewords.lay_bytes.Goals.{then-left-most, else-left-most}
 use Rattle.stretches.proofs.codewords.lay_bytes.Lts as Places
 use Rattle.stretches.proofs.codewords.lay_bytes.Reads as Clauses
 use Rattle.stretches.proofs.codewords.lay_bytes.Tie as tie
@@ -23,7 +24,10 @@ pub loop-j-init : goal.loop-j-init
 loop-j-init c =
     let p = c.per_byte-per.result in
     let n : (c.if-left-most.n ≤ 256 / p) × (c.args.first + c.if-left-most.n ≤ length c.args.piece.now)
-    = ⊎_elim (λ w. (omega (arith, w.1, w.0.taken), omega (arith, w.1, c.requires.1))) (λ w. (omega (arith, w.1), omega (arith, w.1, w.0.left, c.requires.1))) c.if-left-most.branch in
+    = elim c.if-left-most.branch [
+      | then-left-most w ↦ (omega (arith, w.n-is, w.if-left-most.true), omega (arith, w.n-is, c.requires.1))
+      | else-left-most w ↦ (omega (arith, w.n-is), omega (arith, w.n-is, w.if-left-most.false, c.requires.1))
+    ] in
     (omega arith, omega (arith, mul-le-mul_right p n.0, div-mul-le_self 256 p), n.1, (c.requires.2, λ i h. absurd (omega arith)))
 
 -- a byte more has its places

@@ -20,6 +20,7 @@ use Rattle.stopper.specs.declared.reading.Reader.{Reader}
 use Rattle.stretches.specs.Helpers.Codewords.{PassedSome}
 use Rattle.stretches.specs.Laws.Codewords.{run_laid, small_laid}
 use Rattle.stretches.proofs.codewords.pass.Goals as goal
+use Rattle.stretches.proofs.codewords.pass.Goals.{then-left-laid, else-left-laid}
 use Rattle.stretches.proofs.codewords.pass.Lts as Places
 use Rattle.stretches.proofs.codewords.pass.Reads as Clauses
 use Rattle.stretches.proofs.codewords.pass.Tie as tie
@@ -54,10 +55,10 @@ overflow_add-left c = let a = skip_least c.before.before.before.before in let o 
 -- the symbols out, from the loop
 pub loop-far-init : goal.loop-far-init
 loop-far-init c =
-    ⊎_elim
-    (λ w. (c.requires.4, omega (arith, w.1, w.0.taken), omega (arith, w.1)))
-    (λ w. (c.requires.4, omega (arith, w.1), omega (arith, w.1, w.0.left)))
-    c.if-left-laid.branch
+    elim c.if-left-laid.branch [
+      | then-left-laid w ↦ (c.requires.4, omega (arith, w.far-is, w.if-left-laid.true), omega (arith, w.far-is))
+      | else-left-laid w ↦ (c.requires.4, omega (arith, w.far-is), omega (arith, w.far-is, w.if-left-laid.false))
+    ]
 
 pub last_end-to-requires : goal.last_end-to-requires
 last_end-to-requires c = let z = c.lay_out-laid.ensures in omega (arith, c.loop-far.invariant.1, z.long, z.few)

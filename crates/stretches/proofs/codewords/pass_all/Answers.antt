@@ -90,13 +90,14 @@ product_fits c = let f = few_is c.before.before.before.before.before in mul-le-m
 low_fits : (c : goal.After-wide-y) → get_or c.roles_of-roles.result.low c.wide-y.result 0 < 16
 low_fits c = rw (low_is c.before) (low_small (s c.before) c.wide-y.result (symbol_small c.before))
 
-number_fits : (c : Else-sigma-rank) → (c.loop-i.x * get_or c.roles_of-roles.result.times c.wide-y.result 0 ≤ 4080) × (get_or c.roles_of-roles.result.plus c.wide-y.result 0 ≤ 16)
-number_fits c =
-    let f = few_is c.before.before.before.before.before in
+number_fits : (c : After-wide-y) → c.loop-i.x * s c + get_or c.roles_of-roles.result.low c.wide-y.result 0 < c.args.sigma
+    → (c.loop-i.x * get_or c.roles_of-roles.result.times c.wide-y.result 0 ≤ 4080) × (get_or c.roles_of-roles.result.plus c.wide-y.result 0 ≤ 16)
+number_fits c h =
+    let f = few_is c.before.before.before.before in
     let x = c.loop-i.x in
-    let a : x ≤ 255 = omega (arith, le-mul_of_pos_right x f.0, c.if-sigma-rank.false, c.requires.sigma) in
-    let b : get_or c.roles_of-roles.result.times c.wide-y.result 0 ≤ 16 = omega (arith, times_is c.before, times_small (s c.before) (goes c.before) c.wide-y.result, f.2) in
-    (mul-le-mul {n₂ = 255} {m₂ = 16} a b, rw (plus_is c.before) (plus_small (s c.before) c.wide-y.result (symbol_small c.before)))
+    let a : x ≤ 255 = omega (arith, le-mul_of_pos_right x f.0, h, c.requires.sigma) in
+    let b : get_or c.roles_of-roles.result.times c.wide-y.result 0 ≤ 16 = omega (arith, times_is c, times_small (s c) (goes c) c.wide-y.result, f.2) in
+    (mul-le-mul {n₂ = 255} {m₂ = 16} a b, rw (plus_is c) (plus_small (s c) c.wide-y.result (symbol_small c)))
 
 room : (c : Else-sigma-rank) → (c.loop-i.n < 256) × (c.loop-i.n < length c.loop-i.text)
 room c =
@@ -127,10 +128,10 @@ returns-then-sigma-rank c =
     record { long = c.loop-i.invariant.2; short = λ _. c.loop-i-test.true; few = λ t. absurd t; whole = λ t. absurd t }
 
 pub overflow_mul-x : goal.overflow_mul-x
-overflow_mul-x c = record { fits = omega (arith, (number_fits c.before).0) }
+overflow_mul-x c = record { fits = omega (arith, (number_fits c.before.before c.if-sigma-rank.false).0) }
 
 pub overflow_add-x : goal.overflow_add-x
-overflow_add-x c = record { fits = omega (arith, number_fits c.before) }
+overflow_add-x c = record { fits = omega (arith, number_fits c.before.before c.if-sigma-rank.false) }
 
 pub loop-i-preserved : goal.loop-i-preserved
 loop-i-preserved c =
@@ -138,7 +139,7 @@ loop-i-preserved c =
       omega (arith, a, stop_fits c.before.before.before),
       omega (arith, c.loop-i-test.true),
       simp length-set e,
-      omega (arith, number_fits c.before.before.before),
+      omega (arith, number_fits c.before.before.before.before c.if-sigma-rank.false),
       λ code p.
           rw (low_is c.before.before.before.before, times_is c.before.before.before.before, plus_is c.before.before.before.before, stops_is c.before.before.before.before, run_more (row c.args) c.args.from c.loop-i.i (omega (arith, a)) (inside c.before.before.before.before.before.before), ← symbol_is c.before.before.before.before)
           (any_more code p.good c.args.sigma c.args.places.now (z code p) (s c.before.before.before.before) (goes c.before.before.before.before) c.wide-y.result p.stops p.goes (room c.before.before.before).1 (omega (arith, c.if-sigma-rank.false, low_is c.before.before.before.before))),
