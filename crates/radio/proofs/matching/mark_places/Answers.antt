@@ -14,14 +14,15 @@ use Rattle.ground.specs.Laws.Rows.{length_tab, length_zeros, tab_at, tab_zeros}
 use Rattle.texts.specs.Paper.Hits.{most_pattern}
 use Rattle.radio.specs.Helpers.Masks.{mask_of, masks_of}
 use Rattle.radio.specs.Laws.Matching.{mask_low, masks_more}
-use Rattle.radio.proofs.matching.mark_places.Statement.{statement}
+use Rattle.radio.proofs.matching.mark_places.Invariants.{Masked}
+use Rattle.radio.proofs.matching.mark_places.Goals as goal
+use Rattle.radio.proofs.matching.mark_places.Lts as Places
+use Rattle.radio.proofs.matching.mark_places.Reads as Clauses
 use Rattle.radio.proofs.matching.mark_places.Tie as tie
 
-pub record Masked (pattern : List ℕ) (n : ℕ) (masks : List ℕ) (j : ℕ) : Type 0 where
-  pub long : length pattern ≡ most_pattern
-  pub few : n ≤ most_pattern
-  pub upto : j ≤ n
-  pub row : masks ≡ masks_of (take j pattern)
+-- what is known at these places
+abbrev After-wide-b : Type 0
+After-wide-b = Places.After-wide tie.the-claims Clauses.Pre Clauses.Post goal.the-invariant-loop-j goal.the-decreases-loop-j
 
 -- bit j, as the code makes it
 abbrev bit : ℕ → ℕ
@@ -58,46 +59,32 @@ module _ {pattern : List ℕ} {n : ℕ} {masks : List ℕ} {j : ℕ} (s : Masked
         row = rw (s.row, bit_is j (omega arith), add-one, take-suc pattern j 0 (omega arith), ← e) (rw long at (masks_more q b small));
       }
 
-abbrev invariant-loop : tie.invariant-loop
-invariant-loop n masks₀ pattern j₀ masks j = Masked pattern n masks j
+pub loop-j-preserved : goal.loop-j-preserved
+loop-j-preserved c = more c.loop-j.invariant c.loop-j-test.true c.wide-b.ensures.1 c.wide-b.ensures.0
 
-abbrev decreases-loop : tie.decreases-loop
-decreases-loop n masks₀ pattern j₀ masks j = n - j
+pub overflow_add-masks : goal.overflow_add-masks
+overflow_add-masks c = record { fits = room c.loop-j.invariant c.loop-j-test.true c.wide-b.ensures.1 }
 
-loop-again : tie.Need-loop-preserved invariant-loop decreases-loop
-loop-again c = let w = c.before in more w.before.before.loop.invariant w.before.loop-test.true w.wide.ensures.1 w.wide.ensures.0
+inside : (c : After-wide-b) → c.wide-b.result < length c.loop-j.masks
+inside c = omega (arith, c.wide-b.ensures.1, entries c.loop-j.invariant)
 
-add-masks : tie.Need-overflow-add-masks invariant-loop decreases-loop
-add-masks c = let w = c.before in record { fits = room w.before.before.loop.invariant w.before.loop-test.true w.wide.ensures.1 }
+pub shape_of-masks : goal.shape_of-masks
+shape_of-masks c = entries c.loop-j.invariant ∙ sym (ap length c.requires.1 ∙ length_zeros 256)
 
-inside : (c : tie.After-wide invariant-loop decreases-loop) → c.wide.result < length c.before.before.loop.masks
-inside c = omega (arith, c.wide.ensures.1, entries c.before.before.loop.invariant)
-
-same_length : tie.Need-same-length invariant-loop decreases-loop
-same_length c = entries c.before.loop.invariant ∙ sym (ap length c.before.before.before.requires.1 ∙ length_zeros 256)
-
-returns : tie.Need-returns invariant-loop decreases-loop
+pub returns : goal.returns
 returns c =
-    let a = c.before.before.before.args in
-    let all : c.before.loop.j ≡ a.length = omega (arith, c.before.loop.invariant.upto, c.loop-test.false) in
-    c.before.loop.invariant.row ∙ ap (λ (j : ℕ). masks_of (take j a.t1)) all
+    let a = c.args in
+    let all : c.loop-j.j ≡ a.length = omega (arith, c.loop-j.invariant.upto, c.loop-j-test.false) in
+    c.loop-j.invariant.row ∙ ap (λ (j : ℕ). masks_of (take j a.pattern)) all
 
-pub mark_places_spec : {M : Type 1} → statement M
-mark_places_spec =
-    tie.close
-    (tie.spec
-    invariant-loop
-    decreases-loop
-    (λ c. let x = c.before in start x.args.t1 x.args.length x.args.masks.now (search rules) x.requires.0 x.requires.1)
-    (λ c. omega arith)
-    (λ c κs. search rules)
-    (λ c. omega arith)
-    (λ c. omega (arith, c.wide.ensures.1))
-    (λ c. inside c.before)
-    add-masks
-    (λ c. inside c.before)
-    (λ c. omega arith)
-    (λ c. omega arith)
-    loop-again
-    same_length
-    returns)
+pub loop-j-init : goal.loop-j-init
+loop-j-init c = start c.args.pattern c.args.length c.args.masks.now (search rules) c.requires.0 c.requires.1
+
+pub offset_bounds-masks-b : goal.offset_bounds-masks-b
+offset_bounds-masks-b c = omega (arith, c.wide-b.ensures.1)
+
+pub bounds-masks-b : goal.bounds-masks-b
+bounds-masks-b c = inside c.before.before
+
+pub bounds-masks-b-in-loop-j : goal.bounds-masks-b-in-loop-j
+bounds-masks-b-in-loop-j c = inside c.before
