@@ -22,7 +22,8 @@ use Rattle.stopper.specs.Paper.Reading.{write}
 use Rattle.stopper.specs.Paper.Table.{base, stoppers, has, characters, good_table, rank_in, word_of, length_of, longest}
 use Rattle.stopper.specs.Paper.Operations.{codeword_says, codeword_given, Coding, is_one, word_in, character_rows, character_at, character_says, Decoding}
 use Rattle.stopper.specs.Laws.Characters.{◌∈◌, mem_at, mem_has}
-use Rattle.stopper.specs.Laws.Code.{codeword_word, rank_codeword, codeword_rank, length_mono, word_test, test_word}
+use Rattle.stopper.specs.Laws.Code.{length_mono, word_test, test_word}
+use Rattle.stopper.proofs.Laws.Code.{codeword_word, rank_codeword, codeword_rank}
 use Rattle.stopper.specs.Laws.Table.{table_code, table_few, table_apart, code_good, length_small}
 use Rattle.stopper.specs.Laws.Accepting.{codes_is, decodes_is}
 use Rattle.stopper.specs.declared.table.Table.{Table}

@@ -13,7 +13,8 @@ use Rattle.stopper.specs.Paper.Reading.{Reading, done, bad, Fault, unfinished, b
 use Rattle.stopper.specs.Paper.Table.{base, stoppers, word_of}
 use Rattle.stopper.specs.declared.table.Table.{Table}
 use Rattle.stopper.specs.Helpers.First.{first_word, broken}
-use Rattle.stopper.specs.Laws.Reading.{read_write, read_bad, unfinished_open, beyond_word}
+use Rattle.stopper.specs.Laws.Reading.{unfinished_open}
+use Rattle.stopper.proofs.Laws.Reading.{read_write, read_bad, beyond_word}
 use Rattle.stopper.specs.Laws.Table.{table_code, code_good}
 use Rattle.symbols.specs.Laws.Rows.{symbols_below}
 use Rattle.texts.specs.Paper.Hits.{hits}

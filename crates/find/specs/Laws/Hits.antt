@@ -15,8 +15,10 @@ use Rattle.stopper.specs.Paper.Code.{Good, IsCodeword, stop as stopper, more as 
 use Rattle.stopper.specs.Paper.Reading.{Reading, done, read_from, write}
 use Rattle.stopper.specs.Paper.Table.{base, stoppers, good_code, rank_in, length_of, characters}
 use Rattle.stopper.specs.Laws.Characters.{◌∈◌}
-use Rattle.stopper.specs.Laws.Reading.{aheads, ahead_done, read_front, read_write, write_append}
-use Rattle.stopper.specs.Laws.Code.{codeword_word, length_codeword}
+use Rattle.stopper.specs.Laws.Reading.{aheads, ahead_done, write_append}
+use Rattle.stopper.proofs.Laws.Reading.{read_front, read_write}
+use Rattle.stopper.specs.Laws.Code.{length_codeword}
+use Rattle.stopper.proofs.Laws.Code.{codeword_word}
 use Rattle.stopper.specs.Laws.Table.{one_number, code_good}
 use Rattle.stopper.specs.declared.code.Code.{Code}
 use Rattle.texts.specs.Paper.Hits.{stands, hits}

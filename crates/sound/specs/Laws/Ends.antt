@@ -12,7 +12,7 @@ use Rattle.ground.specs.Laws.Tests.{cond_yes, cond_no}
 use Rattle.stopper.specs.Paper.Code.{Good, IsCodeword, stop, more, codeword}
 use Rattle.stopper.specs.Paper.Table.{base, stoppers}
 use Rattle.stopper.specs.Paper.Reading.{write}
-use Rattle.stopper.specs.Laws.Code.{codeword_word}
+use Rattle.stopper.proofs.Laws.Code.{codeword_word}
 use Rattle.stopper.specs.Laws.Table.{code_good}
 use Rattle.stopper.specs.Laws.Reading.{write_append}
 use Rattle.symbols.specs.Paper.Symbols.{symbols_of}

@@ -12,7 +12,7 @@ use Rattle.ground.specs.Laws.Runs.{run_length}
 use Rattle.stopper.specs.Paper.Table.{base, stoppers, good_code, good_table, characters, rank_in}
 use Rattle.stopper.specs.Paper.Reading.{done, write}
 use Rattle.stopper.specs.Laws.Table.{code_good, code_width, table_code, table_apart}
-use Rattle.stopper.specs.Laws.Reading.{read_write}
+use Rattle.stopper.proofs.Laws.Reading.{read_write}
 use Rattle.symbols.specs.Paper.Symbols.{per, bytes_for, room, symbols_of, bytes_of}
 use Rattle.symbols.specs.Helpers.Widths.{Width}
 use Rattle.symbols.specs.Laws.Sizes.{bytes_for_enough}

@@ -12,7 +12,7 @@ use Rattle.ground.specs.Laws.Rows.{below_take, below_drop}
 use Rattle.stopper.specs.Paper.Table.{base, stoppers, good_code, good_table}
 use Rattle.stopper.specs.Paper.Reading.{Reading, done, read_from, write}
 use Rattle.stopper.specs.Laws.Table.{table_code, table_few, code_good, code_width}
-use Rattle.stopper.specs.Laws.Reading.{read_write, write_read}
+use Rattle.stopper.proofs.Laws.Reading.{read_write, write_read}
 use Rattle.symbols.specs.Paper.Symbols.{room, symbols_of}
 use Rattle.symbols.specs.Helpers.Widths.{Width}
 use Rattle.symbols.specs.Laws.Sizes.{room_limit}

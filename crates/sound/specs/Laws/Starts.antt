@@ -10,7 +10,8 @@ use Rattle.ground.specs.Laws.Rows.{below_at}
 use Rattle.stopper.specs.Paper.Table.{base, stoppers, good_code, word_of, length_of}
 use Rattle.stopper.specs.Paper.Reading.{write}
 use Rattle.stopper.specs.Laws.Table.{code_good}
-use Rattle.stopper.specs.Laws.Reading.{first_codeword, write_append, drop_write}
+use Rattle.stopper.specs.Laws.Reading.{write_append, drop_write}
+use Rattle.stopper.proofs.Laws.Reading.{first_codeword}
 use Rattle.stopper.specs.declared.code.Code.{Code}
 use Rattle.texts.specs.Paper.Directory.{sum, start_at}
 use Rattle.reading.specs.Helpers.Codewords.{found_in, found_at, passed_from}

@@ -7,7 +7,7 @@ use Rattle.std.proofs.Math.Seq.{take-append_seam, drop-append_seam}
 use Rattle.ground.specs.Helpers.Below.{Below}
 use Rattle.stopper.specs.Paper.Table.{base, stoppers, good_code, word_of, length_of, rank_in}
 use Rattle.stopper.specs.Paper.Reading.{write}
-use Rattle.stopper.specs.Laws.Reading.{write_below}
+use Rattle.stopper.proofs.Laws.Reading.{write_below}
 use Rattle.stopper.specs.Laws.Table.{code_good}
 use Rattle.stopper.specs.declared.code.Code.{Code}
 use Rattle.sound.specs.Paper.Roll.{text_row}

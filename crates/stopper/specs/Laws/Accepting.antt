@@ -1,5 +1,5 @@
 -- Each operation is accepted exactly if: its refusals put in positive words.
-use Rattle.std.specs.Prelude.{◌≡◌, ◌↔◌, ◌&&◌, ℕ, ◌≤◌, T, leb, length}
+use Rattle.std.specs.Prelude.{◌≡◌, ◌↔◌, ◌&&◌, ℕ, ◌≤◌, T, leb}
 use Rattle.std.proofs.Common.{le-leb, leb→le}
 use Rattle.std.proofs.lemmas.Bool.{not-false}
 use Rattle.std.proofs.Math.Facts.{and_yes}

@@ -12,7 +12,7 @@ use Rattle.std.proofs.Math.Facts.{and_yes, yes_and, yes_leb, yes_ltb, no_ltb}
 use Rattle.std.proofs.Math.Dec.{ltb→lt}
 use Rattle.std.proofs.Math.Arith.{lt-one, digits_lt, digits_div, digits_mod}
 use Rattle.ground.specs.Laws.Tests.{cond_yes, cond_no, by_test}
-use Rattle.stopper.specs.Paper.Code.{Good, Within, IsCodeword, stop, more, opens, shorter, first, place, spell, codeword, rank_at, rank_from, rank_of, is_word}
+use Rattle.stopper.specs.Paper.Code.{Good, Within, IsCodeword, stop, more, opens, shorter, first, place, spell, codeword, rank_at, rank_from, is_word}
 
 sum_le : (p q : ℕ) → 0 < p → 0 < q → p + q ≤ p * q + 1
 sum_le zero q hp hq = omega arith
@@ -93,10 +93,6 @@ module _ (m : ℕ) (s : ℕ → ℕ) (g : Good m s) where
   unfolding rank_at shorter
   at_within i hx hy = record { above = omega arith; below = omega (arith, digits_lt hx hy) }
 
-  pub codeword_at : (i : ℕ) {x y : ℕ} → x < opens m s i → y < s i → codeword m s (rank_at m s i x y) ≡ spell m s i x (y ∷ [])
-  unfolding codeword rank_at
-  codeword_at i {x} {y} hx hy = rw (place_is (at_within i hx hy), add-sub_cancel_left, digits_div x hy, digits_mod x hy)
-
   -- what holds of each place, value and stopper holds of each rank
   pub by_parts {ℓ} : (P : ℕ → Type ℓ) → ((i x y : ℕ) → x < opens m s i → y < s i → P (rank_at m s i x y)) → (r : ℕ) → P r
   unfolding rank_at shorter
@@ -119,19 +115,7 @@ module _ (m : ℕ) (s : ℕ → ℕ) (g : Good m s) where
       ∙ on i (x / (m - s i)) _ w (omega arith) (omega (arith, mod-lt x (conts_pos i)))
       ∙ rw (add-sub_cancel_left, div-add-mod')
 
-  -- ---- L1: a codeword is continuers and then one stopper
-
-  spell_word : (i : ℕ) {x : ℕ} {w : List ℕ} → x < opens m s i → IsCodeword m s i w → IsCodeword m s 0 (spell m s i x w)
-  unfolding spell opens
-  spell_word zero hx hw = hw
-  spell_word (suc i) {x} hx hw =
-      spell_word i ((div-lt_iff_lt-mul (conts_pos i)).1 hx)
-      (more (omega arith) (omega (arith, mod-lt x (conts_pos i))) hw)
-
-  pub codeword_word : (r : ℕ) → IsCodeword m s 0 (codeword m s r)
-  codeword_word = by_parts (λ r. IsCodeword m s 0 (codeword m s r)) (λ i x y hx hy. rw (codeword_at i hx hy) (spell_word i hx (stop hy)))
-
-  -- ---- L2: the rank of codeword r is r
+  -- ---- the rank, symbol by symbol
 
   pub rank_stop : (i x y : ℕ) (w : List ℕ) → y < s i → rank_from m s i x (y ∷ w) ≡ rank_at m s i x y
   unfolding rank_from
@@ -140,23 +124,6 @@ module _ (m : ℕ) (s : ℕ → ℕ) (g : Good m s) where
   pub rank_more : (i x y : ℕ) (w : List ℕ) → s i ≤ y → rank_from m s i x (y ∷ w) ≡ rank_from m s (suc i) (x * (m - s i) + (y - s i)) w
   unfolding rank_from
   rank_more i x y w h = cond_no (ltb y (s i)) _ _ (no_ltb h)
-
-  pub rank_codeword : (r : ℕ) → rank_of m s (codeword m s r) ≡ r
-  unfolding rank_of
-  rank_codeword = by_parts (λ r. rank_of m s (codeword m s r) ≡ r) (λ i x y hx hy. rw (codeword_at i hx hy) (through (rank_from m s) (λ i x y w a _. rank_more i x y w a) i x (y ∷ []) hx ∙ rank_stop i x y [] hy))
-
-  -- ---- L3: a codeword is the codeword of its rank
-
-  word_spell : {i : ℕ} {w : List ℕ} → IsCodeword m s i w → (x : ℕ) → x < opens m s i → codeword m s (rank_from m s i x w) ≡ spell m s i x w
-  unfolding opens
-  word_spell {i} (stop {y = y} h) x hx = rw (rank_stop i x y [] h) (codeword_at i hx h)
-  word_spell {i} (more {y = y} {w = w} a b h) x hx =
-      let d : y - s i < m - s i = omega arith in
-      rw (rank_more i x y w a) (word_spell h (x * (m - s i) + (y - s i)) (digits_lt hx d) ∙ spell_more m s i x y w a b)
-
-  pub codeword_rank : {w : List ℕ} → IsCodeword m s 0 w → codeword m s (rank_of m s w) ≡ w
-  unfolding rank_of spell
-  codeword_rank h = word_spell h 0 (opens_pos 0)
 
   -- ---- L4, L5, L7: lengths
 
@@ -173,10 +140,6 @@ module _ (m : ℕ) (s : ℕ → ℕ) (g : Good m s) where
     (λ e. subst (Within m s r) (suc_inj (sym (length_codeword r) ∙ e)) (place_within r)),
     (λ w. length_codeword r ∙ ap suc (place_is w)),
   )
-
-  -- so the ranks from shorter i up to shorter (i + 1) and the codewords of i + 1 symbols answer one to one
-  pub rank_within : {w : List ℕ} {i : ℕ} → IsCodeword m s 0 w → length w ≡ suc i → Within m s (rank_of m s w) i
-  rank_within {w} {i} h e = (length_iff (rank_of m s w) i).0 (ap length (codeword_rank h) ∙ e)
 
   -- with i places there are at least (m - 1) * i + 1 rows, finished or open
   rows : (i : ℕ) → m * i + 1 ≤ shorter m s i + opens m s i + i

@@ -19,7 +19,7 @@ use Rattle.ground.specs.Laws.Tests.{by_value}
 use Rattle.stopper.specs.Paper.Reading.{write}
 use Rattle.stopper.specs.Paper.Table.{base, stoppers, good_code, has, rank_in, word_of, length_of, longest}
 use Rattle.stopper.specs.Laws.Characters.{has_rank}
-use Rattle.stopper.specs.Laws.Reading.{write_below}
+use Rattle.stopper.proofs.Laws.Reading.{write_below}
 use Rattle.stopper.specs.Laws.Table.{code_good, code_width, length_place, length_small}
 use Rattle.stopper.specs.declared.code.Code.{Code}
 use Rattle.symbols.specs.Laws.Rows.{symbols_even}
