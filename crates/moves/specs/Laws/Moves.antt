@@ -1,5 +1,5 @@
 -- The laws of moves.
-use Rattle.std.specs.Prelude.{◌≡◌, refl, List, [], ◌∷◌, ◌++◌, ℕ, zero, suc, ◌+◌, ◌-◌, ◌*◌, ◌/◌, ◌^◌, ◌≤◌, ◌<◌, T, length, take, drop, get_or, set}
+use Rattle.std.specs.Prelude.{◌≡◌, refl, List, [], ◌∷◌, ◌++◌, ℕ, suc, ◌+◌, ◌-◌, ◌*◌, ◌/◌, ◌^◌, ◌≤◌, ◌<◌, T, length, take, drop, get_or, set}
 use Rattle.std.proofs.Common.{sym, ap, ap₂, subst, ◌∙◌, le-div_iff_mul-le, add-mul, mul_assoc, mul-le-mul_right, add-one, arith, length-append, length-drop, take-append-drop, drop-cons, take-add, take_all, length-take-le, get_or-set_same, get_or-set_other}
 use Rattle.std.proofs.Math.Nat.{pow-zero}
 use Rattle.std.proofs.Math.Decide.{ℕ_discrete}
@@ -8,7 +8,7 @@ use Rattle.ground.specs.Helpers.Below.{none, also}
 use Rattle.ground.specs.Laws.Rows.{below_append}
 use Rattle.ground.specs.Laws.Runs.{run_slice}
 use Rattle.stopper.specs.Paper.Table.{base, good_code}
-use Rattle.stopper.specs.Paper.Reading.{Fault, Reading, done, bad}
+use Rattle.stopper.specs.Paper.Reading.{Fault, done, bad}
 use Rattle.stopper.specs.Laws.Table.{code_width}
 use Rattle.stopper.specs.declared.code.Code.{Code}
 use Rattle.symbols.specs.Paper.Symbols.{per, symbols_of}

@@ -1,7 +1,7 @@
 -- `judge::judging::hear_run` meets its contract.
 use mathlib.Core.Path.{◌≡◌, refl, sym, ap, ◌∙◌}
 use mathlib.Core.List.{List}
-use Prim.Native.Nat.{ℕ, ◌+◌, ◌-◌}
+use Prim.Native.Nat.{ℕ, ◌+◌}
 use native.Mathlib.Omega.{arith}
 use Rattle.ground.specs.Paper.Runs.{run}
 use Rattle.stopper.specs.Laws.Table.{code_width}

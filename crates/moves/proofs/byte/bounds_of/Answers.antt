@@ -1,6 +1,5 @@
 -- `moves::byte::bounds_of` meets its contract: the bounds of the byte values below b are written.
 use mathlib.Core.Path.{◌≡◌, ◌∙◌}
-use Prim.Native.Nat.{◌-◌}
 use native.Mathlib.Omega.{arith}
 use lib.ListN.{length-set}
 use Rattle.ground.specs.Paper.Rows.{zeros}

@@ -1,6 +1,5 @@
 -- `moves::byte::part_of` meets its contract: the bytes of the moves below b are written.
 use mathlib.Core.Path.{◌≡◌, ◌∙◌}
-use Prim.Native.Nat.{◌-◌}
 use native.Mathlib.Omega.{arith}
 use lib.ListN.{length-set}
 use Rattle.ground.specs.Paper.Rows.{zeros}

@@ -1,5 +1,5 @@
 use mathlib.Core.Path.{◌≡◌}
-use Prim.Native.Nat.{◌-◌, ◌≤◌}
+use Prim.Native.Nat.{◌≤◌}
 use lib.ListN.{take}
 use Rattle.stopper.specs.Paper.Table.{even_code}
 use Rattle.symbols.specs.Paper.Symbols.{symbols_of}

@@ -1,6 +1,5 @@
 -- `moves::passing::told` meets its contract: all symbols taken and no codeword open, or the open one is bad.
 use mathlib.Core.Path.{◌≡◌, sym, ap, ◌∙◌}
-use mathlib.Core.Logic.{⊎_elim}
 use mathlib.Core.List.{List, []}
 use Prim.Native.Nat.{ℕ}
 use native.Mathlib.Omega.{arith}

@@ -1,7 +1,7 @@
 -- `sound::ends::end_at` meets its contract: before symbol q, at place i of the codeword, its end is yet to come, and is as far as it was from p.
 use mathlib.Core.Path.{◌≡◌, refl, ap, ◌∙◌}
 use mathlib.Core.List.{List}
-use Prim.Native.Nat.{ℕ, suc, ◌+◌, ◌-◌, ◌<◌}
+use Prim.Native.Nat.{ℕ, suc, ◌+◌, ◌<◌}
 use native.Mathlib.Omega.{arith}
 use lib.ListN.{length, drop}
 use Rattle.stopper.specs.Paper.Table.{stoppers}

@@ -1,4 +1,4 @@
-use Prim.Native.Nat.{◌-◌, ◌≤◌, ◌<◌}
+use Prim.Native.Nat.{◌≤◌, ◌<◌}
 use Rattle.sound.specs.Helpers.Ends.{Passing}
 use Rattle.sound.proofs.ends.from_byte.Given as goal
 

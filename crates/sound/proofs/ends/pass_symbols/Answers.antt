@@ -1,5 +1,4 @@
 -- `sound::ends::pass_symbols` meets its contract: from symbol q on so many codewords are left.
-use Prim.Native.Nat.{◌-◌}
 use native.Mathlib.Omega.{arith}
 use Rattle.stopper.specs.Laws.Table.{code_width}
 use Rattle.sound.specs.Laws.Stops.{passing_first, passing_last, passing_upto, passing_inside, passing_stopper, passing_continuer}

@@ -1,7 +1,7 @@
 -- `sound::ends::stops_counted` meets its contract: the bytes below b are counted.
 use mathlib.Core.Path.{ap, ◌∙◌}
 use mathlib.Core.List.{List}
-use Prim.Native.Nat.{ℕ, ◌-◌}
+use Prim.Native.Nat.{ℕ}
 use native.Mathlib.Omega.{arith}
 use lib.ListN.{set}
 use Rattle.ground.specs.Paper.Rows.{zeros}

@@ -1,6 +1,6 @@
 -- `sound::lookup::start_of` meets its contract: from the entry on, codeword i starts at the symbol in hand.
 use mathlib.Core.Path.{◌≡◌, sym, ap, ◌∙◌}
-use Prim.Native.Nat.{ℕ, ◌-◌, ◌*◌, ◌/◌}
+use Prim.Native.Nat.{ℕ, ◌*◌, ◌/◌}
 use native.Mathlib.Omega.{arith}
 use Rattle.texts.specs.Paper.Directory.{start_at}
 use Rattle.sound.specs.Paper.Lengths.{lengths_of}

@@ -1,7 +1,7 @@
 use mathlib.Core.Path.{◌≡◌}
 use Prim.Native.Nat.{ℕ, ◌+◌, ◌-◌, ◌≤◌, ◌<◌}
 use lib.ListN.{length, get_or}
-use Rattle.symbols.specs.Paper.Symbols.{per, shift}
+use Rattle.symbols.specs.Paper.Symbols.{shift}
 use Rattle.symbols.specs.Helpers.Bits.{cut_out}
 use Rattle.stretches.proofs.codewords.lay_byte.Given as goal
 

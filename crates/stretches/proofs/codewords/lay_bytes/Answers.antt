@@ -1,7 +1,6 @@
 -- `stretches::codewords::lay_bytes` meets its contract.
 use mathlib.Core.Path.{◌≡◌, sym, ap, ◌∙◌}
-use mathlib.Core.Logic.{⊎_elim}
-use Prim.Native.Nat.{ℕ, ◌+◌, ◌-◌, ◌*◌, ◌/◌, ◌≤◌}
+use Prim.Native.Nat.{ℕ, ◌+◌, ◌*◌, ◌/◌, ◌≤◌}
 use native.Mathlib.Nat.{div-mul-le_self, mul-le-mul_right, add-mul}
 use native.Mathlib.Omega.{arith}
 use borrow.Author.Rules.{rules}

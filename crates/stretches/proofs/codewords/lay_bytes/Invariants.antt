@@ -1,6 +1,5 @@
 use Prim.Native.Nat.{◌+◌, ◌-◌, ◌*◌, ◌≤◌}
 use lib.ListN.{length}
-use Rattle.symbols.specs.Paper.Symbols.{per}
 use Rattle.stretches.specs.Laws.Codewords.{Filled, laid_at}
 use Rattle.stretches.proofs.codewords.lay_bytes.Given as goal
 

@@ -11,7 +11,7 @@ use Rattle.ground.specs.Paper.Runs.{run}
 use Rattle.ground.specs.Laws.Rows.{tab_at}
 use Rattle.ground.specs.Laws.Runs.{run_length}
 use Rattle.stopper.specs.Laws.Table.{code_base, code_good}
-use Rattle.stretches.specs.Helpers.Codewords.{times_of, plus_of, low_of, stops_of, few, PassingAny}
+use Rattle.stretches.specs.Helpers.Codewords.{times_of, plus_of, low_of, stops_of, PassingAny}
 use Rattle.stretches.specs.Laws.Codewords.{low_small, times_small, plus_small, stops_small, run_more, any_none, any_more, any_whole}
 use Rattle.stretches.proofs.codewords.pass_all.Invariants.{Parts}
 use Rattle.stretches.proofs.codewords.pass_all.Goals as goal

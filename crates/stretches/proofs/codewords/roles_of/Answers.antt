@@ -1,6 +1,6 @@
 -- `stretches::codewords::roles_of` meets its contract: the entries below y are filled.
 use mathlib.Core.Path.{refl, ap}
-use Prim.Native.Nat.{◌-◌, ◌≤◌}
+use Prim.Native.Nat.{◌≤◌}
 use native.Mathlib.Omega.{arith}
 use Rattle.stretches.specs.Helpers.Codewords.{times_of, plus_of, low_of, stops_of}
 use Rattle.stretches.specs.Laws.Codewords.{filled_more, filled_all}

@@ -1,5 +1,5 @@
 use mathlib.Core.List.{[], ◌∷◌}
-use Prim.Native.Nat.{◌-◌, ◌≤◌}
+use Prim.Native.Nat.{◌≤◌}
 use lib.ListN.{drop}
 use Rattle.symbols.specs.Paper.Symbols.{symbols_of, per}
 use Rattle.unpacking.specs.Helpers.Gives.{Tells, Slight}

@@ -1,6 +1,5 @@
 -- `unpacking::giving::known_by_byte` meets its contract: what is not worked out yet is 0, a move of no state.
 use mathlib.Core.Path.{◌∙◌}
-use Prim.Native.Nat.{◌-◌}
 use native.Mathlib.Omega.{arith}
 use lib.ListN.{length-set}
 use Rattle.ground.specs.Paper.Rows.{zeros}
