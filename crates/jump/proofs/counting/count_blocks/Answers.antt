@@ -1,6 +1,6 @@
 -- `jump::counting::count_blocks` meets its contract: the codewords that end in the bytes before `next` are counted.
 use mathlib.Core.Path.{◌≡◌}
-use Prim.Native.Nat.{◌+◌, ◌-◌, ◌*◌, ◌<◌}
+use Prim.Native.Nat.{◌+◌, ◌*◌, ◌<◌}
 use native.Mathlib.Omega.{arith}
 use Rattle.symbols.specs.Paper.Symbols.{per}
 use Rattle.jump.specs.Helpers.Counting.{number_at}

@@ -4,7 +4,7 @@ use lib.Dec.{T}
 use Rattle.stopper.specs.Paper.Table.{good_code}
 use Rattle.stopper.specs.declared.code.Code.{Code}
 use Rattle.symbols.specs.Paper.Symbols.{per}
-use Rattle.sound.specs.Helpers.Ends.{stops, stops_by_byte}
+use Rattle.sound.specs.Helpers.Ends.{stops_by_byte}
 use Rattle.jump.specs.Helpers.Counting.{number_at}
 use Rattle.jump.proofs.counting.count_bytes.Given as goal
 

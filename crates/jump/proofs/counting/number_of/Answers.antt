@@ -1,7 +1,6 @@
 -- `jump::counting::number_of` meets its contract: the codewords that end before symbol i are counted.
 use mathlib.Core.Path.{◌≡◌, ap, ◌∙◌}
-use mathlib.Core.Logic.{⊎_elim}
-use Prim.Native.Nat.{◌-◌, ◌<◌}
+use Prim.Native.Nat.{◌<◌}
 use native.Mathlib.Omega.{arith}
 use lib.ListN.{length}
 use Rattle.stopper.specs.Laws.Table.{code_width}
@@ -10,6 +9,7 @@ use Rattle.symbols.specs.Helpers.Widths.{Width}
 use Rattle.jump.specs.Helpers.Counting.{number_at}
 use Rattle.jump.specs.Laws.Counting.{number_upto, number_stopper, number_continuer}
 use Rattle.jump.proofs.counting.number_of.Goals as goal
+use Rattle.jump.proofs.counting.number_of.Goals.{then-get-s, else-get-s}
 use Rattle.jump.proofs.counting.number_of.Lts as Places
 use Rattle.jump.proofs.counting.number_of.Reads as Clauses
 use Rattle.jump.proofs.counting.number_of.Tie as tie
@@ -45,10 +45,10 @@ loop-i-preserved c =
     let h = c.stoppers_at-s.ensures in
     let k = inside c.before.before.before in (
       omega arith,
-      ⊎_elim
-          (λ w. omega (arith, w.1, c.loop-i.invariant.1, number_stopper c.args.code c.args.buf.now c.loop-i.i k (omega (arith, w.0.taken, c.get.ensures, h))))
-          (λ w. omega (arith, w.1, c.loop-i.invariant.1, number_continuer c.args.code c.args.buf.now c.loop-i.i k (omega (arith, w.0.left, c.get.ensures, h))))
-          c.if-get-s.branch,
+      elim c.if-get-s.branch [
+        | then-get-s w ↦ omega (arith, w.number-is, c.loop-i.invariant.1, number_stopper c.args.code c.args.buf.now c.loop-i.i k (omega (arith, w.if-get-s.true, c.get.ensures, h)))
+        | else-get-s w ↦ omega (arith, w.number-is, c.loop-i.invariant.1, number_continuer c.args.code c.args.buf.now c.loop-i.i k (omega (arith, w.if-get-s.false, c.get.ensures, h)))
+      ],
     )
 
 pub returns : goal.returns

@@ -63,7 +63,7 @@ pub returns-then-long-eq0 : goal.returns-then-long-eq0
 returns-then-long-eq0 c =
     let a = c.args in
     let e = row_none (held c.before.before.before.before.before.before.before.before.before.before.before) a.pattern.now c.requires.1 (sym c.spell_pattern-long.ensures.length ∙ c.if-long-eq0.true) in
-    record { total = sym (ap length e); list = sym (ap (λ (found : List ℕ). listed found a.slice.now) e ∙ listed_none a.slice.now); }
+    record { total = sym (ap length e); list = sym (ap (λ (found : List ℕ). listed found a.slice.now) e ∙ listed_none a.slice.now) }
 
 pub per_byte-requires : goal.per_byte-requires
 per_byte-requires c = code_width c.args.roll.table.code (sound_code c.requires.0)
@@ -77,7 +77,7 @@ slice_bounds-list_hits-end c = symbols_long c.before.before.before.before.before
 pub returns-then-long-per_byte : goal.returns-then-long-per_byte
 returns-then-long-per_byte c =
     let a = c.args in
-    record { total = c.list_hits.ensures.total ∙ ap length (hits_are c.before.before.before.before.before.before.before.before); list = c.list_hits.ensures.list ∙ ap (λ (found : List ℕ). listed found a.slice.now) (hits_are c.before.before.before.before.before.before.before.before); }
+    record { total = c.list_hits.ensures.total ∙ ap length (hits_are c.before.before.before.before.before.before.before.before); list = c.list_hits.ensures.list ∙ ap (λ (found : List ℕ). listed found a.slice.now) (hits_are c.before.before.before.before.before.before.before.before) }
 
 pub slice_bounds-symbols-end-2 : goal.slice_bounds-symbols-end-2
 slice_bounds-symbols-end-2 c = symbols_room c.before.before.before.before.before.before
@@ -103,4 +103,4 @@ pub returns : goal.returns
 returns c =
     let a = c.args in
     let h = all_hits c.requires.0 (symbols c.before.before.before.before.before.before.before.before.before.before.before) ∙ hits_are c.before.before.before.before.before.before.before.before.before in
-    record { total = c.jump.ensures.total ∙ ap length h; list = c.jump.ensures.list ∙ ap (λ (found : List ℕ). listed found a.slice.now) h; }
+    record { total = c.jump.ensures.total ∙ ap length h; list = c.jump.ensures.list ∙ ap (λ (found : List ℕ). listed found a.slice.now) h }

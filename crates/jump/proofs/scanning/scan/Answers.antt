@@ -141,7 +141,7 @@ returns c =
     let f : ℕ = c.loop-e.e + 1 - a.v.wide in
     let e : hits_below a.code a.h a.buf.now a.symbols.now a.h ≡ hits c.before.before.before.before.before.before.before.before.before.before.before f
     = end_hits a.code c.requires.0 (bytes c.before.before.before.before) a.h c.requires.2 a.symbols.now a.v c.requires.4 a.t.now c.requires.5 f (within c.before.before.before.before f (omega (arith, k.1))) (omega (arith, k.0, c.loop-e-test.false, c.byte_of-full.ensures)) in
-    record { total = k.3 ∙ ap length (sym e); list = k.4 ∙ ap (λ (x : List ℕ). listed x a.slice.now) (sym e); }
+    record { total = k.3 ∙ ap length (sym e); list = k.4 ∙ ap (λ (x : List ℕ). listed x a.slice.now) (sym e) }
 
 pub overflow_sub-wide : goal.overflow_sub-wide
 overflow_sub-wide c = omega (arith, sizes c.before)

@@ -1,10 +1,10 @@
 -- `jump::scanning::skip` meets its contract.
 use mathlib.Core.Path.{◌≡◌, refl}
-use mathlib.Core.Logic.{⊎_elim}
-use Prim.Native.Nat.{ℕ, ◌+◌, ◌-◌, ◌≤◌}
+use Prim.Native.Nat.{ℕ, ◌+◌, ◌-◌, ◌≤◌, ◌<◌}
 use native.Mathlib.Omega.{arith}
-use Rattle.jump.specs.Helpers.Windows.{none, also}
+use Rattle.jump.specs.Helpers.Windows.{Skipped, none, also}
 use Rattle.jump.proofs.scanning.skip.Goals as goal
+use Rattle.jump.proofs.scanning.skip.Goals.{then-back-eq1, else-back-eq1}
 use Rattle.jump.proofs.scanning.skip.Lts as Places
 use Rattle.jump.proofs.scanning.skip.Reads as Clauses
 use Rattle.jump.proofs.scanning.skip.Tie as tie
@@ -19,10 +19,10 @@ pass-e-requires c =
 
 pub loop-e-init : goal.loop-e-init
 loop-e-init c =
-    ⊎_elim
-    (λ w. let r = w.1.ensures in rw (w.2, w.0.taken) (r.0, omega (arith, r.1), r.2))
-    (λ w. rw w.1 (omega arith, c.requires.8, none))
-    c.if-back-eq1.branch
+    elim c.if-back-eq1.branch [
+      | then-back-eq1 w ↦ let r = w.pass-e.ensures in rw (w.e-is, w.if-back-eq1.true) (r.0, omega (arith, r.1), r.2)
+      | else-back-eq1 w ↦ rw w.e-is (omega arith, c.requires.8, none)
+    ]
 
 -- no place is over the last
 place_under : (r : After-place_at-place) → r.place_at-place.result ≤ r.args.places
@@ -31,7 +31,7 @@ place_under r = rw r.place_at-place.ensures.0 (r.requires.4 _)
 -- a jump by the place that is read
 jumped : (r : After-place_at-place)
     → let a = r.args in let e = r.loop-e.e in
-    (to : ℕ) → to ≡ e + (a.places - r.place_at-place.result) → invariant-loop a.buf.now a.back a.places a.t.now a.full a.from e to
+    (to : ℕ) → to ≡ e + (a.places - r.place_at-place.result) → (a.from ≤ to) × (to < a.full + (a.places + a.back)) × Skipped a.back a.places a.t.now a.buf.now a.from to
 jumped r to z =
     (omega (arith, r.loop-e.invariant.0), omega (arith, r.loop-e-test.true), also r.loop-e.invariant.2 to (omega (arith, r.place_at-place.ensures.0)))
 

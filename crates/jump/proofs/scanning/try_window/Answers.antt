@@ -1,8 +1,7 @@
 -- `jump::scanning::try_window` meets its contract.
 use mathlib.Core.Path.{◌≡◌, refl, sym, ap, subst, ◌∙◌}
-use mathlib.Core.Logic.{⊎_elim}
 use mathlib.Core.List.{List, [], ◌∷◌, ◌++◌}
-use Prim.Native.Nat.{ℕ, ◌+◌, ◌-◌, ◌*◌, ◌≤◌, ◌<◌}
+use Prim.Native.Nat.{ℕ, ◌+◌, ◌*◌, ◌≤◌, ◌<◌}
 use native.Mathlib.Nat.{mul-le-mul_right}
 use native.Mathlib.Omega.{arith}
 use lib.Dec.{T}
@@ -19,6 +18,7 @@ use Rattle.jump.specs.Helpers.Windows.{first_of}
 use Rattle.jump.specs.Laws.Counting.{counts_later}
 use Rattle.jump.specs.Laws.Hits.{hit_more, hit_none, hits_few}
 use Rattle.jump.proofs.scanning.try_window.Goals as goal
+use Rattle.jump.proofs.scanning.try_window.Goals.{then-per-end, else-per-end, then-is_hit_in, else-is_hit_in}
 use Rattle.jump.proofs.scanning.try_window.Lts as Places
 use Rattle.jump.proofs.scanning.try_window.Reads as Clauses
 use Rattle.jump.proofs.scanning.try_window.Tie as tie
@@ -69,7 +69,10 @@ pub loop-a-init : goal.loop-a-init
 loop-a-init c =
     let y = product c.before.before.before in
     let e : c.if-per-end.a ≡ first_of c.args.code.k c.args.v.free c.args.f =
-    ⊎_elim (λ w. omega (arith, w.1, w.0.taken, y)) (λ w. omega (arith, w.1, w.0.left, y)) c.if-per-end.branch in
+    elim c.if-per-end.branch [
+      | then-per-end w ↦ omega (arith, w.a-is, w.if-per-end.true, y)
+      | else-per-end w ↦ omega (arith, w.a-is, w.if-per-end.false, y)
+    ] in
     (omega arith, omega arith, rw e c.requires.8, rw e c.requires.9, (λ first z. rw e z), refl)
 
 pub is_hit_in-requires : goal.is_hit_in-requires
@@ -103,29 +106,29 @@ loop-a-preserved c =
     let hits = hits_below a.code a.h a.buf.now a.symbols.now in
     let y = product c.before.before.before.before.before.before.before.before in
     let u : at + 1 ≤ a.f * per a.code.k + a.v.free + 1 = omega (arith, c.loop-a-test.true, y) in
-    ⊎_elim
-    (λ w.
-    let e : hits (at + 1) ≡ hits at ++ (number_at a.code a.buf.now at ∷ [])
-    = hit_more a.code a.buf.now a.h a.symbols.now c.requires.2 at lt (c.is_hit_in.ensures.0 (true_yes _ w.0.taken)) in
-    let n : length (hits (at + 1)) ≡ length (hits at) + 1 = ap length e ∙ length-append (hits at) (number_at a.code a.buf.now at ∷ []) in (
-      omega (arith, c.loop-a.invariant.0),
-      u,
-      rw w.6 (counts_later (omega arith) w.2.ensures.1),
-      rw w.6 (omega (arith, w.2.ensures.0, c.loop-a.invariant.3)),
-      (λ first z. w.5 ∙ w.2.ensures.2 (hits at) c.loop-a.invariant.3 first (c.loop-a.invariant.4 first z) ∙ ap (λ (x : List ℕ). listed x first) (sym e)),
-      ap length w.5 ∙ w.3.given ∙ c.loop-a.invariant.5,
-    ))
-    (λ w.
-    let e : hits (at + 1) ≡ hits at
-    = hit_none a.code a.buf.now a.h a.symbols.now c.requires.2 at lt (λ x. subst T w.0.left (c.is_hit_in.ensures.1 x)) in (
-      omega (arith, c.loop-a.invariant.0),
-      u,
-      rw w.2 (counts_later (omega arith) c.loop-a.invariant.2),
-      rw w.2 (c.loop-a.invariant.3 ∙ ap length (sym e)),
-      (λ first z. w.1 ∙ c.loop-a.invariant.4 first z ∙ ap (λ (x : List ℕ). listed x first) (sym e)),
-      ap length w.1 ∙ c.loop-a.invariant.5,
-    ))
-    c.if-is_hit_in.branch
+    elim c.if-is_hit_in.branch [
+      | then-is_hit_in w ↦
+          let e : hits (at + 1) ≡ hits at ++ (number_at a.code a.buf.now at ∷ [])
+          = hit_more a.code a.buf.now a.h a.symbols.now c.requires.2 at lt (c.is_hit_in.ensures.0 (true_yes _ w.if-is_hit_in.true)) in
+          let n : length (hits (at + 1)) ≡ length (hits at) + 1 = ap length e ∙ length-append (hits at) (number_at a.code a.buf.now at ∷ []) in (
+            omega (arith, c.loop-a.invariant.0),
+            u,
+            rw w.found-is (counts_later (omega arith) w.note-found.ensures.1),
+            rw w.found-is (omega (arith, w.note-found.ensures.0, c.loop-a.invariant.3)),
+            (λ first z. w.slice-is ∙ w.note-found.ensures.2 (hits at) c.loop-a.invariant.3 first (c.loop-a.invariant.4 first z) ∙ ap (λ (x : List ℕ). listed x first) (sym e)),
+            ap length w.slice-is ∙ w.note-found.auto.slice ∙ c.loop-a.invariant.5,
+          )
+      | else-is_hit_in w ↦
+          let e : hits (at + 1) ≡ hits at
+          = hit_none a.code a.buf.now a.h a.symbols.now c.requires.2 at lt (λ x. subst T w.if-is_hit_in.false (c.is_hit_in.ensures.1 x)) in (
+            omega (arith, c.loop-a.invariant.0),
+            u,
+            rw w.found-is (counts_later (omega arith) c.loop-a.invariant.2),
+            rw w.found-is (c.loop-a.invariant.3 ∙ ap length (sym e)),
+            (λ first z. w.slice-is ∙ c.loop-a.invariant.4 first z ∙ ap (λ (x : List ℕ). listed x first) (sym e)),
+            ap length w.slice-is ∙ c.loop-a.invariant.5,
+          )
+    ]
 
 pub returns : goal.returns
 returns c =

@@ -1,6 +1,5 @@
 -- `jump::windows::fill_table` meets its contract.
 use mathlib.Core.Path.{subst}
-use Prim.Native.Nat.{◌-◌}
 use native.Mathlib.Omega.{arith}
 use Rattle.jump.specs.Helpers.Windows.{Upto}
 use Rattle.jump.proofs.windows.fill_table.Goals as goal

@@ -51,13 +51,12 @@ overflow_add-first c =
     omega (arith, (product c.before.before.before.before.before).3, c.loop-o-test.true, per_few c.requires.0)
 
 pub number_from-requires : goal.number_from-requires
-number_from-requires c =
-    (
-      c.requires.0,
-      c.requires.1,
-      omega (arith, c.per_byte-per.ensures),
-      omega (arith, (product c.before.before.before.before.before).1, (product c.before.before.before.before.before).2, c.per_byte-per.ensures, c.loop-o-test.true, c.requires.2.few, c.requires.2.filled),
-    )
+number_from-requires c = (
+  c.requires.0,
+  c.requires.1,
+  omega (arith, c.per_byte-per.ensures),
+  omega (arith, (product c.before.before.before.before.before).1, (product c.before.before.before.before.before).2, c.per_byte-per.ensures, c.loop-o-test.true, c.requires.2.few, c.requires.2.filled),
+)
 
 pub loop-o-preserved : goal.loop-o-preserved
 loop-o-preserved c =
