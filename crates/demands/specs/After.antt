@@ -12,7 +12,8 @@ use Rattle.symbols.specs.Paper.Symbols.{per, bytes_for, symbols_of, bytes_of}
 use Rattle.symbols.specs.Laws.Sizes.{bytes_for_enough}
 use Rattle.symbols.specs.Laws.Rows.{symbols_append}
 use Rattle.symbols.specs.Laws.Whole.{symbols_zeros}
-use Rattle.symbols.specs.Laws.Packing.{bytes_length, symbols_bytes}
+use Rattle.symbols.specs.Laws.Packing.{bytes_length}
+use Rattle.symbols.proofs.Laws.Packing.{symbols_bytes}
 use Rattle.texts.specs.Paper.Edited.{edited}
 use Rattle.sound.specs.Paper.Roll.{symbols_for, text_of}
 use Rattle.sound.specs.Helpers.Held.{Held}

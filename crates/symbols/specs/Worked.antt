@@ -1,9 +1,8 @@
 -- The definitions at a few values: 27 is 00 01 10 11, 165 is 1010 0101.
-use Rattle.std.specs.Prelude.{◌≡◌, refl, [], ◌∷◌}
-use Rattle.ground.specs.Paper.Rows.{tab}
-use Rattle.symbols.specs.Paper.Symbols.{per, bytes_for, shift, symbol_at, symbols_of, number, byte_at, bytes_of}
+use Rattle.std.specs.Prelude.{◌≡◌, [], ◌∷◌}
+use Rattle.symbols.specs.Paper.Symbols.{bytes_for, symbols_of, bytes_of}
 
-abbrev Worked : Type 0
+abbrev pub Worked : Type 0
 Worked =
     (symbols_of 2 (27 ∷ 64 ∷ []) ≡ 0 ∷ 1 ∷ 2 ∷ 3 ∷ 1 ∷ 0 ∷ 0 ∷ 0 ∷ [])
     × (symbols_of 4 (165 ∷ []) ≡ 10 ∷ 5 ∷ [])
@@ -12,7 +11,3 @@ Worked =
     × (bytes_for 2 0 ≡ 0)
     × (bytes_for 2 4 ≡ 1)
     × (bytes_for 4 5 ≡ 3)
-
-pub worked : Worked
-unfolding tab per bytes_for shift symbol_at symbols_of number byte_at bytes_of
-worked = (refl, refl, refl, refl, refl, refl, refl)

@@ -15,7 +15,8 @@ use Rattle.symbols.specs.Paper.Symbols.{per, symbols_of, byte_at}
 use Rattle.symbols.specs.Helpers.Widths.{Width}
 use Rattle.symbols.specs.Laws.Width.{per_pos, per_few}
 use Rattle.symbols.specs.Laws.Rows.{symbols_below}
-use Rattle.symbols.specs.Laws.Packing.{number_ext, byte_is}
+use Rattle.symbols.specs.Laws.Packing.{number_ext}
+use Rattle.symbols.proofs.Laws.Packing.{byte_is}
 use Rattle.jump.specs.Helpers.Hits.{occurs, hits_below}
 use Rattle.jump.specs.Helpers.Windows.{byte_from, Fits, Safe, says, first_of, Skipped, none, also}
 use Rattle.jump.specs.Laws.Table.{byte_behind}

@@ -15,7 +15,8 @@ use Rattle.symbols.specs.Paper.Symbols.{per, symbols_of}
 use Rattle.symbols.specs.Helpers.Widths.{Width}
 use Rattle.symbols.specs.Helpers.Gathered.{digits}
 use Rattle.symbols.specs.Laws.Width.{per_pos, by_width}
-use Rattle.symbols.specs.Laws.Gathered.{digits_append, digits_one, byte_digits}
+use Rattle.symbols.specs.Laws.Gathered.{digits_append, digits_one}
+use Rattle.symbols.proofs.Laws.Gathered.{byte_digits}
 use Rattle.symbols.specs.Laws.Rows.{symbols_length, symbols_append, symbols_drop, starts_within}
 use Rattle.reading.specs.Paper.Reading.{row_upto, row_reading}
 use Rattle.reading.specs.Helpers.Codewords.{scanned}

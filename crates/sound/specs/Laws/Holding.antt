@@ -17,7 +17,8 @@ use Rattle.symbols.specs.Paper.Symbols.{per, bytes_for, room, symbols_of, bytes_
 use Rattle.symbols.specs.Helpers.Widths.{Width}
 use Rattle.symbols.specs.Laws.Sizes.{bytes_for_enough}
 use Rattle.symbols.specs.Laws.Rows.{room_row, symbols_below, ends_inside, symbols_append, symbols_take}
-use Rattle.symbols.specs.Laws.Packing.{bytes_below, symbols_bytes, symbols_one}
+use Rattle.symbols.specs.Laws.Packing.{bytes_below}
+use Rattle.symbols.proofs.Laws.Packing.{symbols_bytes, symbols_one}
 use Rattle.texts.specs.Laws.Characters.{InTable, ranks_below, characters_back, ranks_back, ranks_known, characters_few, characters_length, places_characters}
 use Rattle.reading.specs.Paper.Reading.{row_upto, row_reading, ranks_read}
 use Rattle.reading.specs.Laws.Reading.{done_whole, done_ranks}

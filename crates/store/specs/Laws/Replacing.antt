@@ -17,7 +17,8 @@ use Rattle.symbols.specs.Helpers.Widths.{Width}
 use Rattle.symbols.specs.Laws.Rows.{symbols_length, symbols_below, symbols_append, symbols_take, symbols_drop, ends_inside}
 use Rattle.symbols.specs.Laws.Whole.{symbols_zeros}
 use Rattle.symbols.specs.Laws.Sizes.{bytes_for_enough, bytes_for_mono, bytes_for_full}
-use Rattle.symbols.specs.Laws.Packing.{bytes_length, bytes_below, symbols_bytes, symbols_one, packed_cleared}
+use Rattle.symbols.specs.Laws.Packing.{bytes_length, bytes_below}
+use Rattle.symbols.proofs.Laws.Packing.{symbols_bytes, symbols_one, packed_cleared}
 use Rattle.store.specs.Paper.Stored.{packed_into}
 use Rattle.store.specs.Helpers.Replacing.{replaced_row, Replaces}
 use Rattle.store.specs.Helpers.Words.{row_of}

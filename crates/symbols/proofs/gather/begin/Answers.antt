@@ -8,7 +8,8 @@ use lib.ListN.{length, take, get_or}
 use lib.Pow.{pow_pos, shr_le, shr_lt}
 use Rattle.symbols.specs.Paper.Symbols.{per, symbols_of}
 use Rattle.symbols.specs.Helpers.Gathered.{digits, gathered}
-use Rattle.symbols.specs.Laws.Gathered.{bits_under, begun}
+use Rattle.symbols.specs.Laws.Gathered.{bits_under}
+use Rattle.symbols.proofs.Laws.Gathered.{begun}
 use Rattle.symbols.specs.Laws.Rows.{starts_within, symbols_take}
 use Rattle.symbols.specs.Laws.Width.{per_pos, per_few, wide}
 use Rattle.symbols.proofs.gather.begin.Goals as goal

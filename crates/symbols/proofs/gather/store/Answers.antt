@@ -9,7 +9,8 @@ use lib.Pow.{pow_pos}
 use lib.Seq.{drop-drop, drop-set-lt}
 use Rattle.symbols.specs.Paper.Symbols.{per, symbols_of}
 use Rattle.symbols.specs.Helpers.Gathered.{digits, gathered}
-use Rattle.symbols.specs.Laws.Gathered.{bits_under, stored_more, stored_all}
+use Rattle.symbols.specs.Laws.Gathered.{bits_under, stored_all}
+use Rattle.symbols.proofs.Laws.Gathered.{stored_more}
 use Rattle.symbols.specs.Laws.Rows.{symbols_length}
 use Rattle.symbols.specs.Laws.Width.{per_pos}
 use Rattle.symbols.proofs.gather.store.Goals as goal
