@@ -1,5 +1,4 @@
 -- `frames::lines::line_end` meets its contract: no byte passed ends the line.
-use Prim.Native.Nat.{◌-◌}
 use native.Mathlib.Omega.{arith}
 use Rattle.frames.specs.Laws.Lines.{ends_later, ends_here, ends_none}
 use Rattle.frames.proofs.lines.line_end.Goals as goal

@@ -1,8 +1,7 @@
 -- `frames::read_first::places_in` meets its contract: the characters before place i are laid over zeros.
 use mathlib.Core.Path.{◌≡◌, refl, sym, ap, ap₂, ◌∙◌}
-use mathlib.Core.Logic.{⊎_elim}
 use mathlib.Core.List.{List, ◌++◌}
-use Prim.Native.Nat.{ℕ, ◌+◌, ◌-◌}
+use Prim.Native.Nat.{ℕ, ◌+◌}
 use native.Mathlib.Omega.{arith}
 use lib.ListN.{length, take, drop, get_or, set, length-drop}
 use lib.Seq.{take_all, get_or-drop, length-take-le}
@@ -10,6 +9,7 @@ use Rattle.ground.specs.Paper.Rows.{zeros}
 use Rattle.ground.specs.Laws.Rows.{length_zeros, padded_over}
 use Rattle.ground.specs.Laws.Runs.{front_more}
 use Rattle.frames.specs.Paper.Frames.{bytes_in, first_head}
+use Rattle.frames.proofs.read_first.places_in.Goals.{then-sigma-lt256, else-sigma-lt256}
 use Rattle.frames.proofs.read_first.places_in.Goals as goal
 
 pub loop-i-init : goal.loop-i-init
@@ -18,12 +18,14 @@ loop-i-init c =
     let a = c.args in
     let xs = drop first_head (bytes_in a.line.now) in
     let size : length xs ≡ a.sigma = omega (arith, length-drop first_head (bytes_in a.line.now), c.requires.1) in
-    ⊎_elim
-    (λ v. let few : c.if-sigma-lt256.few ≡ a.sigma = v.1 in
-    (omega arith, omega (arith, v.0), omega arith, take_all c.if-sigma-lt256.few xs (omega arith) ∙ sym (take_all 256 xs (omega (arith, v.0))), refl))
-    (λ v. let few : c.if-sigma-lt256.few ≡ 256 = v.1 in
-    (omega arith, omega arith, omega (arith, v.0), ap (λ (n : ℕ). take n xs) few, refl))
-    c.if-sigma-lt256.branch
+    elim c.if-sigma-lt256.branch [
+      | then-sigma-lt256 w ↦
+          let few : c.if-sigma-lt256.few ≡ a.sigma = w.few-is in
+          (omega arith, omega arith, omega arith, take_all c.if-sigma-lt256.few xs (omega arith) ∙ sym (take_all 256 xs (omega arith)), refl)
+      | else-sigma-lt256 w ↦
+          let few : c.if-sigma-lt256.few ≡ 256 = w.few-is in
+          (omega arith, omega arith, omega arith, ap (λ (n : ℕ). take n xs) few, refl)
+    ]
 
 pub byte_at-requires : goal.byte_at-requires
 byte_at-requires c =

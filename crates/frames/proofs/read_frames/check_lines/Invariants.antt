@@ -1,5 +1,5 @@
 use mathlib.Core.Path.{◌≡◌}
-use Prim.Native.Nat.{suc, ◌+◌, ◌-◌, ◌≤◌}
+use Prim.Native.Nat.{suc, ◌+◌, ◌≤◌}
 use lib.ListN.{length, drop}
 use Rattle.frames.specs.Paper.Frames.{later_for, all_right, right_before}
 use Rattle.frames.proofs.read_frames.check_lines.Given as goal

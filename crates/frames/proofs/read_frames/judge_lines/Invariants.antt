@@ -1,5 +1,5 @@
 use mathlib.Core.Path.{◌≡◌}
-use Prim.Native.Nat.{◌-◌, ◌≤◌}
+use Prim.Native.Nat.{◌≤◌}
 use lib.Dec.{T}
 use lib.ListN.{length, drop}
 use Rattle.judge.specs.Paper.Judge.{judge_after}

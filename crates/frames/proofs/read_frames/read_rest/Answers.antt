@@ -1,4 +1,4 @@
--- `frames::read_frames::read_rest` meets its contract: each refusal is before the first store.
+-- `frames::read_frames::read_rest` meets its contract: each refusal is asked before the first store.
 use mathlib.Core.Path.{◌≡◌, refl, sym, ap, subst, ◌∙◌}
 use mathlib.Core.List.{◌++◌}
 use Prim.Native.Nat.{ℕ, ◌≤◌}

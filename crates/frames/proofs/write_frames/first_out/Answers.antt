@@ -67,7 +67,10 @@ pub shape_of-out : goal.shape_of-out
 shape_of-out c = simp length-set (going_room c.requires.1 (filled c.before.before)).1
 
 pub returns : goal.returns
-returns c = let h = c.requires.1 in going_all h (going_byte h (filled c.before.before))
+returns c =
+    let h = c.requires.1 in
+    let all = going_all h (going_byte h (filled c.before.before)) in
+    record { next = all.0; out = all.1 }
 
 pub slice_bounds-places-end : goal.slice_bounds-places-end
 slice_bounds-places-end c = places_long c.before.before.before.before.before.before.before.before.before.before.before

@@ -52,4 +52,7 @@ pub shape_of-out : goal.shape_of-out
 shape_of-out c = simp length-set (going_room c.requires (filled c.before.before.before)).1
 
 pub returns : goal.returns
-returns c = let h = c.requires in going_all h (going_byte h (filled c.before.before.before))
+returns c =
+    let h = c.requires in
+    let all = going_all h (going_byte h (filled c.before.before.before)) in
+    record { next = all.0; out = all.1 }

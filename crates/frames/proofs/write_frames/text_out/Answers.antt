@@ -1,7 +1,7 @@
 -- `frames::write_frames::text_out` meets its contract: the first frame and the later ones are put one after the other.
 use mathlib.Core.Path.{refl, sym}
 use mathlib.Core.List.{List, [], ◌++◌, append-nil}
-use Prim.Native.Nat.{ℕ, ◌+◌}
+use Prim.Native.Nat.{ℕ}
 use lib.ListN.{length}
 use Rattle.writing.specs.Laws.Written.{Going, going_none, going_as, going_next, going_more, going_whole}
 use Rattle.frames.specs.Paper.Frames.{frame, first_bytes, later_for, later_frames}

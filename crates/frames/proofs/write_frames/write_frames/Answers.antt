@@ -57,7 +57,7 @@ characters_long c =
 
 -- its bytes are there, and not many
 held : (c : In_default) → let a = c.args in bytes_used a.roll ≤ length a.buf.now
-held c = let a = c.args in room_bytes (sound_width (sound c)) a.roll.h (length a.buf.now) (sound c).ranges
+held c = let a = c.args in room_bytes (sound_width (sound c)) a.roll.h (length a.buf.now) (sound c).fits
 
 small : (c : In_default) → bytes_used c.args.roll ≤ limit_bound
 small c =
@@ -66,7 +66,7 @@ small c =
     omega (
       arith,
       bytes_for_within w r.h r.h (le-mul_of_pos_right r.h (per_pos w)),
-      (sound c).ranges,
+      (sound c).fits,
       room_limit r.table.code.k (length c.args.buf.now),
       limit_fits,
     )
