@@ -36,7 +36,7 @@ use Rattle.choosing.specs.Laws.Operations.{chosen_width, lent_long, chosen_table
 use Rattle.choosing.specs.declared.choose.Choice.{Choice}
 use Rattle.symbols.specs.Paper.Symbols.{per, bytes_for, room, symbols_of}
 use Rattle.texts.specs.Paper.Directory.{entries}
-use Rattle.texts.specs.Paper.Hits.{hits, good_pattern, listed}
+use Rattle.texts.specs.Paper.Hits.{hits, good_pattern}
 use Rattle.texts.specs.Paper.Edited.{edited}
 use Rattle.texts.specs.Laws.Patterns.{pattern_newline, pattern_least, pattern_most, pattern_line, pattern_good}
 use Rattle.texts.specs.Laws.Hits.{Front, stands_front, front_stands, Rising, hit_is, hits_rising}

@@ -1,5 +1,5 @@
 -- The value of 6: the first symbol of the first bad codeword.
-use Rattle.std.specs.Prelude.{◌≡◌, refl, ◌⊎◌, true, List, [], ◌∷◌, ◌++◌, ℕ, ◌+◌, ◌≤◌, ◌<◌, length, take, drop, get_or}
+use Rattle.std.specs.Prelude.{◌≡◌, refl, ◌⊎◌, true, List, [], ◌∷◌, ◌++◌, ℕ, ◌≤◌, ◌<◌, length, take, drop, get_or}
 use Rattle.std.proofs.Common.{sym, ap, ◌∙◌, inl, inr, ⊎_elim, append-nil, zero-add, arith, length-append, take_at, drop_at}
 use Rattle.ground.specs.Paper.Refusals.{Row, refused, judged, ◌then◌}
 use Rattle.ground.specs.Laws.Answers.{says_as}

@@ -161,7 +161,7 @@ pub record Came (s : Searcher) (bytes found : List ℕ) (s' : Searcher) : Type 0
   pub within : Within s'
   pub searcher : s' ≡ searcher_after s bytes
   pub hits : found ≡ hits_named s bytes
-  pub bytes_in_lem : s'.judge.progress.bad ≡ 0 → bytes_for (code_in s).k s'.judge.progress.read ≡ bytes_for (code_in s).k s.judge.progress.read + length bytes
+  pub bytes_in : s'.judge.progress.bad ≡ 0 → bytes_for (code_in s).k s'.judge.progress.read ≡ bytes_for (code_in s).k s.judge.progress.read + length bytes
 
 within_code : (s : Searcher) → Within s → T (good_code (code_in s))
 within_code s w = table_code s.judge.roll.table (kept_table s w)
@@ -185,14 +185,14 @@ came_more {s} {s'} {piece} {bytes} {after} {found} {r} w o z =
       within = z.within;
       searcher = z.searcher ∙ ap (λ (x : Searcher). searcher_after x bytes) o.searcher ∙ sym (after_append s g piece bytes);
       hits = ap₂ (λ (a b : List ℕ). a ++ b) o.hits (z.hits ∙ ap (λ (x : Searcher). hits_named x bytes) o.searcher) ∙ sym (hits_append s g piece bytes);
-      bytes_in_lem = λ b.
+      bytes_in = λ b.
           let same : (code_in r.searcher).k ≡ (code_in s).k = ap (λ (x : Searcher). (code_in x).k) o.searcher ∙ ap (λ (x : Roll). x.table.code.k) (after_roll s piece) in
           omega (arith, length-append piece bytes, rw same at (z.bytes_in b), o.bytes (good_came z b));
     }
 
 pub fed_came : {s s' : Searcher} {pieces : List (List ℕ)} {found : List ℕ} → Within s → FedAll s pieces found s' → Came s (flatten pieces) found s'
 unfolding flatten
-fed_came {s} w none = record { within = w; searcher = sym (after_none s); hits = sym (hits_none s); bytes_in_lem = λ _. omega arith }
+fed_came {s} w none = record { within = w; searcher = sym (after_none s); hits = sym (hits_none s); bytes_in = λ _. omega arith }
 fed_came w (more p t rest) = let o = fed_one w p t in came_more w o (fed_came o.within rest)
 
 pub fed_joined : {s s' : Searcher} {pieces : List (List ℕ)} {found : List ℕ} → Within s → FedAll s pieces found s'
