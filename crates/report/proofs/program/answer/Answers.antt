@@ -57,7 +57,8 @@ packing p = subst (λ (t : Table). Packing t (text p.args) (zeros 16384) p.pack-
 
 pub returns-in-Refused : goal.returns-in-Refused
 returns-in-Refused c =
-    rw (answer_refused (pattern c.args) (text c.args) (says_as (packing c.before.before.before.before.before.before.before.before).says c.in-Refused.is)) c.refused_out.ensures
+    let e = answer_refused (pattern c.args) (text c.args) (says_as (packing c.before.before.before.before.before.before.before.before).says c.in-Refused.is) in
+    record { length = rw e c.refused_out.ensures.length; out = rw e c.refused_out.ensures.out }
 
 accepted : (s : After-search-searching) → s.pack-packed.result.answer ≡ Yes
 accepted s = s.in_default.is
@@ -86,7 +87,7 @@ bytes_fit b =
       arith,
       b.bytes_for-taken.ensures,
       bytes_few (pattern b.args) (text b.args) b.requires.1 b.requires.0 (packing b.before.before.before.before.before.before.before.before.before.before) (accepted b.before.before.before.before),
-      b.pack-packed.kept.1.1.0,
+      b.pack-packed.auto.buf,
       length-replicate {A = ℕ} 16384 0,
     )
 
@@ -96,7 +97,7 @@ hits_fit b =
       arith,
       total_hits b,
       hits_few (pattern b.args) (text b.args) b.requires.1 b.requires.0 (packing b.before.before.before.before.before.before.before.before.before.before) (accepted b.before.before.before.before),
-      b.search-searching.kept.1.1.1.0,
+      b.search-searching.auto.slice,
       length-replicate {A = ℕ} 16384 0,
     )
 

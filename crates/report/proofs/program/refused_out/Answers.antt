@@ -77,4 +77,6 @@ pub text_out-requires : goal.text_out-requires
 text_out-requires c = going_next (room c.before.before.before.before.before.before.before.before.before.before.before.before.before.before.before.before.before.before.before.before.before.before.before.before) (10 ∷ []) _ (put4 c.before.before.before.before.before)
 
 pub returns : goal.returns
-returns c = going_whole (room c.before.before.before.before.before.before.before.before.before.before.before.before.before.before.before.before.before.before.before.before.before.before.before.before.before.before.before.before) (put5 c.before.before.before)
+returns c =
+    let w = going_whole (room c.before.before.before.before.before.before.before.before.before.before.before.before.before.before.before.before.before.before.before.before.before.before.before.before.before.before.before.before) (put5 c.before.before.before) in
+    record { length = w.0; out = w.1 }

@@ -47,10 +47,6 @@ told input answer old e w = rw e w
 abbrev input : {κs : Lfts 2} → Args κs → List ℕ
 input l = l.input.now
 
--- the array lent is as long as its type says
-lent : (c : tie.After-answer-arg3)) → length c.args.out.now ≡ 147456
-lent c = search rules
-
 pattern_lent : (l : After-line_end-end) → take l.line_end-end.result (input l.args) ≡ given_pattern (input l.args)
 pattern_lent l = ap (λ (n : ℕ). take n (input l.args)) l.line_end-end.ensures.pattern ∙ pattern_take (input l.args)
 
@@ -62,7 +58,9 @@ good e = sym (good_is e.before) ∙ e.if-not-good_pattern.false
 
 pub returns-then-not-good_pattern : goal.returns-then-not-good_pattern
 returns-then-not-good_pattern c =
-    told (input c.args) _ c.args.out.now (report_11 (input c.args) (sym (good_is c.before.before.before.before) ∙ c.if-not-good_pattern.true)) c.refused_out.ensures
+    let w =
+    told (input c.args) _ c.args.out.now (report_11 (input c.args) (sym (good_is c.before.before.before.before) ∙ c.if-not-good_pattern.true)) (c.refused_out.ensures.length, c.refused_out.ensures.out) in
+    record { length = w.0; out = w.1 }
 
 text_is : (t : After-text_start-from) → drop t.text_start-from.result (input t.args) ≡ given_text (input t.args)
 text_is t =
@@ -73,8 +71,10 @@ text_long t = sym (length-drop t.text_start-from.result (input t.args)) ∙ ap l
 
 pub returns-then-input-from-gt16384 : goal.returns-then-input-from-gt16384
 returns-then-input-from-gt16384 c =
+    let w =
     told (input c.args) _ c.args.out.now (report_4 (input c.args) (good c.before.before.before.before.before) (omega (arith, text_long c.before.before.before.before, c.if-input-from-gt16384.true)))
-    c.refused_out-then-input-from-gt16384.ensures
+    (c.refused_out-then-input-from-gt16384.ensures.length, c.refused_out-then-input-from-gt16384.ensures.out) in
+    record { length = w.0; out = w.1 }
 
 pub slice_bounds-answer-end : goal.slice_bounds-answer-end
 slice_bounds-answer-end c = sym (length-take-le _ _ c.line_end-end.ensures.within)
@@ -85,18 +85,19 @@ text_lent e =
     ap₂ take (text_long e.before) (text_is e.before) ∙ take-length (given_text (input e.args))
 
 pub answer-requires : goal.answer-requires
-answer-requires c =
-    (
-      rw (pattern_lent c.before.before.before.before.before.before.before) (true_yes _ (good c.before.before.before.before.before)),
-      rw (text_lent c.before.before.before) (omega (arith, text_long c.before.before.before.before, c.if-input-from-gt16384.false)),
-      lent c,
-    )
+answer-requires c = (
+  rw (pattern_lent c.before.before.before.before.before.before.before) (true_yes _ (good c.before.before.before.before.before)),
+  rw (text_lent c.before.before.before) (omega (arith, text_long c.before.before.before.before, c.if-input-from-gt16384.false)),
+  search rules,
+)
 
 pub returns : goal.returns
 returns c =
+    let w =
     told (input c.args) _ c.args.out.now
     (report_answer (input c.args) (good c.before.before.before.before.before.before) (omega (arith, text_long c.before.before.before.before.before, c.if-input-from-gt16384.false)) ∙ sym (ap₂ answer_for (pattern_lent c.before.before.before.before.before.before.before.before) (text_lent c.before.before.before.before)))
-    c.answer.ensures
+    (c.answer.ensures.length, c.answer.ensures.out) in
+    record { length = w.0; out = w.1 }
 
 pub slice_bounds-good_pattern-end : goal.slice_bounds-good_pattern-end
 slice_bounds-good_pattern-end c = sym (length-take-le _ _ c.line_end-end.ensures.within)

@@ -7,9 +7,9 @@ use Rattle.report.proofs.program.text_start.Goals as goal
 pub returns-then-end-input : goal.returns-then-end-input
 unfolding start_of_text
 returns-then-end-input c =
-    record { within = omega (arith, c.if-end-input.true); next = rw (lt-ltb _ _ c.if-end-input.true); }
+    record { within = omega (arith, c.if-end-input.true); next = rw (lt-ltb _ _ c.if-end-input.true) }
 
 pub returns : goal.returns
 unfolding start_of_text
 returns c =
-    record { within = c.requires; next = rw (le-ltb _ _ c.if-end-input.false); }
+    record { within = c.requires; next = rw (le-ltb _ _ c.if-end-input.false) }
