@@ -1,9 +1,7 @@
 -- What the promises of a roll that comes in forbid, each on a named input: banana of P5, whose bytes are 20 10 10, and abracadabra of P2.
-use Rattle.std.specs.Prelude.{◌≡◌, List, [], ◌∷◌, ◌++◌, ℕ, length, get_or, replicate}
+use Rattle.std.specs.Prelude.{◌≡◌, List, [], ◌∷◌, ℕ, replicate}
 use Rattle.std.proofs.Common.{sym, ap, ◌∙◌, arith}
-use Rattle.ground.specs.Paper.Refusals.{Outcome, accepted, refused}
 use Rattle.ground.specs.Paper.Answers.{done_says}
-use Rattle.ground.specs.declared.answers.Done.{Done}
 use Rattle.ground.specs.declared.answers.Done.TheVariants.{Yes, Refused}
 use Rattle.stopper.specs.Helpers.State.{stepped, nearer}
 use Rattle.texts.specs.Paper.Hits.{good_pattern}
@@ -13,8 +11,8 @@ use Rattle.radio.specs.Paper.Operations.{start_says, searcher_for, Starting, in_
 use Rattle.radio.specs.declared.records.Searcher.{Searcher}
 use Rattle.radio.specs.declared.start.Started.{Started}
 use Rattle.radio.specs.declared.feed.Fed.{Fed}
-use Rattle.worked.specs.Cases.{abra, packed_abra, bananas, rolled, computed}
-use Rattle.worked.specs.Not.{apart, first_of, number_of}
+use Rattle.worked.specs.Cases.{abra, bananas, rolled, computed}
+use Rattle.worked.specs.Not.{apart, number_of}
 
 unfoldable heard : Unit {0}
 unfolding computed stepped nearer good_pattern heard_as ended_as stained_by hears ends hears_all ranks_heard judge_after verdict_says judge_bounds grown matches_all named start_says in_bounds kept_says feed_reads characters_heard searcher_after hits_named feed_says finish_says
