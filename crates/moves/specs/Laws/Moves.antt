@@ -1,6 +1,6 @@
--- The laws of moves.
+-- The laws of moves. What they give of the whole row stands in proofs/Laws/Moves.
 use Rattle.std.specs.Prelude.{◌≡◌, refl, List, [], ◌∷◌, ◌++◌, ℕ, suc, ◌+◌, ◌-◌, ◌*◌, ◌/◌, ◌^◌, ◌≤◌, ◌<◌, T, length, take, drop, get_or, set}
-use Rattle.std.proofs.Common.{sym, ap, ap₂, subst, ◌∙◌, le-div_iff_mul-le, add-mul, mul_assoc, mul-le-mul_right, add-one, arith, length-append, length-drop, take-append-drop, drop-cons, take-add, take_all, length-take-le, get_or-set_same, get_or-set_other}
+use Rattle.std.proofs.Common.{sym, ap, ap₂, ◌∙◌, le-div_iff_mul-le, add-mul, mul_assoc, mul-le-mul_right, add-one, arith, length-append, length-drop, drop-cons, take-add, length-take-le, get_or-set_same, get_or-set_other}
 use Rattle.std.proofs.Math.Nat.{pow-zero}
 use Rattle.std.proofs.Math.Decide.{ℕ_discrete}
 use Rattle.std.proofs.Math.Seq.{take-append-add, take-append_seam}
@@ -8,7 +8,6 @@ use Rattle.ground.specs.Helpers.Below.{none, also}
 use Rattle.ground.specs.Laws.Rows.{below_append}
 use Rattle.ground.specs.Laws.Runs.{run_slice}
 use Rattle.stopper.specs.Paper.Table.{base, good_code}
-use Rattle.stopper.specs.Paper.Reading.{Fault, done, bad}
 use Rattle.stopper.specs.Laws.Table.{code_width}
 use Rattle.stopper.specs.declared.code.Code.{Code}
 use Rattle.symbols.specs.Paper.Symbols.{per, symbols_of}
@@ -18,26 +17,15 @@ use Rattle.symbols.specs.Laws.Width.{per_pos, by_width}
 use Rattle.symbols.specs.Laws.Gathered.{digits_append, digits_one}
 use Rattle.symbols.proofs.Laws.Gathered.{byte_digits}
 use Rattle.symbols.specs.Laws.Rows.{symbols_length, symbols_append, symbols_drop, starts_within}
-use Rattle.reading.specs.Paper.Reading.{row_upto, row_reading}
-use Rattle.reading.specs.Helpers.Codewords.{scanned}
-use Rattle.reading.specs.declared.codewords.Scan.{Scan}
-use Rattle.reading.specs.declared.codewords.Scan.TheVariants.{Whole, Bad}
-use Rattle.moves.specs.Helpers.States.{few, many, ended_by, opened_by, state_after, ranks_ended, open_from, Stuck}
+use Rattle.reading.specs.Paper.Reading.{row_upto}
+use Rattle.moves.specs.Helpers.States.{few, many, ended_by, opened_by, state_after, ranks_ended}
 use Rattle.moves.specs.Helpers.Moves.{Goes, Moves, In, bound_in, times_in, plus_in, stops_in, MoveIn, MovesOf, MovesByByte, PartIn, Rows, Here}
-use Rattle.moves.specs.Laws.States.{after_stop, after_more, ranks_stop, ranks_more, state_append, ranks_append, ends_few, read_done, read_bad}
+use Rattle.moves.specs.Laws.States.{after_stop, after_more, ranks_stop, ranks_more, state_append, ranks_append, ends_few}
 use Rattle.moves.specs.declared.byte.Move.{Move}
 
 -- the same by other names
 pub here_as : {c : Code} {σ : ℕ} {row : List ℕ} {q x n q' x' n' : ℕ} → q' ≡ q → x' ≡ x → n' ≡ n → Here c σ row q x n → Here c σ row q' x' n'
 here_as d e f z = rw (d, e, f) z
-
-scanned_done : (rs : List ℕ) → scanned (done rs) ≡ Whole (length rs)
-unfolding scanned
-scanned_done rs = refl
-
-scanned_bad : (f : Fault) (p : ℕ) (rs : List ℕ) → scanned (bad f p rs) ≡ Bad p
-unfolding scanned
-scanned_bad f p rs = refl
 
 module _ (c : Code) (σ : ℕ) where
   -- ---- moves
@@ -105,23 +93,6 @@ module _ (c : Code) (σ : ℕ) where
 
     pub here_few : {q x n : ℕ} → Here c σ row q x n → n ≤ q
     here_few {q} z = omega (arith, z.ends, ends_few c (take q row) 0, length-take-le q row z.inside)
-
-  -- ---- what the whole row gives
-
-  module _ (g : T (good_code c)) (row : List ℕ) {q x n : ℕ} (z : Here c σ row q x n) where
-    -- no codeword is open at the end
-    pub here_end : x ≡ 0 → length row ≤ q → scanned (row_reading c σ row 0) ≡ Whole n
-    here_end e h =
-        let a : take q row ≡ row = take_all q row h in
-        ap scanned (read_done c g σ row (subst (λ (u : List ℕ). state_after c 0 u ≡ x) a z.state ∙ e) (rw a at z.good))
-        ∙ scanned_done (ranks_ended c 0 row)
-        ∙ ap {B = Scan} (λ (k : ℕ). Whole k) (ap (λ (u : List ℕ). length (ranks_ended c 0 u)) (sym a) ∙ z.ends)
-
-    -- the codeword that is open there is bad
-    pub here_bad : Stuck c σ x (drop q row) → scanned (row_reading c σ row 0) ≡ Bad (open_from c 0 0 (take q row))
-    here_bad s =
-        let (f, rs, e) = read_bad c g σ (take q row) (drop q row) z.good (rw z.state s) in
-        ap (λ (u : List ℕ). scanned (row_reading c σ u 0)) (sym (take-append-drop q row)) ∙ ap scanned e ∙ scanned_bad f _ rs
 
 -- ---- the symbols of a byte in a row
 

@@ -28,7 +28,8 @@ use Rattle.reading.specs.Laws.Reading.{whole_is}
 use Rattle.moves.specs.Helpers.States.{fewer, state_of, few, many, ended_by, opened_by, state_after, ranks_ended, open_from}
 use Rattle.moves.specs.Helpers.Moves.{Goes, bound_in}
 use Rattle.unpacking.specs.Helpers.Gives.{characters_of, Spells, silent, speaks, first_times, first_plus, later_in, KnownIn, KnownByByte, Unpacks, Wrote}
-use Rattle.moves.specs.Laws.States.{ranks_stop, ranks_more, by_symbol, ranks_append, more_state, stop_reads, more_reads, lands, least, stuck_stop, aheads_bad}
+use Rattle.moves.specs.Laws.States.{ranks_stop, ranks_more, by_symbol, ranks_append}
+use Rattle.moves.proofs.Laws.States.{more_state, stop_reads, more_reads, lands, least, stuck_stop, aheads_bad}
 use Rattle.moves.specs.Laws.Moves.{here_as, here_start, here_goes, goes_none, goes_never, goes_stop, goes_more}
 
 below_both : {n r : ℕ} {rs : List ℕ} → Below n (r ∷ rs) → (r < n) × Below n rs

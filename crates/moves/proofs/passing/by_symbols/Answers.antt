@@ -12,7 +12,7 @@ use Rattle.stopper.specs.declared.code.Code.{Code}
 use Rattle.symbols.specs.Paper.Symbols.{symbols_of}
 use Rattle.reading.specs.Paper.Reading.{row_upto}
 use Rattle.moves.specs.Helpers.States.{few, opened_by, ended_by}
-use Rattle.moves.specs.Laws.States.{stuck_stop, stuck_more}
+use Rattle.moves.proofs.Laws.States.{stuck_stop, stuck_more}
 use Rattle.moves.specs.Laws.Moves.{here_stop, here_more, here_few}
 use Rattle.moves.proofs.passing.by_symbols.Goals as goal
 use Rattle.moves.proofs.passing.by_symbols.Goals.{then-y-few+else-sigma-x, else-y-few+else-sigma-next}

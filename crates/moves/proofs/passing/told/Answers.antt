@@ -12,8 +12,8 @@ use Rattle.reading.specs.Paper.Reading.{row_upto}
 use Rattle.reading.specs.declared.codewords.Scan.{Scan}
 use Rattle.reading.specs.declared.codewords.Scan.TheVariants.{Bad}
 use Rattle.moves.specs.Helpers.States.{open_from, Stuck}
-use Rattle.moves.specs.Laws.States.{stuck_end}
-use Rattle.moves.specs.Laws.Moves.{here_end, here_bad}
+use Rattle.moves.proofs.Laws.States.{stuck_end}
+use Rattle.moves.proofs.Laws.Moves.{here_end, here_bad}
 use Rattle.moves.proofs.passing.told.Goals as goal
 use Rattle.moves.proofs.passing.told.Goals.{then-way-h+else-way-eq0, else-way-h}
 use Rattle.moves.proofs.passing.told.Lts as Places
