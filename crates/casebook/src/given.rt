@@ -1,6 +1,5 @@
 // What a case is given: numbers, rows of bytes, tables, rolls.
 ghost use Rattle.std.specs.Prelude.{◌≤◌, length};
-ghost use Rattle.io.specs.Counts.{IsPrefixLen};
 
 use sound::records::Roll;
 use stopper::code::even_code;
@@ -90,7 +89,7 @@ fn rising(row: &mut [u8], from: usize, many: usize, first: usize, step: usize) -
 
 // A row of bytes; how many there are.
 pub fn bytes(s: &[u8], at: usize, row: &mut [u8]) -> Value
-    ensures { IsPrefixLen result.value row.new }
+    ensures { result.value ≤ length row.new }
 {
     let count = number(s, at);
     let mut left = count.value;
@@ -109,7 +108,7 @@ pub fn bytes(s: &[u8], at: usize, row: &mut [u8]) -> Value
 
 // A row of numbers, how many and then each; how many there was room for.
 pub fn numbers(s: &[u8], at: usize, row: &mut [u32]) -> Value
-    ensures { IsPrefixLen result.value row.new }
+    ensures { result.value ≤ length row.new }
 {
     let count = number(s, at);
     let mut next = count.next;

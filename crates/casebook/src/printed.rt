@@ -3,43 +3,32 @@ ghost use Rattle.std.specs.Prelude.{◌≤◌};
 
 use ground::answers::{Answer, Done};
 use sound::records::Roll;
+use std::io::{self, Write};
 use stopper::table::Table;
 
-pub fn number_out(n: usize) {
-    io::print_decimal(1, n as u64);
+pub fn number_out(printer: &mut impl Write, n: usize) -> io::Result<()> {
+    write!(printer, "{n}")
 }
 
-pub fn end() {
-    io::write_all(1, b"\n");
+pub fn end(printer: &mut impl Write) -> io::Result<()> {
+    printer.write_all(b"\n")
 }
 
-pub fn refused(number: u8, value: u64) {
-    io::write_all(1, b" refused ");
-    number_out(number as usize);
-    io::write_all(1, b" ");
-    io::print_decimal(1, value);
+pub fn refused(printer: &mut impl Write, number: u8, value: u64) -> io::Result<()> {
+    write!(printer, " refused {number} {value}")
 }
 
-pub fn done(answer: Done) {
+pub fn done(printer: &mut impl Write, answer: Done) -> io::Result<()> {
     match answer {
-        Done::Yes => {
-            io::write_all(1, b" yes");
-        }
-        Done::Refused(number, value) => {
-            refused(number, value);
-        }
+        Done::Yes => printer.write_all(b" yes"),
+        Done::Refused(number, value) => refused(printer, number, value),
     }
 }
 
-pub fn character(answer: Answer) {
+pub fn character(printer: &mut impl Write, answer: Answer) -> io::Result<()> {
     match answer {
-        Answer::Read(character) => {
-            io::write_all(1, b" ");
-            number_out(character as usize);
-        }
-        Answer::Refused(number, value) => {
-            refused(number, value);
-        }
+        Answer::Read(character) => write!(printer, " {character}"),
+        Answer::Refused(number, value) => refused(printer, number, value),
     }
 }
 
@@ -47,11 +36,8 @@ fn wide(x: u8) -> usize {
     x as usize
 }
 
-fn run(many: usize, b: u8) {
-    io::write_all(1, b" ");
-    number_out(many);
-    io::write_all(1, b"x");
-    number_out(wide(b));
+fn run(printer: &mut impl Write, many: usize, b: u8) -> io::Result<()> {
+    write!(printer, " {many}x{}", wide(b))
 }
 
 // How many bytes from i on are the same.
@@ -67,17 +53,18 @@ fn same(row: &[u8], i: usize) -> usize {
 }
 
 // A row as runs: how many, and which byte.
-pub fn runs(row: &[u8]) {
-    io::write_all(1, b" |");
+pub fn runs(printer: &mut impl Write, bytes: &[u8]) -> io::Result<()> {
+    printer.write_all(b" |")?;
     let mut i: usize = 0;
-    while i < row.len() {
-        let j = same(row, i);
+    while i < bytes.len() {
+        let j = same(bytes, i);
         if j <= i {
             break;
         }
-        run(j - i, row[i]);
+        run(printer, j - i, bytes[i])?;
         i = j;
     }
+    Ok(())
 }
 
 fn wide_number(x: u32) -> usize
@@ -87,14 +74,15 @@ fn wide_number(x: u32) -> usize
 }
 
 // A row of numbers.
-pub fn list(row: &[u32]) {
-    io::write_all(1, b" |");
+pub fn list(printer: &mut impl Write, numbers: &[u32]) -> io::Result<()> {
+    printer.write_all(b" |")?;
     let mut i: usize = 0;
-    while i < row.len() {
-        io::write_all(1, b" ");
-        number_out(wide_number(row[i]));
+    while i < numbers.len() {
+        printer.write_all(b" ")?;
+        number_out(printer, wide_number(numbers[i]))?;
         i += 1;
     }
+    Ok(())
 }
 
 // By how much the number behind place i is more, in 32 bits; 0 where there is none.
@@ -124,51 +112,39 @@ fn evenly(row: &[u32], i: usize, step: usize) -> usize {
     j
 }
 
-fn rise(many: usize, first: usize, step: usize) {
-    io::write_all(1, b" ");
-    number_out(many);
-    io::write_all(1, b"x");
-    number_out(first);
-    io::write_all(1, b"+");
-    number_out(step);
+fn rise(printer: &mut impl Write, many: usize, first: usize, step: usize) -> io::Result<()> {
+    write!(printer, " {many}x{first}+{step}")
 }
 
 // A long row of numbers as runs: how many, the first, and the step by which they rise.
-pub fn rises(row: &[u32]) {
-    io::write_all(1, b" |");
+pub fn rises(printer: &mut impl Write, numbers: &[u32]) -> io::Result<()> {
+    printer.write_all(b" |")?;
     let mut i: usize = 0;
-    while i < row.len() {
-        let step = step_at(row, i);
-        let j = evenly(row, i, step);
+    while i < numbers.len() {
+        let step = step_at(numbers, i);
+        let j = evenly(numbers, i, step);
         if j <= i {
             break;
         }
-        rise(j - i, wide_number(row[i]), step);
+        rise(printer, j - i, wide_number(numbers[i]), step)?;
         i = j;
     }
+    Ok(())
 }
 
-fn places_out(places: [u8; 256]) {
-    runs(&places);
+fn places_out(printer: &mut impl Write, places: [u8; 256]) -> io::Result<()> {
+    runs(printer, &places)
 }
 
-pub fn roll_out(roll: Roll) {
+pub fn roll_out(printer: &mut impl Write, roll: Roll) -> io::Result<()> {
     let table = roll.table;
-    io::write_all(1, b" n ");
-    number_out(roll.n as usize);
-    io::write_all(1, b" h ");
-    number_out(roll.h as usize);
-    table_out(table);
+    write!(printer, " n {} h {}", roll.n, roll.h)?;
+    table_out(printer, table)
 }
 
-pub fn table_out(table: Table) {
+pub fn table_out(printer: &mut impl Write, table: Table) -> io::Result<()> {
     let code = table.code;
     let places = table.places;
-    io::write_all(1, b" k ");
-    number_out(code.k as usize);
-    io::write_all(1, b" s ");
-    number_out(code.s as usize);
-    io::write_all(1, b" sigma ");
-    number_out(table.sigma as usize);
-    places_out(places);
+    write!(printer, " k {} s {} sigma {}", code.k, code.s, table.sigma)?;
+    places_out(printer, places)
 }

@@ -1,16 +1,17 @@
 // The edits of a text: how many, and each a range and the bytes that come in its place. Each is made in the text as it was given.
 ghost use Rattle.std.specs.Prelude.{◌≤◌, length};
-ghost use Rattle.io.specs.Counts.{IsPrefixLen};
 
 use crate::outcomes::{first_read, frame_read, frames_read};
 use casebook::given::{Value, bytes, number};
 use casebook::rooms::{buffer, text_room};
+use std::alloc::Global;
+use std::io::{self, Write};
 
 // The bytes of a text from one place up to another, as many as there are and as there is room for, laid into a row from `at` on; the place after
 // them.
 fn lay(row: &mut [u8], at: usize, text: &[u8], from: usize, to: usize) -> usize
     requires { at ≤ length row.old }
-    ensures { IsPrefixLen result row.new }
+    ensures { result ≤ length row.new }
 {
     let mut i = at;
     let mut j = from;
@@ -27,7 +28,7 @@ fn lay(row: &mut [u8], at: usize, text: &[u8], from: usize, to: usize) -> usize
 
 // A text with an edit: how many bytes it has.
 fn edited(s: &[u8], at: usize, text: &[u8], row: &mut [u8]) -> Value
-    ensures { IsPrefixLen result.value row.new }
+    ensures { result.value ≤ length row.new }
 {
     let start = number(s, at);
     let stop = number(s, start.next);
@@ -44,33 +45,55 @@ fn edited(s: &[u8], at: usize, text: &[u8], row: &mut [u8]) -> Value
 }
 
 // Read by one of them, what is lent as it was.
-fn read(what: usize, text: &[u8], lent: &[u8]) {
-    let mut space = buffer();
+fn read(
+    alloc: Global,
+    printer: &mut impl Write,
+    what: usize,
+    text: &[u8],
+    lent: &[u8],
+) -> io::Result<()> {
+    let mut space = buffer(alloc)?;
     let n = lay(&mut space, 0, lent, 0, lent.len());
     match what {
-        2 => frames_read(text, &mut space[..n]),
-        3 => first_read(text),
-        _ => frame_read(text, &mut space[..n]),
+        2 => frames_read(printer, text, &mut space[..n]),
+        3 => first_read(printer, text),
+        _ => frame_read(printer, text, &mut space[..n]),
     }
 }
 
-fn one_edit(s: &[u8], at: usize, what: usize, text: &[u8], lent: &[u8]) -> usize {
-    let mut letters = text_room();
+fn one_edit(
+    alloc: Global,
+    printer: &mut impl Write,
+    s: &[u8],
+    at: usize,
+    what: usize,
+    text: &[u8],
+    lent: &[u8],
+) -> io::Result<usize> {
+    let mut letters = text_room(alloc)?;
     let after = edited(s, at, text, &mut letters);
     let n = after.value;
-    read(what, &letters[..n], lent);
-    after.next
+    read(alloc, printer, what, &letters[..n], lent)?;
+    Ok(after.next)
 }
 
 // The text itself, how many edits, and each.
-pub fn all_edits(s: &[u8], at: usize, what: usize, text: &[u8], lent: &[u8]) -> usize {
-    read(what, text, lent);
+pub fn all_edits(
+    alloc: Global,
+    printer: &mut impl Write,
+    s: &[u8],
+    at: usize,
+    what: usize,
+    text: &[u8],
+    lent: &[u8],
+) -> io::Result<usize> {
+    read(alloc, printer, what, text, lent)?;
     let count = number(s, at);
     let mut left = count.value;
     let mut next = count.next;
     while 0 < left {
-        next = one_edit(s, next, what, text, lent);
+        next = one_edit(alloc, printer, s, next, what, text, lent)?;
         left -= 1;
     }
-    next
+    Ok(next)
 }

@@ -14,63 +14,88 @@ use casebook::given::{bytes, number, roll_at};
 use casebook::rooms::{buffer, text_room};
 use edits::all_edits;
 use outcomes::written;
+use std::alloc::Global;
+use std::io::{self, BufWriter, Read, Write};
 
-fn main() {
-    part();
-    part();
+fn main(rt: HostRuntime) -> io::Result<()> {
+    let mut printer = BufWriter::new(rt.alloc(), io::writer(&rt))?;
+    part(&rt, &mut printer)?;
+    part(&rt, &mut printer)?;
+    printer.flush()
 }
 
-fn part() {
-    let mut input = [0u8; 262144];
-    let n = io::read_full(0, &mut input);
-    cases(&input[..n]);
+fn part(rt: &(impl Input + AllocGlobal), printer: &mut impl Write) -> io::Result<()> {
+    let mut input = Vec::new(rt.alloc());
+    rt.reader().take(262144).read_to_end(&mut input)?;
+    cases(rt.alloc(), printer, &input)
 }
 
-fn cases(s: &[u8]) {
+fn cases(alloc: Global, printer: &mut impl Write, s: &[u8]) -> io::Result<()> {
     let mut at: usize = 0;
     while at < s.len() {
-        let next = one_case(s, at);
+        let next = one_case(alloc, printer, s, at)?;
         if next <= at {
             break;
         }
         at = next;
     }
+    Ok(())
 }
 
-fn one_case(s: &[u8], at: usize) -> usize {
+fn one_case(alloc: Global, printer: &mut impl Write, s: &[u8], at: usize) -> io::Result<usize> {
     let kind = number(s, at);
     let what = kind.value;
     match what {
-        1 => write_case(s, kind.next),
-        2 | 3 | 4 => read_case(s, kind.next, what),
-        _ => s.len(),
+        1 => write_case(alloc, printer, s, kind.next),
+        2 | 3 | 4 => read_case(alloc, printer, s, kind.next, what),
+        _ => Ok(s.len()),
     }
 }
 
 // A roll, its buffer, the output as it was, a buffer as it was.
-fn write_case(s: &[u8], at: usize) -> usize {
+fn write_case(alloc: Global, printer: &mut impl Write, s: &[u8], at: usize) -> io::Result<usize> {
     let given = roll_at(s, at);
-    let mut space = buffer();
+    let mut space = buffer(alloc)?;
     let buf = bytes(s, given.next, &mut space);
     let n = buf.value;
-    let mut output = text_room();
+    let mut output = text_room(alloc)?;
     let out = bytes(s, buf.next, &mut output);
     let m = out.value;
-    let mut other = buffer();
+    let mut other = buffer(alloc)?;
     let lent = bytes(s, out.next, &mut other);
     let l = lent.value;
     let roll = given.roll;
-    written(roll, &space[..n], &mut output[..m], &mut other[..l]);
-    lent.next
+    written(
+        printer,
+        roll,
+        &space[..n],
+        &mut output[..m],
+        &mut other[..l],
+    )?;
+    Ok(lent.next)
 }
 
 // What is lent as it was, a text, edits.
-fn read_case(s: &[u8], at: usize, what: usize) -> usize {
-    let mut space = buffer();
+fn read_case(
+    alloc: Global,
+    printer: &mut impl Write,
+    s: &[u8],
+    at: usize,
+    what: usize,
+) -> io::Result<usize> {
+    let mut space = buffer(alloc)?;
     let lent = bytes(s, at, &mut space);
     let n = lent.value;
-    let mut letters = text_room();
+    let mut letters = text_room(alloc)?;
     let text = bytes(s, lent.next, &mut letters);
     let m = text.value;
-    all_edits(s, text.next, what, &letters[..m], &space[..n])
+    all_edits(
+        alloc,
+        printer,
+        s,
+        text.next,
+        what,
+        &letters[..m],
+        &space[..n],
+    )
 }

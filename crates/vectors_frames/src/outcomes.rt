@@ -1,53 +1,55 @@
 // What each operation answers and leaves.
-use casebook::printed::{done, end, number_out, refused, roll_out, runs};
+use casebook::printed::{done, end, refused, roll_out, runs};
 use ground::answers::Total;
 use sound::records::Roll;
+use std::io::{self, Write};
 
-fn total(answer: Total) {
+fn total(printer: &mut impl Write, answer: Total) -> io::Result<()> {
     match answer {
-        Total::Of(total) => {
-            io::write_all(1, b" ");
-            number_out(total as usize);
-        }
-        Total::Refused(number, value) => {
-            refused(number, value);
-        }
+        Total::Of(total) => write!(printer, " {total}"),
+        Total::Refused(number, value) => refused(printer, number, value),
     }
 }
 
 // Written, and the whole output read.
-pub fn written(roll: Roll, buf: &[u8], out: &mut [u8], other: &mut [u8]) {
-    io::write_all(1, b"write");
-    total(frames::write_frames::write_frames(roll, buf, out));
-    runs(out);
-    end();
-    frames_read(out, other);
+pub fn written(
+    printer: &mut impl Write,
+    roll: Roll,
+    buf: &[u8],
+    out: &mut [u8],
+    other: &mut [u8],
+) -> io::Result<()> {
+    printer.write_all(b"write")?;
+    total(printer, frames::write_frames::write_frames(roll, buf, out))?;
+    runs(printer, out)?;
+    end(printer)?;
+    frames_read(printer, out, other)
 }
 
-pub fn frames_read(text: &[u8], buf: &mut [u8]) {
-    io::write_all(1, b"frames");
+pub fn frames_read(printer: &mut impl Write, text: &[u8], buf: &mut [u8]) -> io::Result<()> {
+    printer.write_all(b"frames")?;
     let outcome = frames::read_frames::read_frames(text, buf);
     let answer = outcome.answer;
     let roll = outcome.roll;
-    done(answer);
-    roll_out(roll);
-    runs(buf);
-    end();
+    done(printer, answer)?;
+    roll_out(printer, roll)?;
+    runs(printer, buf)?;
+    end(printer)
 }
 
-pub fn first_read(line: &[u8]) {
-    io::write_all(1, b"first");
+pub fn first_read(printer: &mut impl Write, line: &[u8]) -> io::Result<()> {
+    printer.write_all(b"first")?;
     let outcome = frames::read_first::read_first(line);
     let answer = outcome.answer;
     let roll = outcome.roll;
-    done(answer);
-    roll_out(roll);
-    end();
+    done(printer, answer)?;
+    roll_out(printer, roll)?;
+    end(printer)
 }
 
-pub fn frame_read(line: &[u8], out: &mut [u8]) {
-    io::write_all(1, b"frame");
-    total(frames::read_frame::read_frame(line, out));
-    runs(out);
-    end();
+pub fn frame_read(printer: &mut impl Write, line: &[u8], out: &mut [u8]) -> io::Result<()> {
+    printer.write_all(b"frame")?;
+    total(printer, frames::read_frame::read_frame(line, out))?;
+    runs(printer, out)?;
+    end(printer)
 }

@@ -15,66 +15,70 @@ use pieces::all_pieces;
 use radio::records::Searcher;
 use searchers::searcher_at;
 use sound::records::Roll;
+use std::io::{self, BufWriter, Read, Write};
 
-fn main() {
-    let mut input = [0u8; 262144];
-    let n = io::read_full(0, &mut input);
-    cases(&input[..n]);
+fn main(rt: HostRuntime) -> io::Result<()> {
+    let mut input = Vec::new(rt.alloc());
+    rt.reader().take(262144).read_to_end(&mut input)?;
+    let mut printer = BufWriter::new(rt.alloc(), io::writer(&rt))?;
+    cases(&mut printer, &input)?;
+    printer.flush()
 }
 
-fn cases(s: &[u8]) {
+fn cases(printer: &mut impl Write, s: &[u8]) -> io::Result<()> {
     let mut at: usize = 0;
     while at < s.len() {
-        let next = one_case(s, at);
+        let next = one_case(printer, s, at)?;
         if next <= at {
             break;
         }
         at = next;
     }
+    Ok(())
 }
 
-fn one_case(s: &[u8], at: usize) -> usize {
+fn one_case(printer: &mut impl Write, s: &[u8], at: usize) -> io::Result<usize> {
     let kind = number(s, at);
     let what = kind.value;
     match what {
-        1 => start_case(s, kind.next),
-        2 => searcher_case(s, kind.next),
-        _ => s.len(),
+        1 => start_case(printer, s, kind.next),
+        2 => searcher_case(printer, s, kind.next),
+        _ => Ok(s.len()),
     }
 }
 
 // A roll, a pattern, pieces.
-fn start_case(s: &[u8], at: usize) -> usize {
+fn start_case(printer: &mut impl Write, s: &[u8], at: usize) -> io::Result<usize> {
     let given = roll_at(s, at);
     let mut letters = [0u8; 128];
     let pattern = bytes(s, given.next, &mut letters);
     let p = pattern.value;
     let roll = given.roll;
-    let searcher = started(roll, &letters[..p]);
-    all_pieces(s, pattern.next, searcher)
+    let searcher = started(printer, roll, &letters[..p])?;
+    all_pieces(printer, s, pattern.next, searcher)
 }
 
-fn started(roll: Roll, pattern: &[u8]) -> Searcher {
-    io::write_all(1, b"start");
+fn started(printer: &mut impl Write, roll: Roll, pattern: &[u8]) -> io::Result<Searcher> {
+    printer.write_all(b"start")?;
     let outcome = radio::start::start(roll, pattern);
     let answer = outcome.answer;
     let searcher = outcome.searcher;
-    done(answer);
-    finished(searcher);
-    searcher
+    done(printer, answer)?;
+    finished(printer, searcher)?;
+    Ok(searcher)
 }
 
 // A searcher, pieces.
-fn searcher_case(s: &[u8], at: usize) -> usize {
+fn searcher_case(printer: &mut impl Write, s: &[u8], at: usize) -> io::Result<usize> {
     let given = searcher_at(s, at);
     let searcher = given.searcher;
-    io::write_all(1, b"given");
-    finished(searcher);
-    all_pieces(s, given.next, searcher)
+    printer.write_all(b"given")?;
+    finished(printer, searcher)?;
+    all_pieces(printer, s, given.next, searcher)
 }
 
-fn finished(searcher: Searcher) {
-    io::write_all(1, b" finish");
-    done(radio::finish::finish(searcher));
-    end();
+fn finished(printer: &mut impl Write, searcher: Searcher) -> io::Result<()> {
+    printer.write_all(b" finish")?;
+    done(printer, radio::finish::finish(searcher))?;
+    end(printer)
 }

@@ -1,8 +1,9 @@
 // A searcher as a case gives it, and as it is printed.
 use casebook::given::{bytes, number, roll_at};
-use casebook::printed::{end, number_out, roll_out, runs};
+use casebook::printed::{end, roll_out, runs};
 use judge::records::{Judge, Progress};
 use radio::records::Searcher;
+use std::io::{self, Write};
 
 #[derive(Clone, Copy)]
 pub struct SearcherAt {
@@ -95,41 +96,39 @@ pub fn searcher_at(s: &[u8], at: usize) -> SearcherAt {
     }
 }
 
-fn word_out(x: u32) {
-    io::write_all(1, b" ");
-    number_out(x as usize);
+fn word_out(printer: &mut impl Write, x: u32) -> io::Result<()> {
+    write!(printer, " {x}")
 }
 
-fn progress_out(p: Progress) {
-    word_out(p.read);
-    word_out(p.count);
-    word_out(p.first);
-    word_out(p.past);
-    word_out(p.place);
-    word_out(p.shorter);
-    word_out(p.rows);
-    word_out(p.value);
-    word_out(p.bad);
-    word_out(p.stained);
+fn progress_out(printer: &mut impl Write, p: Progress) -> io::Result<()> {
+    word_out(printer, p.read)?;
+    word_out(printer, p.count)?;
+    word_out(printer, p.first)?;
+    word_out(printer, p.past)?;
+    word_out(printer, p.place)?;
+    word_out(printer, p.shorter)?;
+    word_out(printer, p.rows)?;
+    word_out(printer, p.value)?;
+    word_out(printer, p.bad)?;
+    word_out(printer, p.stained)
 }
 
-fn pattern_out(pattern: [u8; 64]) {
-    runs(&pattern);
+fn pattern_out(printer: &mut impl Write, pattern: [u8; 64]) -> io::Result<()> {
+    runs(printer, &pattern)
 }
 
 // All that a searcher holds.
-pub fn searcher_out(searcher: Searcher) {
+pub fn searcher_out(printer: &mut impl Write, searcher: Searcher) -> io::Result<()> {
     let judge = searcher.judge;
     let roll = judge.roll;
     let progress = judge.progress;
     let pattern = searcher.pattern;
-    io::write_all(1, b"searcher");
-    progress_out(progress);
-    roll_out(roll);
-    pattern_out(pattern);
-    io::write_all(1, b" length");
-    word_out(searcher.length);
-    io::write_all(1, b" ends ");
-    io::print_decimal(1, searcher.ends);
-    end();
+    printer.write_all(b"searcher")?;
+    progress_out(printer, progress)?;
+    roll_out(printer, roll)?;
+    pattern_out(printer, pattern)?;
+    printer.write_all(b" length")?;
+    word_out(printer, searcher.length)?;
+    write!(printer, " ends {}", searcher.ends)?;
+    end(printer)
 }
