@@ -51,6 +51,8 @@ Joined-j-symbols = Places.Joined1 tie.the-claims Clauses.Pre Clauses.Post goal.t
 abbrev row : {κs : Lfts 3} → Args κs → List ℕ
 row s = row_upto s.roll.table.code s.roll.h s.buf.now
 
+-- ---- the row of symbols
+
 within : (s : Start) → (s.args.roll.h ≤ length (symbols_of s.args.roll.table.code.k s.args.buf.now)) × (s.args.roll.h ≤ limit_bound)
 within s = let d = sound_reads s.requires 0 (omega arith) in (d.held, d.small)
 
@@ -76,6 +78,8 @@ next_is c =
     c.end_at-next.ensures
     ∙ ap (λ (p : ℕ). end_from c.args.roll.table.code c.args.buf.now p 1) c.loop-i.invariant.1
     ∙ sound_next c.requires c.loop-i.i c.loop-i-test.true
+
+-- ---- the comparison
 
 pub loop-j-init : goal.loop-j-init
 loop-j-init c =
@@ -135,6 +139,8 @@ same_is c =
           w.same-is ∙ sym (stands_differ sy (row c.args) j at (omega (arith, w.if-j-symbols.false, c.loop-j.invariant.0)) (omega (arith, inside g.before, row_long c.before.before.before.before.before.before.before.before.before.before.before)) (λ e. w.if-get-symbols.true (symbol_is g ∙ e)))
     ]
     ∙ sym (ap (λ (p : ℕ). stands sy (drop p (row c.args))) (sym c.loop-i.invariant.1) ∙ c.loop-j.invariant.2)
+
+-- ---- the list
 
 pub loop-i-preserved : goal.loop-i-preserved
 loop-i-preserved c =

@@ -29,6 +29,8 @@ After-next_byte-y = Places.After-next_byte tie.the-claims Clauses.Pre Clauses.Po
 abbrev After-next_byte-z : Type 0
 After-next_byte-z = Places.After-next_byte2 tie.the-claims Clauses.Pre Clauses.Post goal.the-invariant-loop-j goal.the-decreases-loop-j
 
+-- ---- sizes
+
 -- the products with what `per_byte` says are those with `per k`; and how large they are
 sizes : (c : After-per_byte-per) → let a = c.args in let q : ℕ = c.per_byte-per.result in
     (q ≡ per a.k) × (a.v.places * q ≡ a.v.places * per a.k) × (a.v.back * q ≡ a.v.back * per a.k)
@@ -59,6 +61,8 @@ place c =
     let q : ℕ = per c.args.k in
     let le : n / q < v.places = (div-lt_iff_lt-mul (per_pos c.requires.0)).1 (omega (arith, sizes c.before.before.before.before.before.before.before.before.before, c.loop-j-test.true)) in
     (omega (arith, le, c.byte_of.ensures), omega (arith, le, c.byte_of.ensures, c.requires.2.sum, c.requires.2.small))
+
+-- ---- the bytes
 
 first_byte : (c : After-next_byte-y)
     → let a = c.args in c.next_byte-y.result ≡ byte_from a.k a.symbols.now c.loop-j.j

@@ -51,7 +51,7 @@ plus s b = get_or s.args.plus.now b 0
 abbrev stops : Start → ℕ → ℕ
 stops s b = get_or s.args.stops.now b 0
 
--- a byte before the last whole is whole
+-- a byte before the last whole one is whole
 inside : (s : Start) (j : ℕ) → suc j ≤ s.args.whole → suc j * per s.args.k ≤ s.args.h
 inside s j l = omega (arith, mul-le-mul_right (per s.args.k) l, s.requires.0.upto)
 
@@ -66,7 +66,6 @@ few s =
     let w = code_width (code s) s.requires.0.good in
     omega (arith, le-mul_of_pos_right s.args.whole (per_pos w), s.requires.0.upto, s.requires.0.small)
 
--- the in hand, its bytes, and the first of them taken
 abbrev first : After-index-d → ℕ
 first c = c.index-b.result
 

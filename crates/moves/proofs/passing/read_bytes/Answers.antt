@@ -41,6 +41,8 @@ width s = code_width s.args.code s.requires.good
 reads : (s : Start) (p : ℕ) → p ≤ s.args.h → Reads s.args.code s.args.sigma s.args.buf.now s.args.h p
 reads s p l = record { good = s.requires.good; few = s.requires.few; held = s.requires.held; small = s.requires.small; upto = l }
 
+-- ---- the first symbols
+
 pub by_symbols-few-requires : goal.by_symbols-few-requires
 by_symbols-few-requires c = (c.requires, omega arith, here_start c.args.code c.args.sigma (row c.before.before), omega arith)
 
@@ -49,7 +51,9 @@ told-requires c =
     let z = c.by_symbols-few.ensures in
     (reads c.before.before.before.before.before _ (omega (arith, z.0, c.requires.upto)), z.1, λ _. z.3 c.if-few-lt-FIRST.true)
 
--- so many whole there are, and so many are passed
+-- ---- whole bytes
+
+-- so many whole bytes there are, and so many are passed
 whole : (c : After-byte_of-2) → c.byte_of-2.result * per c.args.code.k ≤ c.args.h
 whole c = (le-div_iff_mul-le (per_pos (width c.before.before.before.before.before.before))).0 (omega (arith, c.byte_of-2.ensures))
 
@@ -85,6 +89,8 @@ pub by_symbols-all-requires : goal.by_symbols-all-requires
 by_symbols-all-requires c =
     let (e, l) = told c in
     (reads c.before.before.before.before.before.before.before.before.before.before c.args.h (omega arith), omega arith, subst (λ (n : ℕ). At c.before.before.before.before.before.before.before.before.before.before n c.by_bytes-bytes.result.x c.by_bytes-bytes.result.n) (sym e) c.by_bytes-bytes.ensures.1, c.by_bytes-bytes.ensures.2)
+
+-- ---- the rest
 
 pub told-requires-2 : goal.told-requires-2
 told-requires-2 c =

@@ -213,7 +213,9 @@ loop-i-init c =
       refl,
     )
 
--- what the read and named
+-- ---- again
+
+-- what the turn read and named
 pub overflow_cast-i : goal.overflow_cast-i
 overflow_cast-i c = record { fits = omega (arith, (stretch_on c.before.before.before.before.before.before.before.before).3, h_fits c.before.before.before.before.before.before.before.before.before.before.before.before.before.before.before.before.before.before.before.before.before.before.before.before.before.before.before.before.before.before.before.before.before) }
 

@@ -30,6 +30,8 @@ After-advance-on = Places.After-advance tie.the-claims Clauses.Pre Clauses.Post 
 abbrev Then-whole-on : Type 0
 Then-whole-on = Places.Then1 tie.the-claims Clauses.Pre Clauses.Post goal.the-invariant-loop-i goal.the-decreases-loop-i
 
+-- ---- one character more
+
 named_start : (pattern : List ℕ) (count bits : ℕ) (slice : List ℕ) (hits : ℕ) → NamedIn pattern [] count bits slice hits (record { ends = bits; hits = hits }) slice
 unfolding matches_all named
 named_start pattern count bits slice hits = record { ends = refl; hits = sym (add-zero hits); leaves = sym (over_none slice hits) }
@@ -69,6 +71,8 @@ module _ (pattern text : List ℕ) {count bits : ℕ} {slice : List ℕ} {hits o
         hits = rw same (rw length-append (omega (arith, z.hits)));
         leaves = rw (same, z.leaves) (over_more slice hits before at hit (sym z.hits) room);
       }
+
+-- ---- the loop
 
 abbrev Of : At-loop-i → List ℕ → Type 0
 Of l pattern = let a = l.args in Masked a.masks.now a.whole a.length pattern

@@ -37,6 +37,8 @@ After-search-searching = Places.After-search tie.the-claims Clauses.Pre Clauses.
 abbrev After-bytes_for-taken : Type 0
 After-bytes_for-taken = Places.After-bytes_for tie.the-claims Clauses.Pre Clauses.Post tie.handed_clauses
 
+-- ---- packed
+
 abbrev pattern : {κs : Lfts 3} → Args κs → List ℕ
 pattern p = p.pattern.now
 
@@ -60,6 +62,8 @@ returns-in-Refused c =
     let e = answer_refused (pattern c.args) (text c.args) (says_as (packing c.before.before.before.before.before.before.before.before).says c.in-Refused.is) in
     record { length = rw e c.refused_out.ensures.length; out = rw e c.refused_out.ensures.out }
 
+-- ---- searched
+
 accepted : (s : After-search-searching) → s.pack-packed.result.answer ≡ Yes
 accepted s = s.in_default.is
 
@@ -71,6 +75,8 @@ pub returns-in_default-searching : goal.returns-in_default-searching
 returns-in_default-searching c =
     let z : ◌≡◌ {A = ℕ} 0 1 = cc (c.in_default-searching.is, found c.before.before.before) in
     absurd (omega arith)
+
+-- ---- what is lent to be written
 
 abbrev total : After-bytes_for-taken → ℕ
 total b = b.in-Of.total

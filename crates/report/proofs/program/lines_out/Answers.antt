@@ -67,6 +67,8 @@ last s = hits_word ++ (decimal (length s.hits.now) ++ (10 ∷ []))
 abbrev later : {κs : Lfts 3} → Args κs → List ℕ
 later s = hex_lines s.bytes.now ++ (number_lines s.hits.now ++ last s)
 
+-- ---- behind each call: the function's start, and what is put
+
 put0 : (s : Start)
     → let a = s.args in Put s.args a.out.now 0 (best_word ++ (decimal a.s ++ (symbols_word ++ (decimal a.h ++ (10 ∷ later s.args)))))
 put0 s =
@@ -106,6 +108,8 @@ put9 c = going_more (room c.before.before.before.before.before.before.before.bef
 
 put10 : (c : After-text_out) → Put c.args c.text_out.new.out c.text_out.result []
 put10 c = going_more (room c.before.before.before.before.before.before.before.before.before.before.before.before.before.before.before.before.before.before.before.before.before.before.before.before.before.before.before.before.before.before.before.before.before.before.before.before.before.before.before.before.before.before.before.before.before.before.before.before.before.before.before) (10 ∷ []) (put9 c.before.before.before.before.before.before) c.text_out.ensures.out c.text_out.ensures.next
+
+-- ---- what is left
 
 pub text_out-p-requires : goal.text_out-p-requires
 unfolding best_word

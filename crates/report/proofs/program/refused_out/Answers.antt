@@ -45,6 +45,8 @@ room s = omega (arith, s.requires, refused_few s.args.number s.args.value)
 abbrev Put : {κs : Lfts 1} → Args κs → List ℕ → ℕ → List ℕ → Type 0
 Put s out p rest = Going (line s) s.out.now 0 out p rest
 
+-- ---- behind each call: the function's start, and what is put
+
 put1 : (c : After-text_out-p)
     → let a = c.args in Put c.args c.text_out-p.new.out c.text_out-p.result (decimal a.number ++ (32 ∷ (decimal a.value ++ (10 ∷ []))))
 unfolding refused_word
@@ -63,6 +65,8 @@ put4 c = going_more (room c.before.before.before.before.before.before.before.bef
 
 put5 : (c : After-text_out) → Put c.args c.text_out.new.out c.text_out.result []
 put5 c = going_more (room c.before.before.before.before.before.before.before.before.before.before.before.before.before.before.before.before.before.before.before.before.before.before.before.before.before) (10 ∷ []) (put4 c.before.before.before.before.before.before) c.text_out.ensures.out c.text_out.ensures.next
+
+-- ---- what is left
 
 pub decimal_out-p-requires : goal.decimal_out-p-requires
 decimal_out-p-requires c = going_next (room c.before.before.before.before.before.before.before.before) (decimal c.args.number) _ (put1 c.before.before.before)

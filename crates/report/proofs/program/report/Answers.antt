@@ -38,11 +38,15 @@ After-text_start-from = Places.After-text_start tie.the-claims Clauses.Pre Claus
 abbrev Else-input-from-gt16384 : Type 0
 Else-input-from-gt16384 = Places.Else2 tie.the-claims Clauses.Pre Clauses.Post tie.handed_clauses
 
+-- ---- an answer that is written is the report
+
 abbrev Written : List ℕ → List ℕ → ℕ → List ℕ → Type 0
 Written answer old r out = (r ≡ length answer) × (out ≡ answer ++ drop (length answer) old)
 
 told : (input answer old : List ℕ) {r : ℕ} {out : List ℕ} → report_of input ≡ answer → Written answer old r out → Written (report_of input) old r out
 told input answer old e w = rw e w
+
+-- ---- the pattern's line
 
 abbrev input : {κs : Lfts 2} → Args κs → List ℕ
 input l = l.input.now
@@ -61,6 +65,8 @@ returns-then-not-good_pattern c =
     let w =
     told (input c.args) _ c.args.out.now (report_11 (input c.args) (sym (good_is c.before.before.before.before) ∙ c.if-not-good_pattern.true)) (c.refused_out.ensures.length, c.refused_out.ensures.out) in
     record { length = w.0; out = w.1 }
+
+-- ---- the text
 
 text_is : (t : After-text_start-from) → drop t.text_start-from.result (input t.args) ≡ given_text (input t.args)
 text_is t =

@@ -29,6 +29,8 @@ After-room_of = Places.After-room_of tie.the-claims Clauses.Pre Clauses.Post
 abbrev After-measure-extent : Type 0
 After-measure-extent = Places.After-measure tie.the-claims Clauses.Pre Clauses.Post
 
+-- ---- the run
+
 abbrev first : After-room_of → ℕ
 first r = r.start_of-first.result
 
@@ -51,6 +53,8 @@ room_of-requires c = sound_width c.requires.0
 pub measure-extent-requires : goal.measure-extent-requires
 unfolding zeros
 measure-extent-requires c = (c.requires.0.table, refl, length-replicate {A = ℕ} (256 * longest) 0)
+
+-- ---- the text measured
 
 extent_is : (m : After-measure-extent) (x : Extent) → m.measure-extent.result ≡ x → let a = m.args in
     Measured a.roll.table (room a.roll.table.code.k (length a.buf.now) - first m.before.before.before) a.text.now m.measure-extent.new.lengths m.measure-extent.new.words x

@@ -31,6 +31,8 @@ After-first_over-over = Places.After-first_over tie.the-claims Clauses.Pre Claus
 abbrev After-entries_for-needed : Type 0
 After-entries_for-needed = Places.After-entries_for tie.the-claims Clauses.Pre Clauses.Post tie.handed_clauses
 
+-- ---- the room that is left
+
 rest : (r : After-room_of) → let a = r.args in r.room_of.result - (a.run.first + a.taken) ≡ room a.roll.table.code.k (length a.buf.now) - (a.run.first + a.taken)
 rest r = let a = r.args in ap (λ (n : ℕ). n - (a.run.first + a.taken)) r.room_of.ensures
 
@@ -39,6 +41,8 @@ few r = let p = r.requires in count_few p.0 p.1 p.2 (rest r)
 
 pub overflow_sub-roll : goal.overflow_sub-roll
 overflow_sub-roll c = omega (arith, run_inside c.requires.0)
+
+-- ---- what stands behind does not fit
 
 within : (o : After-first_over-over) → let a = o.args in
     a.run.start + length a.text.now + (o.first_over-over.result - a.run.end) < length (edited (text_of a.roll a.buf.now) a.run.start a.run.end a.text.now)
@@ -56,6 +60,8 @@ returns-then-left-roll c =
     (over_tail p c.requires.1 c.requires.2 (rest c.before.before.before.before.before.before.before.before.before) c.if-left-roll.true c.first_over-over.ensures)
     (within c.before.before.before.before)
     c.refused.ensures
+
+-- ---- it does
 
 pub overflow_add-count : goal.overflow_add-count
 overflow_add-count c = omega (arith, few c.before.before.before.before.before.before)

@@ -38,6 +38,8 @@ pub returns-then-not-good_table : goal.returns-then-not-good_table
 unfolding pack_says
 returns-then-not-good_table c = pack_refused 1 0 (rw (sym c.good_table.ensures ∙ c.if-not-good_table.true)) c.refused.ensures
 
+-- ---- under a good table
+
 good : (e : Else-not-good_table) → good_table e.args.table ≡ true
 good e = sym e.good_table.ensures ∙ e.if-not-good_table.false
 
@@ -50,6 +52,8 @@ pub measure-extent-requires : goal.measure-extent-requires
 unfolding zeros
 measure-extent-requires c =
     (is_good _ (good c.before.before.before.before.before), refl, length-replicate {A = ℕ} (256 * longest) 0)
+
+-- ---- measured
 
 abbrev table : {κs : Lfts 2} → Args κs → Table
 table m = m.table

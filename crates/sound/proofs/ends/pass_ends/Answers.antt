@@ -31,6 +31,8 @@ After-per_byte = Places.After-per_byte tie.the-claims Clauses.Pre Clauses.Post g
 good_width_lem : (s : Start) → Width s.args.code.k
 good_width_lem s = code_width s.args.code s.requires.0.good
 
+-- ---- a whole byte
+
 inside : (l : At-loop-left) → l.loop-left.j < length l.args.buf.now
 inside l = byte_inside l.loop-left.invariant.0 l.loop-left.j refl l.loop-left.invariant.1
 
@@ -60,6 +62,8 @@ bounds-stops-buf c =
 
 pub overflow_cast-ended-in-loop-left : goal.overflow_cast-ended-in-loop-left
 overflow_cast-ended-in-loop-left c = omega (arith, c.shared_slice_known-in-loop-left-2-1.given (byte c.before.before.before))
+
+-- ---- the symbols of the last
 
 first_is : (c : After-per_byte) → c.loop-left.j * c.per_byte.result ≡ c.loop-left.j * per c.args.code.k
 first_is c = ap (λ (n : ℕ). c.loop-left.j * n) c.per_byte.ensures

@@ -12,6 +12,8 @@ use Rattle.stopper.proofs.code.border_of.Goals as goal
 passed : {c : ℕ} → c < 16 → (many : ℕ) {r : ℕ} → many ≤ r → r < 256 → many * c ≤ 4096
 passed h many l k = mul-le-mul {n₁ = many} {n₂ = 256} {m₂ = 16} (omega arith) (omega arith)
 
+-- ---- how many codewords each length has, where the shorter ones are passed
+
 second : (x : goal.Else-rank-one) → let a = x.args in a.one * a.c ≤ 65536
 second x = mul-le-mul {n₂ = 4096} {m₂ = 16} x.requires.1 (omega (arith, x.requires.3))
 
@@ -45,6 +47,8 @@ seventh x =
       mul-pos (mul-pos (mul-pos (mul-pos (mul-pos (mul-pos p.0 p.2) p.2) p.2) p.2) p.2) p.2,
       passed p.3 (a.one * a.c * a.c * a.c * a.c * a.c) {r = a.rank} (omega arith) p.5,
     )
+
+-- ---- the lengths behind the six borders
 
 abbrev to-six : goal.Else-rank-to_six → ℕ
 to-six x = let a = x.before.before.before.before.before.before.args in a.one + a.one * a.c + a.one * a.c * a.c + a.one * a.c * a.c * a.c + a.one * a.c * a.c * a.c * a.c + a.one * a.c * a.c * a.c * a.c * a.c

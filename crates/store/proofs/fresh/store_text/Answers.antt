@@ -34,6 +34,8 @@ write_text-requires c =
     let p = c.requires.1 in
     record { laid = p.laid; fits = rw p.row (omega (arith, p.count, held c.before.before.before.before.before.before.before)); counts = rw p.row (omega (arith, p.count, few c.before.before.before.before.before.before.before)) }
 
+-- ---- written
+
 pub clear_unused-requires : goal.clear_unused-requires
 clear_unused-requires c =
     let e = symbols_even c.args.table.code.k c.write_text.new.buf c.args.buf.now c.write_text.auto.buf in

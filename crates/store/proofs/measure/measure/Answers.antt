@@ -26,6 +26,8 @@ pub returns-then-text-eq0 : goal.returns-then-text-eq0
 returns-then-text-eq0 c =
     measured_none c.args.table c.requires.0 c.args.room c.args.text.now c.args.words.now c.if-text-eq0.true c.requires.1 c.requires.2
 
+-- ---- after `spell_all`
+
 abbrev lengths : After-spell_all → List ℕ
 lengths p = p.spell_all.new.lengths
 
@@ -38,6 +40,8 @@ long p = ap length p.spell_all.ensures.sizes ∙ length_tab _ 0 256
 
 bytes : (p : After-spell_all) → Below 256 p.args.text.now
 bytes p = below_all 256 _ (λ i. (p.shared_slice_known-1.given i).fits)
+
+-- ---- after `fitting`
 
 upto_is : (f : After-fitting-fit) → f.fitting-fit.result.upto ≡ upto_of (lengths f.before.before.before.before.before) f.args.room f.args.text.now
 upto_is f = ap (λ (x : Fit). x.upto) f.fitting-fit.ensures

@@ -21,6 +21,8 @@ Start = Places.Start tie.the-claims Clauses.Pre Clauses.Post tie.handed_clauses
 abbrev After-slice_known-3-1 : Type 0
 After-slice_known-3-1 = Places.After-slice_known3 tie.the-claims Clauses.Pre Clauses.Post tie.handed_clauses
 
+-- ---- after the symbols
+
 -- how many characters and symbols there are then
 abbrev count : Start → ℕ
 count s = s.args.run.start + length s.args.text.now + (s.args.roll.n - s.args.run.end)
@@ -56,6 +58,8 @@ bytes_are c = replaced.bytes_after_lem c.requires c.replace_symbols.ensures
 pub mend-requires : goal.mend-requires
 mend-requires c =
     replaced.mends c.requires (record_is c.before.before.before.before.before.before.before) (bytes_are c.before.before.before.before.before.before.before) c.changed_upto-upto.ensures
+
+-- ---- after the directory is mended
 
 pub clear_entries-requires : goal.clear_entries-requires
 clear_entries-requires c =

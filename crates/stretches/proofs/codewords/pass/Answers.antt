@@ -51,7 +51,6 @@ lay_out-laid-requires c =
 pub overflow_add-left : goal.overflow_add-left
 overflow_add-left c = let a = skip_least c.before.before.before.before in let o = c.requires.2 in search rules
 
--- the symbols out, from the loop
 pub loop-far-init : goal.loop-far-init
 loop-far-init c =
     elim c.if-left-laid.branch [
@@ -62,7 +61,7 @@ loop-far-init c =
 pub last_end-to-requires : goal.last_end-to-requires
 last_end-to-requires c = let z = c.lay_out-laid.ensures in omega (arith, c.loop-far.invariant.1, z.long, z.few)
 
--- what is passed ends within the symbols out, and within the roll's
+-- what is passed ends within the symbols laid out, and within the roll's
 near : (c : After-last_end-to) → c.last_end-to.result ≤ c.lay_out-laid.result
 near c = omega (arith, c.last_end-to.ensures, c.loop-far.invariant.1)
 
