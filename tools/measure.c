@@ -1,7 +1,7 @@
 /* Two figures of include/monterculo.h, measured on the archive: the stack that each function takes, and how many
  * single-bit faults of a roll pass its check.
  *
- *   gcc -O1 -I include -o measure tools/measure.c crates/monterculo/out/libmonterculo.a && ./measure
+ *   gcc -O1 -I include -o measure tools/measure.c target/staticlib/libmonterculo.a && ./measure
  *
  * Stack: each call runs on a painted stack of its own, under the table whose longest codeword has 86 symbols (k 2, s 3,
  * sigma 256), and on a text that has it; counted is what lies below the caller's frame and was written, arguments too.

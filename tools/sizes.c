@@ -1,6 +1,6 @@
 /* What a text takes as rolls, with either width: the figures of docs/BOX.md, and those of a text of your own.
  *
- *   gcc -I include -o sizes tools/sizes.c crates/monterculo/out/libmonterculo.a && python3 tools/members.py 1000 | ./sizes
+ *   gcc -I include -o sizes tools/sizes.c target/staticlib/libmonterculo.a && python3 tools/members.py 1000 | ./sizes
  *
  * Each roll takes whole lines until one more does not fit into 1,048,576 symbols under the table chosen for just these.
  * The symbols are those of packing: the total that choosing answers may be more. A file is what examples/members.c

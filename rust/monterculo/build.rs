@@ -14,7 +14,7 @@ fn archive_dir() -> Result<PathBuf, String> {
         Some(dir) if !dir.is_empty() => PathBuf::from(dir),
         _ => {
             return Err("MONTERCULO_ARCHIVE_DIR is not set: it names the folder of libmonterculo.a, which \
-                        `rt lib` in crates/monterculo writes"
+                        `rust/run archive` writes"
                 .into())
         }
     };

@@ -1,11 +1,11 @@
-// The operations for callers in C and Rust: the door that boxes come in by.
+// The operations as callers in C and Rust take them; `monterculo_c` exports them under these names.
 //
 // Tables, codewords, rolls and searchers come in and are answered by value, and nothing is written but what is lent: a record that grows changes no
 // signature. Beside them stand the refusal's number, 0 for accepted work, and the refusal's value or what is answered.
 
 #![tactic(auto)]
 
-mod taken;
+pub mod taken;
 
 ghost use Rattle.std.specs.Prelude.{◌≡◌, length};
 ghost use Rattle.ground.specs.Paper.Refusals.{accepted, ◌then◌};
@@ -22,8 +22,7 @@ use stopper::codeword_of::Codeword;
 use stopper::table::Table;
 use taken::{Chosen, Coded, Fed, Rolled, Started, Told, done, read, totalled};
 
-#[unsafe(no_mangle)]
-pub extern "C" fn monterculo_count(text: &[u8], counts: &mut [u32]) -> Told
+pub fn monterculo_count(text: &[u8], counts: &mut [u32]) -> Told
     ensures told { result ≡ told (count_says text.now counts.old then accepted 0) }
     ensures counts { counts.new ≡ count_leaves text.now counts.old }
 {
@@ -32,8 +31,7 @@ pub extern "C" fn monterculo_count(text: &[u8], counts: &mut [u32]) -> Told
 }
 
 // Its value is the total.
-#[unsafe(no_mangle)]
-pub extern "C" fn monterculo_choose(k: u8, counts: &[u32]) -> Chosen
+pub fn monterculo_choose(k: u8, counts: &[u32]) -> Chosen
     ensures told { result.answer ≡ told (choose_says k counts.now then accepted (choose_total k counts.now)) }
     ensures table { result.table ≡ choose_table k counts.now }
 {
@@ -46,8 +44,7 @@ pub extern "C" fn monterculo_choose(k: u8, counts: &[u32]) -> Chosen
     }
 }
 
-#[unsafe(no_mangle)]
-pub extern "C" fn monterculo_codeword_of(table: Table, character: u8) -> Coded
+pub fn monterculo_codeword_of(table: Table, character: u8) -> Coded
     ensures told { result.answer ≡ told (codeword_says table character then accepted 0) }
     ensures word { result.word ≡ codeword_given table character }
 {
@@ -61,16 +58,14 @@ pub extern "C" fn monterculo_codeword_of(table: Table, character: u8) -> Coded
 }
 
 // Its value is the character.
-#[unsafe(no_mangle)]
-pub extern "C" fn monterculo_character_of(table: Table, word: Codeword) -> Told
+pub fn monterculo_character_of(table: Table, word: Codeword) -> Told
     ensures { result ≡ told (character_says table word) }
 {
     let answer = stopper::character_of::character_of(table, word);
     read(answer)
 }
 
-#[unsafe(no_mangle)]
-pub extern "C" fn monterculo_pack(table: Table, text: &[u8], buf: &mut [u8]) -> Rolled
+pub fn monterculo_pack(table: Table, text: &[u8], buf: &mut [u8]) -> Rolled
     ensures told { result.answer ≡ told (pack_says table text.now buf.old then accepted 0) }
     ensures roll { result.roll ≡ pack_roll table text.now buf.old }
     ensures buf { buf.new ≡ pack_leaves table text.now buf.old }
@@ -84,22 +79,14 @@ pub extern "C" fn monterculo_pack(table: Table, text: &[u8], buf: &mut [u8]) -> 
     }
 }
 
-#[unsafe(no_mangle)]
-pub extern "C" fn monterculo_check(roll: Roll, buf: &[u8]) -> Told
+pub fn monterculo_check(roll: Roll, buf: &[u8]) -> Told
     ensures { result ≡ told (check_says roll buf.now then accepted 0) }
 {
     let answer = roll::check::check(roll, buf);
     done(answer, 0)
 }
 
-#[unsafe(no_mangle)]
-pub extern "C" fn monterculo_unpack(
-    roll: Roll,
-    buf: &[u8],
-    start: usize,
-    end: usize,
-    out: &mut [u8],
-) -> Told
+pub fn monterculo_unpack(roll: Roll, buf: &[u8], start: usize, end: usize, out: &mut [u8]) -> Told
     ensures told { result ≡ told (unpack_says roll buf.now start end out.old then accepted 0) }
     ensures out { out.new ≡ unpack_leaves roll buf.now start end out.old }
 {
@@ -107,8 +94,7 @@ pub extern "C" fn monterculo_unpack(
     done(answer, 0)
 }
 
-#[unsafe(no_mangle)]
-pub extern "C" fn monterculo_make_directory(roll: Roll, buf: &[u8], dir: &mut [u32]) -> Told
+pub fn monterculo_make_directory(roll: Roll, buf: &[u8], dir: &mut [u32]) -> Told
     ensures told { result ≡ told (make_says roll buf.now dir.old then accepted 0) }
     ensures dir { dir.new ≡ make_leaves roll buf.now dir.old }
 {
@@ -117,8 +103,7 @@ pub extern "C" fn monterculo_make_directory(roll: Roll, buf: &[u8], dir: &mut [u
 }
 
 // Its value is the character.
-#[unsafe(no_mangle)]
-pub extern "C" fn monterculo_read_one(roll: Roll, buf: &[u8], dir: &[u32], place: usize) -> Told
+pub fn monterculo_read_one(roll: Roll, buf: &[u8], dir: &[u32], place: usize) -> Told
     ensures { result ≡ told (read_says roll buf.now dir.now place) }
 {
     let answer = roll::read_one::read_one(roll, buf, dir, place);
@@ -126,13 +111,7 @@ pub extern "C" fn monterculo_read_one(roll: Roll, buf: &[u8], dir: &[u32], place
 }
 
 // Its value is the total.
-#[unsafe(no_mangle)]
-pub extern "C" fn monterculo_search(
-    roll: Roll,
-    buf: &[u8],
-    pattern: &[u8],
-    slice: &mut [u32],
-) -> Told
+pub fn monterculo_search(roll: Roll, buf: &[u8], pattern: &[u8], slice: &mut [u32]) -> Told
     ensures told { result ≡ told (search_says roll buf.now pattern.now) }
     ensures slice { slice.new ≡ search_leaves roll buf.now pattern.now slice.old }
 {
@@ -141,13 +120,7 @@ pub extern "C" fn monterculo_search(
 }
 
 // Its value is the total. What it answers and writes is what `monterculo_search` does.
-#[unsafe(no_mangle)]
-pub extern "C" fn monterculo_search_jumping(
-    roll: Roll,
-    buf: &[u8],
-    pattern: &[u8],
-    slice: &mut [u32],
-) -> Told
+pub fn monterculo_search_jumping(roll: Roll, buf: &[u8], pattern: &[u8], slice: &mut [u32]) -> Told
     ensures told { result ≡ told (search_says roll buf.now pattern.now) }
     ensures slice { slice.new ≡ search_leaves roll buf.now pattern.now slice.old }
 {
@@ -156,8 +129,7 @@ pub extern "C" fn monterculo_search_jumping(
 }
 
 // A refused edit answers the roll that came in.
-#[unsafe(no_mangle)]
-pub extern "C" fn monterculo_edit(
+pub fn monterculo_edit(
     roll: Roll,
     buf: &mut [u8],
     dir: &mut [u32],
@@ -180,8 +152,7 @@ pub extern "C" fn monterculo_edit(
 }
 
 // Its value is the bytes written.
-#[unsafe(no_mangle)]
-pub extern "C" fn monterculo_write_frames(roll: Roll, buf: &[u8], out: &mut [u8]) -> Told
+pub fn monterculo_write_frames(roll: Roll, buf: &[u8], out: &mut [u8]) -> Told
     ensures told { result ≡ told (write_says roll buf.now out.old) }
     ensures out { out.new ≡ write_leaves roll buf.now out.old }
 {
@@ -190,8 +161,7 @@ pub extern "C" fn monterculo_write_frames(roll: Roll, buf: &[u8], out: &mut [u8]
 }
 
 // A refused text answers a record that is all 0.
-#[unsafe(no_mangle)]
-pub extern "C" fn monterculo_read_frames(text: &[u8], buf: &mut [u8]) -> Rolled
+pub fn monterculo_read_frames(text: &[u8], buf: &mut [u8]) -> Rolled
     ensures told { result.answer ≡ told (frames_says text.now buf.old then accepted 0) }
     ensures roll { result.roll ≡ frames_roll text.now buf.old }
     ensures buf { buf.new ≡ frames_leaves text.now buf.old }
@@ -206,8 +176,7 @@ pub extern "C" fn monterculo_read_frames(text: &[u8], buf: &mut [u8]) -> Rolled
 }
 
 // A refused line answers a record that is all 0.
-#[unsafe(no_mangle)]
-pub extern "C" fn monterculo_read_first(line: &[u8]) -> Rolled
+pub fn monterculo_read_first(line: &[u8]) -> Rolled
     ensures told { result.answer ≡ told (first_says line.now then accepted 0) }
     ensures roll { result.roll ≡ first_roll line.now }
 {
@@ -221,8 +190,7 @@ pub extern "C" fn monterculo_read_first(line: &[u8]) -> Rolled
 }
 
 // Its value is the bytes written.
-#[unsafe(no_mangle)]
-pub extern "C" fn monterculo_read_frame(line: &[u8], out: &mut [u8]) -> Told
+pub fn monterculo_read_frame(line: &[u8], out: &mut [u8]) -> Told
     ensures told { result ≡ told (later_says line.now out.old) }
     ensures out { out.new ≡ later_leaves line.now out.old }
 {
@@ -231,8 +199,7 @@ pub extern "C" fn monterculo_read_frame(line: &[u8], out: &mut [u8]) -> Told
 }
 
 // A refused start answers a searcher of an empty pattern, which is refused in its turn.
-#[unsafe(no_mangle)]
-pub extern "C" fn monterculo_start(roll: Roll, pattern: &[u8]) -> Started
+pub fn monterculo_start(roll: Roll, pattern: &[u8]) -> Started
     ensures told { result.answer ≡ told (start_says roll pattern.now then accepted 0) }
     ensures searcher { result.searcher ≡ start_searcher roll pattern.now }
 {
@@ -246,8 +213,7 @@ pub extern "C" fn monterculo_start(roll: Roll, pattern: &[u8]) -> Started
 }
 
 // Its value is the number of hits. A refused piece answers the searcher that came in, but for a bad codeword met in it.
-#[unsafe(no_mangle)]
-pub extern "C" fn monterculo_feed(searcher: Searcher, piece: &[u8], slice: &mut [u32]) -> Fed
+pub fn monterculo_feed(searcher: Searcher, piece: &[u8], slice: &mut [u32]) -> Fed
     ensures told { result.answer ≡ told (feed_says searcher piece.now slice.old then accepted (length (feed_hits searcher piece.now slice.old))) }
     ensures hits { result.hits ≡ length (feed_hits searcher piece.now slice.old) }
     ensures searcher { result.searcher ≡ feed_searcher searcher piece.now slice.old }
@@ -264,8 +230,7 @@ pub extern "C" fn monterculo_feed(searcher: Searcher, piece: &[u8], slice: &mut 
     }
 }
 
-#[unsafe(no_mangle)]
-pub extern "C" fn monterculo_finish(searcher: Searcher) -> Told
+pub fn monterculo_finish(searcher: Searcher) -> Told
     ensures { result ≡ told (finish_says searcher then accepted 0) }
 {
     let answer = radio::finish::finish(searcher);
