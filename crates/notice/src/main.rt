@@ -1,5 +1,5 @@
 // The program: standard input to the report to standard output, and nothing else.
-// The answer on any input is the answer on its first 16,450 bytes (the law first-bytes of the crate report), so no more are read.
+// The answer on any input is the answer on its first 16,450 bytes (the law first_bytes_lem of the crate report), so no more are read.
 // Where a read or a write fails, it ends with that error.
 #![tactic(auto)]
 

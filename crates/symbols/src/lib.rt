@@ -1,5 +1,5 @@
 // Base symbols of k bits in a lent byte buffer, k being 2 or 4: symbol 0 in the highest bits of byte 0, and so on down.
-// A buffer means the row of all its symbols, `symbolsOf k bytes`; what this crate offers is
+// A buffer means the row of all its symbols, `symbols_of k bytes`; what this crate offers is
 //     symbol::get, put                                one symbol
 //     run::clear, clear_unused, up, down, all_zero    a run of symbols
 //     gather::begin, join_all, add, add_each, finish  symbols stored one after the other

@@ -10,7 +10,6 @@ use casebook::printed::{character, done, end, list, refused, rises, roll_out, ru
 use casebook::rooms::{buffer, text_room};
 use ground::answers::Total;
 use sound::records::Roll;
-use std::alloc::Global;
 use std::io::{self, BufWriter, Read, Write};
 use stopper::code::LONGEST;
 use stopper::codeword_of::Codeword;
@@ -31,13 +30,13 @@ fn main(rt: HostRuntime) -> io::Result<()> {
 fn part(rt: &(impl Input + AllocGlobal), printer: &mut impl Write) -> io::Result<()> {
     let mut input = Vec::new(rt.alloc());
     rt.reader().take(262144).read_to_end(&mut input)?;
-    cases(rt.alloc(), printer, &input)
+    cases(printer, &input)
 }
 
-fn cases(alloc: Global, printer: &mut impl Write, s: &[u8]) -> io::Result<()> {
+fn cases(printer: &mut impl Write, s: &[u8]) -> io::Result<()> {
     let mut at: usize = 0;
     while at < s.len() {
-        let next = one_case(alloc, printer, s, at)?;
+        let next = one_case(printer, s, at)?;
         if next <= at {
             break;
         }
@@ -46,31 +45,31 @@ fn cases(alloc: Global, printer: &mut impl Write, s: &[u8]) -> io::Result<()> {
     Ok(())
 }
 
-fn one_case(alloc: Global, printer: &mut impl Write, s: &[u8], at: usize) -> io::Result<usize> {
+fn one_case(printer: &mut impl Write, s: &[u8], at: usize) -> io::Result<usize> {
     let op = number(s, at);
     let what = op.value;
     match what {
-        1 => check_case(alloc, printer, s, op.next),
-        2 => unpack_case(alloc, printer, s, op.next),
-        3 => pack_case(alloc, printer, s, op.next),
-        4 => directory_case(alloc, printer, s, op.next),
-        5 => read_case(alloc, printer, s, op.next),
-        6 => search_case(alloc, printer, s, op.next),
-        7 => edit_case(alloc, printer, s, op.next),
+        1 => check_case(printer, s, op.next),
+        2 => unpack_case(printer, s, op.next),
+        3 => pack_case(printer, s, op.next),
+        4 => directory_case(printer, s, op.next),
+        5 => read_case(printer, s, op.next),
+        6 => search_case(printer, s, op.next),
+        7 => edit_case(printer, s, op.next),
         8 => report_case(printer, s, op.next),
-        9 => count_case(alloc, printer, s, op.next),
+        9 => count_case(printer, s, op.next),
         10 => choose_case(printer, s, op.next),
         11 => codeword_case(printer, s, op.next),
         12 => character_case(printer, s, op.next),
-        13 => long_edit_case(alloc, printer, s, op.next),
+        13 => long_edit_case(printer, s, op.next),
         _ => Ok(s.len()),
     }
 }
 
 // A roll, a buffer.
-fn check_case(alloc: Global, printer: &mut impl Write, s: &[u8], at: usize) -> io::Result<usize> {
+fn check_case(printer: &mut impl Write, s: &[u8], at: usize) -> io::Result<usize> {
     let given = roll_at(s, at);
-    let mut space = buffer(alloc)?;
+    let mut space = buffer();
     let buf = bytes(s, given.next, &mut space);
     let n = buf.value;
     let roll = given.roll;
@@ -81,14 +80,14 @@ fn check_case(alloc: Global, printer: &mut impl Write, s: &[u8], at: usize) -> i
 }
 
 // A roll, a buffer, start, end, the output as it was.
-fn unpack_case(alloc: Global, printer: &mut impl Write, s: &[u8], at: usize) -> io::Result<usize> {
+fn unpack_case(printer: &mut impl Write, s: &[u8], at: usize) -> io::Result<usize> {
     let given = roll_at(s, at);
-    let mut space = buffer(alloc)?;
+    let mut space = buffer();
     let buf = bytes(s, given.next, &mut space);
     let n = buf.value;
     let start = number(s, buf.next);
     let stop = number(s, start.next);
-    let mut output = text_room(alloc)?;
+    let mut output = text_room();
     let out = bytes(s, stop.next, &mut output);
     let m = out.value;
     let roll = given.roll;
@@ -118,12 +117,12 @@ fn unpacked(
 }
 
 // A table, a text, the buffer as it was.
-fn pack_case(alloc: Global, printer: &mut impl Write, s: &[u8], at: usize) -> io::Result<usize> {
+fn pack_case(printer: &mut impl Write, s: &[u8], at: usize) -> io::Result<usize> {
     let given = table_at(s, at);
-    let mut letters = text_room(alloc)?;
+    let mut letters = text_room();
     let text = bytes(s, given.next, &mut letters);
     let m = text.value;
-    let mut space = buffer(alloc)?;
+    let mut space = buffer();
     let buf = bytes(s, text.next, &mut space);
     let n = buf.value;
     let table = given.table;
@@ -143,14 +142,9 @@ fn packed(printer: &mut impl Write, table: Table, text: &[u8], buf: &mut [u8]) -
 }
 
 // A roll, a buffer, the directory as it was.
-fn directory_case(
-    alloc: Global,
-    printer: &mut impl Write,
-    s: &[u8],
-    at: usize,
-) -> io::Result<usize> {
+fn directory_case(printer: &mut impl Write, s: &[u8], at: usize) -> io::Result<usize> {
     let given = roll_at(s, at);
-    let mut space = buffer(alloc)?;
+    let mut space = buffer();
     let buf = bytes(s, given.next, &mut space);
     let n = buf.value;
     let mut entries = [0u32; GIVEN];
@@ -181,9 +175,9 @@ fn directory(printer: &mut impl Write, roll: Roll, buf: &[u8], dir: &mut [u32]) 
 }
 
 // A roll, a buffer, a directory, a place.
-fn read_case(alloc: Global, printer: &mut impl Write, s: &[u8], at: usize) -> io::Result<usize> {
+fn read_case(printer: &mut impl Write, s: &[u8], at: usize) -> io::Result<usize> {
     let given = roll_at(s, at);
-    let mut space = buffer(alloc)?;
+    let mut space = buffer();
     let buf = bytes(s, given.next, &mut space);
     let n = buf.value;
     let mut entries = [0u32; GIVEN];
@@ -208,9 +202,9 @@ fn read(
 }
 
 // A roll, a buffer, a pattern, the hit list as it was: both searches.
-fn search_case(alloc: Global, printer: &mut impl Write, s: &[u8], at: usize) -> io::Result<usize> {
+fn search_case(printer: &mut impl Write, s: &[u8], at: usize) -> io::Result<usize> {
     let given = roll_at(s, at);
-    let mut space = buffer(alloc)?;
+    let mut space = buffer();
     let buf = bytes(s, given.next, &mut space);
     let n = buf.value;
     let mut letters = [0u8; 128];
@@ -265,9 +259,9 @@ fn total(printer: &mut impl Write, answer: Total) -> io::Result<()> {
 }
 
 // A roll, a buffer, a directory, start, end, a text.
-fn edit_case(alloc: Global, printer: &mut impl Write, s: &[u8], at: usize) -> io::Result<usize> {
+fn edit_case(printer: &mut impl Write, s: &[u8], at: usize) -> io::Result<usize> {
     let given = roll_at(s, at);
-    let mut space = buffer(alloc)?;
+    let mut space = buffer();
     let buf = bytes(s, given.next, &mut space);
     let n = buf.value;
     let mut entries = [0u32; GIVEN];
@@ -312,14 +306,9 @@ fn edited(
 }
 
 // A roll, a buffer, start, end, a text: a directory is made, the character at the start is read, and the edit is made.
-fn long_edit_case(
-    alloc: Global,
-    printer: &mut impl Write,
-    s: &[u8],
-    at: usize,
-) -> io::Result<usize> {
+fn long_edit_case(printer: &mut impl Write, s: &[u8], at: usize) -> io::Result<usize> {
     let given = roll_at(s, at);
-    let mut space = buffer(alloc)?;
+    let mut space = buffer();
     let buf = bytes(s, given.next, &mut space);
     let n = buf.value;
     let start = number(s, buf.next);
@@ -360,8 +349,8 @@ fn reported(printer: &mut impl Write, input: &[u8]) -> io::Result<()> {
 }
 
 // A text, the counts as they were.
-fn count_case(alloc: Global, printer: &mut impl Write, s: &[u8], at: usize) -> io::Result<usize> {
-    let mut letters = text_room(alloc)?;
+fn count_case(printer: &mut impl Write, s: &[u8], at: usize) -> io::Result<usize> {
+    let mut letters = text_room();
     let text = bytes(s, at, &mut letters);
     let n = text.value;
     let mut row = [0u32; 300];

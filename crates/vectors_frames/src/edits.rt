@@ -4,7 +4,6 @@ ghost use Rattle.std.specs.Prelude.{◌≤◌, length};
 use crate::outcomes::{first_read, frame_read, frames_read};
 use casebook::given::{Value, bytes, number};
 use casebook::rooms::{buffer, text_room};
-use std::alloc::Global;
 use std::io::{self, Write};
 
 // The bytes of a text from one place up to another, as many as there are and as there is room for, laid into a row from `at` on; the place after
@@ -45,14 +44,8 @@ fn edited(s: &[u8], at: usize, text: &[u8], row: &mut [u8]) -> Value
 }
 
 // Read by one of them, what is lent as it was.
-fn read(
-    alloc: Global,
-    printer: &mut impl Write,
-    what: usize,
-    text: &[u8],
-    lent: &[u8],
-) -> io::Result<()> {
-    let mut space = buffer(alloc)?;
+fn read(printer: &mut impl Write, what: usize, text: &[u8], lent: &[u8]) -> io::Result<()> {
+    let mut space = buffer();
     let n = lay(&mut space, 0, lent, 0, lent.len());
     match what {
         2 => frames_read(printer, text, &mut space[..n]),
@@ -62,7 +55,6 @@ fn read(
 }
 
 fn one_edit(
-    alloc: Global,
     printer: &mut impl Write,
     s: &[u8],
     at: usize,
@@ -70,16 +62,15 @@ fn one_edit(
     text: &[u8],
     lent: &[u8],
 ) -> io::Result<usize> {
-    let mut letters = text_room(alloc)?;
+    let mut letters = text_room();
     let after = edited(s, at, text, &mut letters);
     let n = after.value;
-    read(alloc, printer, what, &letters[..n], lent)?;
+    read(printer, what, &letters[..n], lent)?;
     Ok(after.next)
 }
 
 // The text itself, how many edits, and each.
 pub fn all_edits(
-    alloc: Global,
     printer: &mut impl Write,
     s: &[u8],
     at: usize,
@@ -87,12 +78,12 @@ pub fn all_edits(
     text: &[u8],
     lent: &[u8],
 ) -> io::Result<usize> {
-    read(alloc, printer, what, text, lent)?;
+    read(printer, what, text, lent)?;
     let count = number(s, at);
     let mut left = count.value;
     let mut next = count.next;
     while 0 < left {
-        next = one_edit(alloc, printer, s, next, what, text, lent)?;
+        next = one_edit(printer, s, next, what, text, lent)?;
         left -= 1;
     }
     Ok(next)

@@ -14,7 +14,6 @@ use casebook::given::{bytes, number, roll_at};
 use casebook::rooms::{buffer, text_room};
 use edits::all_edits;
 use outcomes::written;
-use std::alloc::Global;
 use std::io::{self, BufWriter, Read, Write};
 
 fn main(rt: HostRuntime) -> io::Result<()> {
@@ -27,13 +26,13 @@ fn main(rt: HostRuntime) -> io::Result<()> {
 fn part(rt: &(impl Input + AllocGlobal), printer: &mut impl Write) -> io::Result<()> {
     let mut input = Vec::new(rt.alloc());
     rt.reader().take(262144).read_to_end(&mut input)?;
-    cases(rt.alloc(), printer, &input)
+    cases(printer, &input)
 }
 
-fn cases(alloc: Global, printer: &mut impl Write, s: &[u8]) -> io::Result<()> {
+fn cases(printer: &mut impl Write, s: &[u8]) -> io::Result<()> {
     let mut at: usize = 0;
     while at < s.len() {
-        let next = one_case(alloc, printer, s, at)?;
+        let next = one_case(printer, s, at)?;
         if next <= at {
             break;
         }
@@ -42,26 +41,26 @@ fn cases(alloc: Global, printer: &mut impl Write, s: &[u8]) -> io::Result<()> {
     Ok(())
 }
 
-fn one_case(alloc: Global, printer: &mut impl Write, s: &[u8], at: usize) -> io::Result<usize> {
+fn one_case(printer: &mut impl Write, s: &[u8], at: usize) -> io::Result<usize> {
     let kind = number(s, at);
     let what = kind.value;
     match what {
-        1 => write_case(alloc, printer, s, kind.next),
-        2 | 3 | 4 => read_case(alloc, printer, s, kind.next, what),
+        1 => write_case(printer, s, kind.next),
+        2 | 3 | 4 => read_case(printer, s, kind.next, what),
         _ => Ok(s.len()),
     }
 }
 
 // A roll, its buffer, the output as it was, a buffer as it was.
-fn write_case(alloc: Global, printer: &mut impl Write, s: &[u8], at: usize) -> io::Result<usize> {
+fn write_case(printer: &mut impl Write, s: &[u8], at: usize) -> io::Result<usize> {
     let given = roll_at(s, at);
-    let mut space = buffer(alloc)?;
+    let mut space = buffer();
     let buf = bytes(s, given.next, &mut space);
     let n = buf.value;
-    let mut output = text_room(alloc)?;
+    let mut output = text_room();
     let out = bytes(s, buf.next, &mut output);
     let m = out.value;
-    let mut other = buffer(alloc)?;
+    let mut other = buffer();
     let lent = bytes(s, out.next, &mut other);
     let l = lent.value;
     let roll = given.roll;
@@ -76,26 +75,12 @@ fn write_case(alloc: Global, printer: &mut impl Write, s: &[u8], at: usize) -> i
 }
 
 // What is lent as it was, a text, edits.
-fn read_case(
-    alloc: Global,
-    printer: &mut impl Write,
-    s: &[u8],
-    at: usize,
-    what: usize,
-) -> io::Result<usize> {
-    let mut space = buffer(alloc)?;
+fn read_case(printer: &mut impl Write, s: &[u8], at: usize, what: usize) -> io::Result<usize> {
+    let mut space = buffer();
     let lent = bytes(s, at, &mut space);
     let n = lent.value;
-    let mut letters = text_room(alloc)?;
+    let mut letters = text_room();
     let text = bytes(s, lent.next, &mut letters);
     let m = text.value;
-    all_edits(
-        alloc,
-        printer,
-        s,
-        text.next,
-        what,
-        &letters[..m],
-        &space[..n],
-    )
+    all_edits(printer, s, text.next, what, &letters[..m], &space[..n])
 }
