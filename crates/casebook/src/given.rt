@@ -1,9 +1,25 @@
 // What a case is given: numbers, rows of bytes, tables, rolls.
-ghost use Rattle.std.specs.Prelude.{◌≤◌, length};
+ghost use Rattle.std.specs.Prelude.{◌≤◌, length, IfOk};
 
 use sound::records::Roll;
+use std::io::{self, Read};
 use stopper::code::even_code;
 use stopper::table::Table;
+
+// What comes, until the room is full or the input ends: how many bytes.
+pub fn read_full(reader: &mut impl Read, room: &mut [u8]) -> io::Result<usize>
+    ensures { IfOk result (λ n. n ≤ length room.new) }
+{
+    let mut n: usize = 0;
+    while n < room.len() {
+        let came = reader.read(&mut room[n..])?;
+        if came == 0 {
+            break;
+        }
+        n += came;
+    }
+    Ok(n)
+}
 
 #[derive(Clone, Copy)]
 pub struct Value {

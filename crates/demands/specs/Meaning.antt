@@ -79,7 +79,7 @@ module _ {r : Roll} {buf : List ℕ} (held : Held r buf) (bytes : Below 256 buf)
       ap₂ (λ (a : List ℕ) (h : ℕ). a ++ drop (bytes_for (width_of r) h) buf) (sound_bytes held bytes) (sound_h held)
       ∙ take-append-drop (bytes_for (width_of r) r.h) buf
 
--- ---- sound: it holds some text, which is the only one (`holds-one`)
+-- ---- sound: it holds some text, which is the only one (`holds_one`)
 
 pub sound_packed : (r : Roll) (buf : List ℕ) → length r.table.places ≡ 256 → Below 256 buf → Sound r buf ↔ ((text : List ℕ) × Holds r buf text)
 sound_packed r buf long bytes = (λ s. (text_of r buf, sound_holds (record { sound = s; places = long }) bytes), λ p. holds_sound p.1)

@@ -3,13 +3,30 @@
 // Where a read or a write fails, it ends with that error.
 #![tactic(auto)]
 
+ghost use Rattle.std.specs.Prelude.{◌≤◌, length, IfOk};
+
 use report::program::report;
 use std::io::{self, Read};
 
 fn main(rt: HostRuntime) -> io::Result<()> {
-    let mut input = Vec::new(rt.alloc());
-    rt.reader().take(16450).read_to_end(&mut input)?;
-    answer(&rt, &input)
+    let mut input = [0u8; 16450];
+    let n = read_full(&mut rt.reader(), &mut input)?;
+    answer(&rt, &input[..n])
+}
+
+// What comes, until the room is full or the input ends: how many bytes.
+fn read_full(reader: &mut impl Read, room: &mut [u8]) -> io::Result<usize>
+    ensures { IfOk result (λ n. n ≤ length room.new) }
+{
+    let mut n: usize = 0;
+    while n < room.len() {
+        let came = reader.read(&mut room[n..])?;
+        if came == 0 {
+            break;
+        }
+        n += came;
+    }
+    Ok(n)
 }
 
 fn answer(rt: &impl Print, input: &[u8]) -> io::Result<()> {

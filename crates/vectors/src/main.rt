@@ -5,12 +5,12 @@
 
 #![tactic(auto)]
 
-use casebook::given::{bytes, number, numbers, roll_at, table_at};
+use casebook::given::{bytes, number, numbers, read_full, roll_at, table_at};
 use casebook::printed::{character, done, end, list, refused, rises, roll_out, runs, table_out};
 use casebook::rooms::{buffer, text_room};
 use ground::answers::Total;
 use sound::records::Roll;
-use std::io::{self, BufWriter, Read, Write};
+use std::io::{self, Write};
 use stopper::code::LONGEST;
 use stopper::codeword_of::Codeword;
 use stopper::table::Table;
@@ -19,18 +19,17 @@ use stopper::table::Table;
 const GIVEN: usize = 2100;
 
 fn main(rt: HostRuntime) -> io::Result<()> {
-    let mut printer = BufWriter::new(rt.alloc(), io::writer(&rt))?;
+    let mut printer = io::writer(&rt);
     part(&rt, &mut printer)?;
     part(&rt, &mut printer)?;
     part(&rt, &mut printer)?;
-    part(&rt, &mut printer)?;
-    printer.flush()
+    part(&rt, &mut printer)
 }
 
-fn part(rt: &(impl Input + AllocGlobal), printer: &mut impl Write) -> io::Result<()> {
-    let mut input = Vec::new(rt.alloc());
-    rt.reader().take(262144).read_to_end(&mut input)?;
-    cases(printer, &input)
+fn part(rt: &impl Input, printer: &mut impl Write) -> io::Result<()> {
+    let mut input = [0u8; 262144];
+    let n = read_full(&mut rt.reader(), &mut input)?;
+    cases(printer, &input[..n])
 }
 
 fn cases(printer: &mut impl Write, s: &[u8]) -> io::Result<()> {

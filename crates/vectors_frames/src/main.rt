@@ -10,23 +10,22 @@
 mod edits;
 mod outcomes;
 
-use casebook::given::{bytes, number, roll_at};
+use casebook::given::{bytes, number, read_full, roll_at};
 use casebook::rooms::{buffer, text_room};
 use edits::all_edits;
 use outcomes::written;
-use std::io::{self, BufWriter, Read, Write};
+use std::io::{self, Write};
 
 fn main(rt: HostRuntime) -> io::Result<()> {
-    let mut printer = BufWriter::new(rt.alloc(), io::writer(&rt))?;
+    let mut printer = io::writer(&rt);
     part(&rt, &mut printer)?;
-    part(&rt, &mut printer)?;
-    printer.flush()
+    part(&rt, &mut printer)
 }
 
-fn part(rt: &(impl Input + AllocGlobal), printer: &mut impl Write) -> io::Result<()> {
-    let mut input = Vec::new(rt.alloc());
-    rt.reader().take(262144).read_to_end(&mut input)?;
-    cases(printer, &input)
+fn part(rt: &impl Input, printer: &mut impl Write) -> io::Result<()> {
+    let mut input = [0u8; 262144];
+    let n = read_full(&mut rt.reader(), &mut input)?;
+    cases(printer, &input[..n])
 }
 
 fn cases(printer: &mut impl Write, s: &[u8]) -> io::Result<()> {

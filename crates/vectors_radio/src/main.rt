@@ -9,20 +9,18 @@
 mod pieces;
 mod searchers;
 
-use casebook::given::{bytes, number, roll_at};
+use casebook::given::{bytes, number, read_full, roll_at};
 use casebook::printed::{done, end};
 use pieces::all_pieces;
 use radio::records::Searcher;
 use searchers::searcher_at;
 use sound::records::Roll;
-use std::io::{self, BufWriter, Read, Write};
+use std::io::{self, Write};
 
 fn main(rt: HostRuntime) -> io::Result<()> {
-    let mut input = Vec::new(rt.alloc());
-    rt.reader().take(262144).read_to_end(&mut input)?;
-    let mut printer = BufWriter::new(rt.alloc(), io::writer(&rt))?;
-    cases(&mut printer, &input)?;
-    printer.flush()
+    let mut input = [0u8; 262144];
+    let n = read_full(&mut rt.reader(), &mut input)?;
+    cases(&mut io::writer(&rt), &input[..n])
 }
 
 fn cases(printer: &mut impl Write, s: &[u8]) -> io::Result<()> {

@@ -55,7 +55,7 @@ module _ (c : Code) (g : T (good_code c)) where
   unfolding stoppers
   code_good = record { low = λ _. code_stoppers.0; high = λ _. code_stoppers.1 }
 
-  -- there are s · c ^ i codewords of i + 1 symbols, c being 2 ^ k - s (their ranks: `length-iff`, `rank-within`)
+  -- there are s · c ^ i codewords of i + 1 symbols, c being 2 ^ k - s (their ranks: `length_iff`, `rank_within`)
   pub codewords_of_length : (i : ℕ) → shorter (base c) (stoppers c) (suc i) ≡ shorter (base c) (stoppers c) i + (base c - c.s) ^ i * c.s
   unfolding shorter stoppers
   codewords_of_length i = rw (opens_const (base c) c.s i)

@@ -4,7 +4,7 @@
 -- and `m - s i` its continuer count. Places count from 0. A symbol below `s i` at place i is a stopper, any other below m a continuer.
 use Rattle.std.specs.Prelude.{Bool, false, cond, ◌&&◌, List, [], ◌∷◌, ℕ, zero, suc, ◌+◌, ◌-◌, ◌*◌, ◌/◌, ◌%◌, ◌≤◌, ◌<◌, ltb, leb}
 
--- every place has a stopper and a continuer: what a good code (`goodCode`) gives, and all that the laws of the code ask
+-- every place has a stopper and a continuer: what a good code (`good_code`) gives, and all that the laws of the code ask
 pub record Good (m : ℕ) (s : ℕ → ℕ) : Type 0 where
   pub low : (i : ℕ) → 0 < s i
   pub high : (i : ℕ) → s i < m
