@@ -42,7 +42,7 @@ def files_of(crate, path):
     return [p for p in (base / "specs" / (path + ".antt"), base / "proofs" / (path + ".antt")) if p.exists()]
 
 
-tree = [p for top in ("crates", "include", "rust", "tools", "examples", ".ci") for p in (ROOT / top).rglob("*") if p.is_file() and "target" not in p.parts]
+tree = [p for top in ("crates", "include", "rust", "tools", "examples", ".ci") for p in (ROOT / top).rglob("*") if p.is_file() and not {"target", "out"} & set(p.parts)]
 words = {"crates.txt"}
 for p in tree:
     words.update(p.relative_to(ROOT).parts)
