@@ -1,8 +1,8 @@
-// What every crate stands on: the limit, the answers, and (in specs/) the refusals in their order and rows of numbers.
+// What every crate stands on: the limit, the refusals, and (in specs/) their order and rows of numbers.
 
 #![tactic(auto)]
 
-pub mod answers;
+pub mod refusal;
 
 ghost use Rattle.std.specs.Prelude.{◌≡◌};
 ghost use Rattle.ground.specs.Paper.Limit.{limit};

@@ -8,77 +8,53 @@ use crate::code::{Code, LONGEST, base_of};
 use crate::codeword_of::Codeword;
 use crate::reading::{Step, opening, read_symbol};
 use crate::table::{Table, good_table};
-use ground::answers::Answer;
-
-// The rank of a row of symbols that is one codeword of a rank below sigma.
-#[derive(Clone, Copy)]
-pub enum Ranked {
-    At(u32),
-    Nothing,
-}
-
-fn wide(x: u8) -> u32
-    ensures { result ≡ x }
-{
-    x as u32
-}
+use ground::refusal::Refusal;
 
 // The rank of a codeword that ended after `read` symbols, if these are all.
-fn if_last(rank: u32, read: usize, length: usize) -> Ranked
+fn if_last(rank: u32, read: usize, length: usize) -> Option<u32>
     ensures { result ≡ if_last rank read length }
 {
-    if read < length {
-        return Ranked::Nothing;
-    }
-    Ranked::At(rank)
+    if read < length { None } else { Some(rank) }
 }
 
-pub fn rank_of_word(code: Code, sigma: u32, length: usize, symbols: [u8; LONGEST]) -> Ranked
+// The rank of a row of symbols, if it is one codeword of a rank below sigma.
+fn rank_of_word(code: Code, sigma: u32, length: usize, symbols: [u8; LONGEST]) -> Option<u32>
     requires { T (good_code code) × (sigma ≤ 256) × (length ≤ longest) }
     ensures { result ≡ ranked_as code sigma (take length symbols) }
 {
     let m = base_of(code);
     let mut r = opening();
-    let mut i: usize = 0;
-    while i < length {
+    for i in 0..length {
         let y = symbols[i];
-        if m <= wide(y) {
-            return Ranked::Nothing;
+        if m <= u32::from(y) {
+            return None;
         }
-        i += 1;
-        let next = read_symbol(code, sigma, r, y);
-        match next {
+        match read_symbol(code, sigma, r, y) {
             Step::Rank(rank) => {
-                return if_last(rank, i, length);
+                return if_last(rank, i + 1, length);
             }
             Step::Bad => {
-                return Ranked::Nothing;
+                return None;
             }
             Step::Open(on) => {
                 r = on;
             }
         }
     }
-    Ranked::Nothing
+    None
 }
 
-pub fn character_of(table: Table, word: Codeword) -> Answer
+pub fn character_of(table: Table, word: Codeword) -> Result<u8, Refusal>
     ensures { Decoding table word result }
 {
     if !good_table(table) {
-        return Answer::Refused(1, 0);
+        return Err(Refusal::BadTable);
     }
-    let length = word.length;
-    if LONGEST < length {
-        return Answer::Refused(6, 0);
+    if LONGEST < word.length {
+        return Err(Refusal::BadCodeword(0));
     }
-    let code = table.code;
-    let sigma = table.sigma as u32;
-    let places = table.places;
-    let symbols = word.symbols;
-    let found = rank_of_word(code, sigma, length, symbols);
-    match found {
-        Ranked::At(rank) => Answer::Read(places[rank as usize]),
-        Ranked::Nothing => Answer::Refused(6, 0),
+    match rank_of_word(table.code, table.sigma as u32, word.length, word.symbols) {
+        Some(rank) => Ok(table.places[rank as usize]),
+        None => Err(Refusal::BadCodeword(0)),
     }
 }

@@ -1,12 +1,10 @@
 // The codeword of a character.
-ghost use Rattle.std.specs.Prelude.{◌≡◌};
 ghost use Rattle.stopper.specs.Paper.Operations.{Coding};
-ghost use Rattle.stopper.specs.Helpers.Answers.{refused_coded};
 
 use crate::code::LONGEST;
 use crate::table::{Table, good_table, rank_of};
 use crate::word::spell_word;
-use ground::answers::Done;
+use ground::refusal::Refusal;
 
 // Symbols, one to a byte, 0 past the length.
 #[repr(C)]
@@ -16,40 +14,18 @@ pub struct Codeword {
     pub symbols: [u8; LONGEST],
 }
 
-#[derive(Clone, Copy)]
-pub struct Coded {
-    pub answer: Done,
-    pub word: Codeword,
-}
-
-fn refused(number: u8) -> Coded
-    ensures { result ≡ refused_coded number }
-{
-    Coded {
-        answer: Done::Refused(number, 0),
-        word: Codeword {
-            length: 0,
-            symbols: [0; LONGEST],
-        },
-    }
-}
-
-pub fn codeword_of(table: Table, character: u8) -> Coded
+pub fn codeword_of(table: Table, character: u8) -> Result<Codeword, Refusal>
     ensures { Coding table character result }
 {
     if !good_table(table) {
-        return refused(1);
+        return Err(Refusal::BadTable);
     }
-    let code = table.code;
-    let sigma = table.sigma as usize;
+    let sigma = usize::from(table.sigma);
     let rank = rank_of(table, character);
     if sigma <= rank {
-        return refused(3);
+        return Err(Refusal::NotInTable(0));
     }
     let mut symbols = [0u8; LONGEST];
-    let length = spell_word(code, rank as u32, &mut symbols);
-    Coded {
-        answer: Done::Yes,
-        word: Codeword { length, symbols },
-    }
+    let length = spell_word(table.code, rank as u32, &mut symbols);
+    Ok(Codeword { length, symbols })
 }

@@ -1,33 +1,73 @@
 -- An answer is what it says: two that say the same are equal.
-use Rattle.std.specs.Prelude.{◌≡◌, refl, ℕ}
-use Rattle.std.proofs.Common.{sym, ap, ◌∙◌, arith}
-use Rattle.ground.specs.Paper.Refusals.{Outcome}
-use Rattle.ground.specs.Paper.Answers.{done_says, answer_says, total_says}
-use Rattle.ground.specs.declared.answers.Done.{Done}
-use Rattle.ground.specs.declared.answers.Done.TheVariants.{Yes, Refused}
-use Rattle.ground.specs.declared.answers.Answer.{Answer}
-use Rattle.ground.specs.declared.answers.Answer.TheVariants.{Read, Refused as answer_refused}
-use Rattle.ground.specs.declared.answers.Total.{Total}
-use Rattle.ground.specs.declared.answers.Total.TheVariants.{Of, Refused as total_refused}
+use Rattle.std.specs.Prelude.{◌≡◌, refl, cond, eqb, ℕ, Result, Ok, Err}
+use Rattle.std.proofs.Common.{sym, ap, ap₂, ◌∙◌, inl, inr, arith}
+use Rattle.ground.specs.Paper.Refusals.{Outcome, accepted, refused, ◌then◌}
+use Rattle.ground.specs.Laws.Refusals.{Accepted, accepted_parts, refused_parts}
+use Rattle.ground.specs.Paper.Answers.{number_of, value_of, outcome_of}
+use Rattle.ground.specs.declared.refusal.Refusal.{Refusal}
+use Rattle.ground.specs.declared.refusal.Refusal.TheVariants.{BadTable, BadCounts, NotInTable, NoRoom, BadSymbolCount, BadCodeword, BadCharacterCount, BadUnused, BadEntry, BadRange, BadPattern, ShortDirectory, ShortOutput, ShortHits, BadLine}
 
 -- what the rows say of an answer that is known
-pub says_as : {a b : Done} {o : Outcome (Unit {0})} → done_says a ≡ o → a ≡ b → o ≡ done_says b
-says_as p e = sym p ∙ ap done_says e
+pub says_as : {A : Type 0} {a b : Result A Refusal} {o : Outcome A} → outcome_of a ≡ o → a ≡ b → o ≡ outcome_of b
+says_as p e = sym p ∙ ap outcome_of e
 
-pub done_one : (a b : Done) → done_says a ≡ done_says b → a ≡ b
-done_one Yes Yes e = refl
-done_one Yes (Refused n v) e = let z : ◌≡◌ {A = ℕ} 0 1 = cc in absurd (omega arith)
-done_one (Refused n v) Yes e = let z : ◌≡◌ {A = ℕ} 0 1 = cc in absurd (omega arith)
-done_one (Refused n v) (Refused n' v') e = cc
+-- the refusal of a number and a value
+abbrev refusal_of : ℕ → ℕ → Refusal
+refusal_of n v =
+    cond (eqb n 1) BadTable
+    (cond (eqb n 2) (BadCounts v)
+    (cond (eqb n 3) (NotInTable v)
+    (cond (eqb n 4) (NoRoom v)
+    (cond (eqb n 5) (BadSymbolCount v)
+    (cond (eqb n 6) (BadCodeword v)
+    (cond (eqb n 7) (BadCharacterCount v)
+    (cond (eqb n 8) BadUnused
+    (cond (eqb n 9) (BadEntry v)
+    (cond (eqb n 10) BadRange
+    (cond (eqb n 11) BadPattern
+    (cond (eqb n 12) (ShortDirectory v)
+    (cond (eqb n 13) (ShortOutput v)
+    (cond (eqb n 14) (ShortHits v) (BadLine v))))))))))))))
 
-pub answer_one : (a b : Answer) → answer_says a ≡ answer_says b → a ≡ b
-answer_one (Read x) (Read y) e = cc
-answer_one (Read x) (answer_refused n v) e = let z : ◌≡◌ {A = ℕ} 0 1 = cc in absurd (omega arith)
-answer_one (answer_refused n v) (Read x) e = let z : ◌≡◌ {A = ℕ} 0 1 = cc in absurd (omega arith)
-answer_one (answer_refused n v) (answer_refused n' v') e = cc
+back : (e : Refusal) → refusal_of (number_of e) (value_of e) ≡ e
+back BadTable = refl
+back (BadCounts v) = refl
+back (NotInTable v) = refl
+back (NoRoom v) = refl
+back (BadSymbolCount v) = refl
+back (BadCodeword v) = refl
+back (BadCharacterCount v) = refl
+back BadUnused = refl
+back (BadEntry v) = refl
+back BadRange = refl
+back BadPattern = refl
+back (ShortDirectory v) = refl
+back (ShortOutput v) = refl
+back (ShortHits v) = refl
+back (BadLine v) = refl
 
-pub total_one : (a b : Total) → total_says a ≡ total_says b → a ≡ b
-total_one (Of x) (Of y) e = cc
-total_one (Of x) (total_refused n v) e = let z : ◌≡◌ {A = ℕ} 0 1 = cc in absurd (omega arith)
-total_one (total_refused n v) (Of x) e = let z : ◌≡◌ {A = ℕ} 0 1 = cc in absurd (omega arith)
-total_one (total_refused n v) (total_refused n' v') e = cc
+pub refusal_one : (a b : Refusal) → number_of a ≡ number_of b → value_of a ≡ value_of b → a ≡ b
+refusal_one a b n v = sym (back a) ∙ ap₂ refusal_of n v ∙ back b
+
+pub says_one : {A : Type 0} (a b : Result A Refusal) → outcome_of a ≡ outcome_of b → a ≡ b
+says_one (Ok x) (Ok y) e = cc
+says_one (Ok x) (Err q) e = let z : ◌≡◌ {A = ℕ} 0 1 = cc in absurd (omega arith)
+says_one (Err p) (Ok y) e = let z : ◌≡◌ {A = ℕ} 0 1 = cc in absurd (omega arith)
+says_one (Err p) (Err q) e =
+    let n : number_of p ≡ number_of q = cc in
+    let v : value_of p ≡ value_of q = cc in
+    ap Err (refusal_one p q n v)
+
+-- ---- an answer of an operation that says o first and then answers x
+
+module _ {A : Type 0} {o : Outcome (Unit {0})} {r : Result A Refusal} (x : A) (says : outcome_of r ≡ (o then accepted x)) where
+  pub accepted_ok : Accepted o → r ≡ Ok x
+  accepted_ok a = says_one r (Ok x) (says ∙ ap (λ (p : Outcome (Unit {0})). p then accepted x) a)
+
+  pub ok_accepted : {y : A} → r ≡ Ok y → Accepted o × (y ≡ x)
+  ok_accepted e =
+      let (a, b) = accepted_parts o (says_as {b = Ok _} says e) in
+      (a, let z = sym b in cc)
+
+  pub err_refused : {e : Refusal} → r ≡ Err e → o ≡ refused (number_of e) (value_of e)
+  err_refused {e} p = elim (refused_parts o (says_as {b = Err e} says p)) [ inl q ↦ q | inr q ↦ (let w = q.1 in let z : ◌≡◌ {A = ℕ} 0 1 = cc in absurd (omega arith)) ]

@@ -1,58 +1,56 @@
 -- The promises: a law for a refused call and one for an accepted call.
-use Rattle.std.specs.Prelude.{◌≡◌, refl, Bool, true, false, cond, List, ◌++◌, ℕ, ◌≤◌, ◌<◌, T, drop, get_or}
+use Rattle.std.specs.Prelude.{◌≡◌, refl, Bool, true, false, cond, List, ◌++◌, ℕ, ◌≤◌, ◌<◌, T, drop, get_or, Some, None, Ok, Err}
 use Rattle.std.proofs.Math.Path.{sym}
 use Rattle.std.proofs.Common.{subst, arith, ltb→lt}
 use borrow.Author.Tests.{le-leb}
 use Rattle.std.proofs.Math.Facts.{and_yes}
 use Rattle.ground.specs.Paper.Refusals.{accepted, refused}
+use Rattle.ground.specs.Paper.Answers.{number_of, value_of}
+use Rattle.ground.specs.declared.refusal.Refusal.{Refusal}
 use Rattle.ground.specs.Paper.Rows.{zeros}
 use Rattle.ground.specs.Laws.Refusals.{Accepted}
 use Rattle.ground.specs.Laws.Rows.{padded_over}
-use Rattle.ground.specs.declared.answers.Done.TheVariants.{Yes}
 use Rattle.stopper.specs.Paper.Code.{is_word, rank_of}
 use Rattle.stopper.specs.Paper.Table.{base, stoppers, characters, good_table, rank_in, word_of, length_of, longest}
 use Rattle.stopper.specs.Paper.Operations.{codeword_says, Coding, is_one, word_in, character_says}
-use Rattle.stopper.specs.Helpers.Answers.{refused_coded, ranked_as}
+use Rattle.stopper.specs.Helpers.Answers.{ranked_as}
 use Rattle.stopper.specs.declared.code.Code.{Code}
 use Rattle.stopper.specs.declared.table.Table.{Table}
 use Rattle.stopper.specs.declared.codeword_of.Codeword.{Codeword}
-use Rattle.stopper.specs.declared.codeword_of.Coded.{Coded}
-use Rattle.stopper.specs.declared.character_of.Ranked.TheVariants.{At, Nothing}
 
 -- ---- codeword of a character
 
 module _ {t : Table} {b : ℕ} where
-  pub codeword_refused : {r : Coded} (n : ℕ) → codeword_says t b ≡ refused n 0 → r ≡ refused_coded n → Coding t b r
-  unfolding refused_coded
-  codeword_refused n e p = rw p (record { says = sym e; word = rw e })
+  pub codeword_refused : {e : Refusal} → codeword_says t b ≡ refused (number_of e) (value_of e) → Coding t b (Err e)
+  codeword_refused e = record { says = rw e }
 
   -- the codeword of rank r, laid over zeros
   pub codeword_yes : {r n : ℕ} {l : List ℕ} → Accepted (codeword_says t b) → r ≡ rank_in (characters t) b
       → n ≡ length_of t.code r → l ≡ word_of t.code r ++ drop (length_of t.code r) (zeros longest)
-      → Coding t b (record { answer = Yes; word = record { length = n; symbols = l } })
+      → Coding t b (Ok (record { length = n; symbols = l }))
   unfolding length_of
-  codeword_yes {r} e p q o = record { says = sym e; word = rw (e, q, o, padded_over longest (word_of t.code r), p) }
+  codeword_yes {r} e p q o = record { says = rw (e, q, o, padded_over longest (word_of t.code r), p) }
 
 -- ---- character of a codeword
 
 -- what a rank found, or not found, says
-rank_found : (c : Code) (σ : ℕ) (w : List ℕ) {k : ℕ} → At k ≡ ranked_as c σ w → (is_one c σ w ≡ true) × (k ≡ rank_of (base c) (stoppers c) w)
+rank_found : (c : Code) (σ : ℕ) (w : List ℕ) {k : ℕ} → Some k ≡ ranked_as c σ w → (is_one c σ w ≡ true) × (k ≡ rank_of (base c) (stoppers c) w)
 unfolding ranked_as
 rank_found c σ w {k} e = go (is_one c σ w) e
   where
-    go : (b : Bool) → At k ≡ cond b (At (rank_of (base c) (stoppers c) w)) Nothing → (b ≡ true) × (k ≡ rank_of (base c) (stoppers c) w)
+    go : (b : Bool) → Some k ≡ cond b (Some (rank_of (base c) (stoppers c) w)) None → (b ≡ true) × (k ≡ rank_of (base c) (stoppers c) w)
     go true e = (refl, cc)
     go false e = let n : ◌≡◌ {A = ℕ} 0 1 = cc in absurd (omega arith)
 
-rank_none : (c : Code) (σ : ℕ) (w : List ℕ) → Nothing ≡ ranked_as c σ w → is_one c σ w ≡ false
+rank_none : (c : Code) (σ : ℕ) (w : List ℕ) → None ≡ ranked_as c σ w → is_one c σ w ≡ false
 unfolding ranked_as
 rank_none c σ w e = go (is_one c σ w) e
   where
-    go : (b : Bool) → Nothing ≡ cond b (At (rank_of (base c) (stoppers c) w)) Nothing → b ≡ false
+    go : (b : Bool) → None ≡ cond b (Some (rank_of (base c) (stoppers c) w)) None → b ≡ false
     go true e = let n : ◌≡◌ {A = ℕ} 0 1 = cc in absurd (omega arith)
     go false e = refl
 
-pub rank_below : (c : Code) (σ : ℕ) (w : List ℕ) {k : ℕ} → At k ≡ ranked_as c σ w → k < σ
+pub rank_below : (c : Code) (σ : ℕ) (w : List ℕ) {k : ℕ} → Some k ≡ ranked_as c σ w → k < σ
 unfolding is_one
 rank_below c σ w {k} e =
     let f = rank_found c σ w e in
@@ -60,11 +58,11 @@ rank_below c σ w {k} e =
     omega (arith, f.1)
 
 module _ (t : Table) (w : Codeword) (g : good_table t ≡ true) (h : w.length ≤ longest) where
-  pub character_none : Nothing ≡ ranked_as t.code t.sigma (word_in w) → character_says t w ≡ refused 6 0
+  pub character_none : None ≡ ranked_as t.code t.sigma (word_in w) → character_says t w ≡ refused 6 0
   unfolding character_says
   character_none e = rw (g, le-leb _ _ h, rank_none _ _ _ e)
 
-  pub character_read : {k : ℕ} → At k ≡ ranked_as t.code t.sigma (word_in w) → character_says t w ≡ accepted (get_or t.places k 0)
+  pub character_read : {k : ℕ} → Some k ≡ ranked_as t.code t.sigma (word_in w) → character_says t w ≡ accepted (get_or t.places k 0)
   unfolding character_says
   character_read e =
       let f = rank_found t.code t.sigma (word_in w) e in

@@ -1,15 +1,14 @@
 -- The operations, in the paper's order: the refusals of each, and its promise.
-use Rattle.std.specs.Prelude.{◌≡◌, Bool, not, ◌&&◌, List, [], ◌∷◌, ℕ, ltb, leb, length, take, get_or}
-use Rattle.ground.specs.Paper.Refusals.{Row, refuse, Outcome, judged, kept}
-use Rattle.ground.specs.Paper.Answers.{done_says, answer_says}
+use Rattle.std.specs.Prelude.{◌≡◌, Bool, not, ◌&&◌, List, [], ◌∷◌, ℕ, ltb, leb, length, take, get_or, Result}
+use Rattle.ground.specs.Paper.Refusals.{Row, refuse, Outcome, accepted, judged, ◌then◌, kept}
+use Rattle.ground.specs.Paper.Answers.{outcome_of}
 use Rattle.ground.specs.Paper.Rows.{padded}
-use Rattle.ground.specs.declared.answers.Answer.{Answer}
+use Rattle.ground.specs.declared.refusal.Refusal.{Refusal}
 use Rattle.stopper.specs.Paper.Code.{is_word, rank_of}
 use Rattle.stopper.specs.Paper.Table.{base, stoppers, has, characters, good_table, rank_in, word_of, longest}
 use Rattle.stopper.specs.declared.code.Code.{Code}
 use Rattle.stopper.specs.declared.table.Table.{Table}
 use Rattle.stopper.specs.declared.codeword_of.Codeword.{Codeword}
-use Rattle.stopper.specs.declared.codeword_of.Coded.{Coded}
 
 -- ---- codeword of a character: 1, 3 (value 0)
 
@@ -23,13 +22,12 @@ codeword_for w = record { length = length w; symbols = padded longest w }
 unfoldable pub codeword_says : Table → ℕ → Outcome (Unit {0})
 codeword_says t b = judged (codeword_rows t b) tt
 
--- beside a refusal: no symbols
+-- beside a refusal, where a word is answered with one: no symbols
 abbrev pub codeword_given : Table → ℕ → Codeword
 codeword_given t b = kept (codeword_says t b) (codeword_for []) (codeword_for (word_of t.code (rank_in (characters t) b)))
 
-pub record Coding (t : Table) (b : ℕ) (r : Coded) : Type 0 where
-  pub says : done_says r.answer ≡ codeword_says t b
-  pub word : r.word ≡ codeword_given t b
+pub record Coding (t : Table) (b : ℕ) (r : Result Codeword Refusal) : Type 0 where
+  pub says : outcome_of r ≡ (codeword_says t b then accepted (codeword_given t b))
 
 -- ---- character of a codeword: 1, 6 (value 0)
 
@@ -54,5 +52,5 @@ character_at t w = get_or t.places (rank_of (base t.code) (stoppers t.code) w) 0
 unfoldable pub character_says : Table → Codeword → Outcome ℕ
 character_says t w = judged (character_rows t w) (character_at t (word_in w))
 
-pub record Decoding (t : Table) (w : Codeword) (answer : Answer) : Type 0 where
-  pub says : answer_says answer ≡ character_says t w
+pub record Decoding (t : Table) (w : Codeword) (answer : Result ℕ Refusal) : Type 0 where
+  pub says : outcome_of answer ≡ character_says t w

@@ -7,6 +7,6 @@ pub returns-then-read-length : goal.returns-then-read-length
 unfolding if_last
 returns-then-read-length c = simp (lt-ltb _ _ c.if-read-length.true)
 
-pub returns : goal.returns
+pub returns-else-read-length : goal.returns-else-read-length
 unfolding if_last
-returns c = simp (le-ltb _ _ c.if-read-length.false)
+returns-else-read-length c = simp (le-ltb _ _ c.if-read-length.false)

@@ -1,78 +1,63 @@
 -- `stopper::character_of::rank_of_word` meets its contract: `Seen` of the symbols up to the length.
-use mathlib.Core.Path.{◌≡◌, sym, ◌∙◌}
-use mathlib.Core.List.{List}
-use Prim.Native.Nat.{ℕ, ◌<◌}
-use native.Mathlib.Omega.{arith}
-use borrow.Author.Rules.{rules}
-use lib.ListN.{take, get_or}
+use Rattle.std.proofs.Common.{◌≡◌, sym, ◌∙◌, ℕ, ◌<◌, ◌≤◌, List, length, take, get_or, arith, rules}
 use lib.Seq.{length-take-le, get_or-take}
 use Rattle.stopper.specs.Paper.Table.{longest}
 use Rattle.stopper.specs.Laws.Seen.{seen_none, seen_small, seen_open}
+use Rattle.stopper.specs.declared.code.Code.{Code}
+use Rattle.stopper.specs.declared.reading.Reader.{Reader}
 use Rattle.stopper.proofs.Words.{ended, too_big, is_bad_lem, is_rank}
+use Rattle.stopper.proofs.character_of.rank_of_word.Invariants.{At}
 use Rattle.stopper.proofs.character_of.rank_of_word.Goals as goal
-use Rattle.stopper.proofs.character_of.rank_of_word.Lts as Places
-use Rattle.stopper.proofs.character_of.rank_of_word.Reads as Clauses
-use Rattle.stopper.proofs.character_of.rank_of_word.Tie as tie
 
--- what is known at these places
-abbrev Start : Type 0
-Start = Places.Start tie.the-claims Clauses.Pre Clauses.Post goal.the-invariant-loop-i goal.the-decreases-loop-i
+-- the symbol in hand is one of those up to the length
+module _ {c : Code} {σ n : ℕ} {symbols : List ℕ} {i : ℕ} {r : Reader} (v : At c σ n symbols i r) (h : i < n) where
+  here : get_or (take n symbols) i 0 ≡ get_or symbols i 0
+  here = get_or-take n symbols i 0 h
 
-abbrev In-loop-i : Type 0
-In-loop-i = Places.In-loop tie.the-claims Clauses.Pre Clauses.Post goal.the-invariant-loop-i goal.the-decreases-loop-i
-
--- the symbols up to the length, and the one in hand
-abbrev word : (c : Start) → List ℕ
-word c = take c.args.length c.args.symbols
-
-long : (c : Start) → lib.ListN.length (word c) ≡ c.args.length
-long c =
-    let e : lib.ListN.length c.args.symbols ≡ longest = search rules in
-    length-take-le c.args.length c.args.symbols (omega (arith, c.requires.2))
-
-here : (c : In-loop-i) → get_or (word c.before.before.before.before) c.loop-i.i 0 ≡ get_or c.args.symbols c.loop-i.i 0
-here c = get_or-take c.args.length c.args.symbols c.loop-i.i 0 c.loop-i-test.true
-
-inside : (c : In-loop-i) → c.loop-i.i < lib.ListN.length (word c.before.before.before.before)
-inside c = omega (arith, c.loop-i.invariant.long, c.loop-i-test.true)
+  inside : i < length (take n symbols)
+  inside = omega (arith, v.long, h)
 
 pub loop-i-init : goal.loop-i-init
 loop-i-init c =
+    let all : length c.args.symbols ≡ longest = search rules in
     record {
-      long = long c.before.before;
+      long = length-take-le c.args.length c.args.symbols (omega (arith, c.requires.2, all));
       room = c.requires.2;
-      seen = rw c.opening-r.ensures (seen_none c.args.code c.args.sigma (word c.before.before));
+      seen = rw c.opening-r.ensures (seen_none c.args.code c.args.sigma (take c.args.length c.args.symbols));
     }
 
-pub returns-then-m-wide : goal.returns-then-m-wide
-returns-then-m-wide c =
-    too_big c.args.code c.requires.0 c.args.sigma (word c.before.before.before.before.before.before) c.loop-i.invariant.seen (inside c.before.before) (here c.before.before)
-    (omega (arith, c.wide.ensures, c.base_of-m.ensures, c.if-m-wide.true))
+pub returns-then-m-from : goal.returns-then-m-from
+returns-then-m-from c =
+    let v = c.loop-i.invariant in
+    too_big c.args.code c.requires.0 c.args.sigma _ v.seen (inside v c.loop-i-test.true) (here v c.loop-i-test.true)
+    (omega (arith, c.base_of-m.ensures, c.if-m-from.true))
 
-pub read_symbol-next-requires : goal.read_symbol-next-requires
-read_symbol-next-requires c =
-    (c.requires.0, c.requires.1, seen_small c.args.code c.requires.0 c.args.sigma (word c.before.before.before.before.before.before) c.loop-i.invariant.seen c.requires.1)
+pub read_symbol-requires : goal.read_symbol-requires
+read_symbol-requires c = (c.requires.0, c.requires.1, seen_small c.args.code c.requires.0 c.args.sigma _ c.loop-i.invariant.seen c.requires.1)
 
 pub returns-in-Rank : goal.returns-in-Rank
 returns-in-Rank c =
+    let v = c.loop-i.invariant in
     c.if_last.ensures
-    ∙ is_rank c.args.code c.requires.0 c.args.sigma (word c.before.before.before.before.before.before.before.before.before) c.loop-i.invariant.seen (inside c.before.before.before.before.before) (here c.before.before.before.before.before) (sym c.in-Rank.is ∙ c.read_symbol-next.ensures) _ (sym (long c.before.before.before.before.before.before.before.before.before))
+    ∙ is_rank c.args.code c.requires.0 c.args.sigma _ v.seen (inside v c.loop-i-test.true) (here v c.loop-i-test.true) (sym c.in-Rank.is ∙ c.read_symbol.ensures) _ (sym v.long)
 
 pub returns-in-Bad : goal.returns-in-Bad
 returns-in-Bad c =
-    is_bad_lem c.args.code c.requires.0 c.args.sigma (word c.before.before.before.before.before.before.before.before) c.loop-i.invariant.seen (inside c.before.before.before.before) (here c.before.before.before.before) (sym c.in-Bad.is ∙ c.read_symbol-next.ensures)
+    let v = c.loop-i.invariant in
+    is_bad_lem c.args.code c.requires.0 c.args.sigma _ v.seen (inside v c.loop-i-test.true) (here v c.loop-i-test.true) (sym c.in-Bad.is ∙ c.read_symbol.ensures)
 
 pub loop-i-preserved : goal.loop-i-preserved
 loop-i-preserved c =
+    let v = c.loop-i.invariant in
     record {
-      long = c.loop-i.invariant.long;
-      room = c.loop-i.invariant.room;
-      seen = seen_open c.args.code c.requires.0 c.args.sigma (word c.before.before.before.before.before.before.before.before) c.loop-i.invariant.seen (inside c.before.before.before.before) (here c.before.before.before.before)
-          (omega (arith, c.wide.ensures, c.base_of-m.ensures, c.if-m-wide.false))
-          (sym c.in-Open.is ∙ c.read_symbol-next.ensures);
+      long = v.long;
+      room = v.room;
+      seen = seen_open c.args.code c.requires.0 c.args.sigma _ v.seen (inside v c.loop-i-test.true) (here v c.loop-i-test.true)
+          (omega (arith, c.base_of-m.ensures, c.if-m-from.false))
+          (sym c.in-Open.is ∙ c.read_symbol.ensures);
     }
 
 pub returns : goal.returns
 returns c =
     let v = c.loop-i.invariant in
-    ended c.args.code c.requires.0 c.args.sigma (word c.before.before.before.before) v.seen (omega (arith, v.long, c.loop-i-test.false))
+    ended c.args.code c.requires.0 c.args.sigma _ v.seen (omega (arith, v.long, c.loop-i-test.false))

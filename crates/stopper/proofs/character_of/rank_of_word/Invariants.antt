@@ -1,7 +1,4 @@
-use mathlib.Core.Path.{◌≡◌}
-use mathlib.Core.List.{List}
-use Prim.Native.Nat.{ℕ, ◌-◌, ◌≤◌}
-use lib.ListN.{take}
+use Rattle.std.proofs.Common.{◌≡◌, ℕ, ◌≤◌, List, length, take}
 use Rattle.stopper.specs.Paper.Table.{longest}
 use Rattle.stopper.specs.Laws.Seen.{Seen}
 use Rattle.stopper.specs.declared.code.Code.{Code}
@@ -9,12 +6,9 @@ use Rattle.stopper.specs.declared.reading.Reader.{Reader}
 use Rattle.stopper.proofs.character_of.rank_of_word.Given as goal
 
 pub record At (c : Code) (σ n : ℕ) (symbols : List ℕ) (i : ℕ) (r : Reader) : Type 0 where
-  pub long : lib.ListN.length (take n symbols) ≡ n
+  pub long : length (take n symbols) ≡ n
   pub room : n ≤ longest
   pub seen : Seen c σ (take n symbols) i r
 
 abbrev pub invariant-loop-i : goal.invariant-loop-i
 invariant-loop-i l = At l.code l.sigma l.length l.symbols l.i l.r
-
-abbrev pub decreases-loop-i : goal.decreases-loop-i
-decreases-loop-i l = l.length - l.i
