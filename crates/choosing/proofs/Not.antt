@@ -11,7 +11,7 @@ use lib.ListN.{get_or}
 use Rattle.ground.specs.Laws.Refusals.{accepted_leaves}
 use Rattle.ground.specs.Laws.Rows.{tab_at}
 use Rattle.ground.specs.Laws.Tests.{by_value, true_yes}
-use Rattle.ground.specs.declared.answers.Done.TheVariants.{Yes}
+use Rattle.std.specs.Prelude.{Ok}
 use Rattle.stopper.specs.Paper.Table.{has, length_of, good_code, characters}
 use Rattle.stopper.specs.Laws.Table.{length_place}
 use Rattle.stopper.specs.Laws.Characters.{◌∈◌, has_mem}
@@ -27,7 +27,7 @@ use Rattle.choosing.specs.Laws.Operations.{chosen_width, chosen_table_lem, chose
 use Rattle.choosing.specs.declared.choose.Choice.{Choice}
 
 -- counting that raises: one of the twelve that the text does not hold is counted 0
-pub count_not_raised : {text counts after : List ℕ} {b : ℕ} → Counting text counts Yes after → b ∈ twelve → (b ∈ text → ⊥) → 0 < get_or after b 0 → ⊥
+pub count_not_raised : {text counts after : List ℕ} {b : ℕ} → Counting text counts (Ok tt) after → b ∈ twelve → (b ∈ text → ⊥) → 0 < get_or after b 0 → ⊥
 unfolding counts_of
 count_not_raised {text} {counts} {after} {b} p m n h =
     let e : get_or after b 0 ≡ occurs text b
@@ -46,7 +46,7 @@ module _ (c : Code) (good : T (good_code c)) (f g : ℕ → ℕ) (more : (x : �
       (λ k. omega (arith, mul-le-mul_right (length_of c r) (more x), total_above h (suc r) k))
       (Memᴰ.cases_cons m)
 
-module _ {k : ℕ} {counts : List ℕ} {c : Choice} (p : Choosing k counts c) (y : c.answer ≡ Yes) where
+module _ {k : ℕ} {counts : List ℕ} {c : Choice} (p : Choosing k counts (Ok c)) where
   abbrev count : ℕ → ℕ
   count = counted counts
 
@@ -54,17 +54,17 @@ module _ {k : ℕ} {counts : List ℕ} {c : Choice} (p : Choosing k counts c) (y
   code = chosen k count
 
   code_good : T (good_code code)
-  code_good = chosen_good k count (chosen_width p y)
+  code_good = chosen_good k count (chosen_width p)
 
   -- the answered total, and that of its table for other counts
   total_is : c.total ≡ total_from code count 0 (ranked count)
   unfolding total
-  total_is = chosen_total p y
+  total_is = chosen_total p
 
   total_for_lem : (f : ℕ → ℕ) → total_from c.table.code f 0 (characters c.table) ≡ total_from code f 0 (ranked count)
   unfolding chosen_table
   total_for_lem f =
-      ap (λ (t : Table). total_from t.code f 0 (characters t)) (chosen_table_lem p y) ∙ ap (total_from code f 0) (chosen_row k counts)
+      ap (λ (t : Table). total_from t.code f 0 (characters t)) (chosen_table_lem p) ∙ ap (total_from code f 0) (chosen_row k counts)
 
   -- the total over the counts as they came, where one of the twelve is counted 0: it is more
   pub choose_not_as_came : {b : ℕ} → b ∈ twelve → get_or counts b 0 ≡ 0 → c.total ≡ total_from c.table.code (λ (x : ℕ). get_or counts x 0) 0 (characters c.table) → ⊥

@@ -5,7 +5,7 @@ ghost use Rattle.ground.specs.Paper.Rows.{zeros};
 ghost use Rattle.choosing.specs.Paper.Choosing.{counts_of};
 ghost use Rattle.choosing.specs.Paper.Operations.{Counting};
 
-use ground::answers::Done;
+use ground::refusal::Refusal;
 
 fn clear(counts: &mut [u32])
     ensures { counts.new ≡ zeros (length counts.old) }
@@ -29,17 +29,17 @@ fn tally(text: &[u8], counts: &mut [u32])
     }
 }
 
-pub fn count(text: &[u8], counts: &mut [u32]) -> Done
+pub fn count(text: &[u8], counts: &mut [u32]) -> Result<(), Refusal>
     ensures { Counting text.now counts.old result counts.new }
 {
     if counts.len() != 256 {
-        return Done::Refused(2, counts.len() as u64);
+        return Err(Refusal::BadCounts(counts.len() as u64));
     }
     let most = ground::limit();
     if most < text.len() {
-        return Done::Refused(4, most as u64);
+        return Err(Refusal::NoRoom(most as u64));
     }
     clear(counts);
     tally(text, counts);
-    Done::Yes
+    Ok(())
 }

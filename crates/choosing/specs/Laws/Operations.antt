@@ -1,18 +1,20 @@
 -- The promises: a law for a refused call and one for an accepted call.
-use Rattle.std.specs.Prelude.{◌≡◌, List, ℕ, ◌<◌, T, length}
+use Rattle.std.specs.Prelude.{◌≡◌, refl, List, ℕ, ◌<◌, T, length, Ok, Err}
 use Rattle.std.proofs.Math.Path.{sym}
 use Rattle.std.proofs.Common.{ap, ap₂, ◌∙◌}
 use Rattle.ground.specs.Paper.Refusals.{refused}
 use Rattle.ground.specs.Paper.Rows.{tab, padded}
-use Rattle.ground.specs.Laws.Answers.{says_as}
+use Rattle.ground.specs.Paper.Answers.{number_of, value_of}
+use Rattle.ground.specs.Laws.Answers.{ok_accepted}
 use Rattle.ground.specs.Laws.Refusals.{Accepted, accepted_leaves}
 use Rattle.ground.specs.Laws.Rows.{tab_at}
-use Rattle.ground.specs.declared.answers.Done.TheVariants.{Yes, Refused}
+use Rattle.ground.specs.declared.refusal.Refusal.{Refusal}
 use Rattle.stopper.specs.Paper.Table.{good_width}
 use Rattle.stopper.specs.declared.code.Code.{Code}
+use Rattle.stopper.specs.declared.table.Table.{Table}
 use Rattle.choosing.specs.Paper.Choosing.{counts_of, counted, total, chosen, chosen_table}
-use Rattle.choosing.specs.Paper.Operations.{count_says, Counting, choose_says, Choosing}
-use Rattle.choosing.specs.Helpers.Answers.{count_in, ranking_of, best_of, refused_choice}
+use Rattle.choosing.specs.Paper.Operations.{count_says, Counting, choose_says, choice_of, Choosing}
+use Rattle.choosing.specs.Helpers.Answers.{count_in, ranking_of, best_of}
 use Rattle.choosing.specs.Laws.Choosing.{ranked_ext, chosen_ext, fewest_ext}
 use Rattle.choosing.specs.Laws.Accepting.{chooses_is}
 use Rattle.choosing.specs.declared.choose.Choice.{Choice}
@@ -22,10 +24,10 @@ use Rattle.choosing.specs.declared.ranking.Best.{Best}
 -- ---- count a text
 
 module _ {text counts : List ℕ} where
-  pub count_refused : {n v : ℕ} → count_says text counts ≡ refused n v → Counting text counts (Refused n v) counts
+  pub count_refused : {e : Refusal} → count_says text counts ≡ refused (number_of e) (value_of e) → Counting text counts (Err e) counts
   count_refused e = record { says = sym e; leaves = rw e }
 
-  pub count_yes : {after : List ℕ} → Accepted (count_says text counts) → after ≡ counts_of text → Counting text counts Yes after
+  pub count_yes : {after : List ℕ} → Accepted (count_says text counts) → after ≡ counts_of text → Counting text counts (Ok tt) after
   count_yes e p = record { says = sym e; leaves = rw e p }
 
 -- ---- choose
@@ -46,25 +48,27 @@ module _ (counts : List ℕ) {raised : List ℕ} (e : raised ≡ tab (counted co
       (fewest_ext (count_in raised) (counted counts) same k g)
 
 module _ {k : ℕ} {counts : List ℕ} where
-  pub choose_refused : {r : Choice} (n v : ℕ) → choose_says k counts ≡ refused n v → r ≡ refused_choice k n v → Choosing k counts r
-  unfolding refused_choice
-  choose_refused n v e p = rw p (record { says = sym e; table = rw e; total = rw e })
+  pub choose_refused : {e : Refusal} → choose_says k counts ≡ refused (number_of e) (value_of e) → Choosing k counts (Err e)
+  choose_refused e = record { says = rw e }
 
   pub choose_yes : {ranking : Ranking} {best : Best} → Accepted (choose_says k counts) → ranking ≡ ranking_of (counted counts) → best ≡ best_of k (counted counts)
-      → Choosing k counts (record { answer = Yes; table = record { code = best.code; sigma = ranking.sigma; places = ranking.places }; total = best.total })
+      → Choosing k counts (Ok (record { table = record { code = best.code; sigma = ranking.sigma; places = ranking.places }; total = best.total }))
   unfolding chosen_table
-  choose_yes e p q = rw (p, q) (record { says = sym e; table = rw e; total = rw e })
+  choose_yes e p q = rw (p, q) (record { says = rw e })
 
 -- what an accepted call was lent, and what it answers
-module _ {k : ℕ} {counts : List ℕ} {c : Choice} (p : Choosing k counts c) (y : c.answer ≡ Yes) where
+module _ {k : ℕ} {counts : List ℕ} {c : Choice} (p : Choosing k counts (Ok c)) where
+  answered : Accepted (choose_says k counts) × (c ≡ choice_of k counts)
+  answered = ok_accepted (choice_of k counts) p.says refl
+
   pub chosen_width : T (good_width k)
-  chosen_width = ((chooses_is k counts).1 (says_as p.says y)).0
+  chosen_width = ((chooses_is k counts).1 answered.0).0
 
   pub lent_long : length counts ≡ 256
-  lent_long = ((chooses_is k counts).1 (says_as p.says y)).1
+  lent_long = ((chooses_is k counts).1 answered.0).1
 
   pub chosen_table_lem : c.table ≡ chosen_table k (counted counts)
-  chosen_table_lem = p.table ∙ accepted_leaves (says_as p.says y) _ _
+  chosen_table_lem = ap (λ (x : Choice). x.table) answered.1 ∙ accepted_leaves answered.0 _ _
 
   pub chosen_total : c.total ≡ total (chosen k (counted counts)) (counted counts)
-  chosen_total = p.total ∙ accepted_leaves (says_as p.says y) _ _
+  chosen_total = ap (λ (x : Choice). x.total) answered.1 ∙ accepted_leaves answered.0 _ _

@@ -1,9 +1,9 @@
 -- The operations, in the paper's order: the refusals of each, and its promise.
-use Rattle.std.specs.Prelude.{◌≡◌, not, List, [], ◌∷◌, ℕ, ltb, eqb, length}
+use Rattle.std.specs.Prelude.{◌≡◌, not, List, [], ◌∷◌, ℕ, ltb, eqb, length, Result}
 use Rattle.ground.specs.Paper.Limit.{limit}
-use Rattle.ground.specs.Paper.Refusals.{Row, refuse, Outcome, judged, kept}
-use Rattle.ground.specs.Paper.Answers.{done_says}
-use Rattle.ground.specs.declared.answers.Done.{Done}
+use Rattle.ground.specs.Paper.Refusals.{Row, refuse, Outcome, accepted, judged, ◌then◌, kept}
+use Rattle.ground.specs.Paper.Answers.{outcome_of}
+use Rattle.ground.specs.declared.refusal.Refusal.{Refusal}
 use Rattle.stopper.specs.Paper.Table.{even_code, good_width, table_of}
 use Rattle.stopper.specs.declared.table.Table.{Table}
 use Rattle.choosing.specs.Paper.Choosing.{counts_of, counted, total, chosen, chosen_table}
@@ -24,8 +24,8 @@ count_says text counts = judged (count_rows text counts) tt
 abbrev pub count_leaves : List ℕ → List ℕ → List ℕ
 count_leaves text counts = kept (count_says text counts) counts (counts_of text)
 
-pub record Counting (text counts : List ℕ) (answer : Done) (after : List ℕ) : Type 0 where
-  pub says : done_says answer ≡ count_says text counts
+pub record Counting (text counts : List ℕ) (answer : Result (Unit {0}) Refusal) (after : List ℕ) : Type 0 where
+  pub says : outcome_of answer ≡ count_says text counts
   pub leaves : after ≡ count_leaves text counts
 
 -- ---- choose: 1 (width only), 2
@@ -36,7 +36,7 @@ choose_rows k counts =
     ∷ refuse 2 (length counts) (not (eqb (length counts) 256))
     ∷ []
 
--- beside a refusal: k as given, s 0, σ 0, all places 0; and the total is 0
+-- where a table and a total stand beside a refusal: k as given, s 0, σ 0, all places 0; and the total is 0
 abbrev pub no_table : ℕ → Table
 no_table k = table_of (even_code k 0) []
 
@@ -49,7 +49,8 @@ choose_table k counts = kept (choose_says k counts) (no_table k) (chosen_table k
 abbrev pub choose_total : ℕ → List ℕ → ℕ
 choose_total k counts = kept (choose_says k counts) 0 (total (chosen k (counted counts)) (counted counts))
 
-pub record Choosing (k : ℕ) (counts : List ℕ) (r : Choice) : Type 0 where
-  pub says : done_says r.answer ≡ choose_says k counts
-  pub table : r.table ≡ choose_table k counts
-  pub total : r.total ≡ choose_total k counts
+abbrev pub choice_of : ℕ → List ℕ → Choice
+choice_of k counts = record { table = choose_table k counts; total = choose_total k counts }
+
+pub record Choosing (k : ℕ) (counts : List ℕ) (r : Result Choice Refusal) : Type 0 where
+  pub says : outcome_of r ≡ (choose_says k counts then accepted (choice_of k counts))

@@ -19,11 +19,11 @@ use Rattle.choosing.proofs.choose.choose.Goals as goal
 
 pub returns-then-not-good_width : goal.returns-then-not-good_width
 unfolding choose_says
-returns-then-not-good_width c = choose_refused 1 0 (rw (sym c.good_width.ensures ∙ c.if-not-good_width.true)) c.refused.ensures
+returns-then-not-good_width c = choose_refused (rw (sym c.good_width.ensures ∙ c.if-not-good_width.true))
 
 pub returns-then-counts-ne256 : goal.returns-then-counts-ne256
 unfolding choose_says
-returns-then-counts-ne256 c = choose_refused 2 _ (rw (sym c.good_width.ensures ∙ c.if-not-good_width.false, ne_eqb _ _ c.if-counts-ne256.true)) c.refused-then-counts-ne256.ensures
+returns-then-counts-ne256 c = choose_refused (rw (sym c.good_width.ensures ∙ c.if-not-good_width.false, ne_eqb _ _ c.if-counts-ne256.true))
 
 -- the raised counts
 long : (counts : List ℕ) {raised : List ℕ} → raised ≡ tab (counted counts) 0 256 → length raised ≡ 256
