@@ -1,17 +1,15 @@
 -- What reading asks of a buffer, and what it answers.
-use Rattle.std.specs.Prelude.{List, ℕ, zero, suc, ◌+◌, ◌≤◌, T, length, drop}
+use Rattle.std.specs.Prelude.{◌≡◌, List, ℕ, zero, suc, ◌+◌, ◌≤◌, T, length, drop, Option, Some, None, Result, Ok, Err}
 use Rattle.ground.specs.Helpers.Bound.{limit_bound}
 use Rattle.stopper.specs.Paper.Table.{base, stoppers, good_code}
 use Rattle.stopper.specs.Paper.Reading.{Reading, done, bad}
 use Rattle.stopper.specs.Helpers.First.{First, whole, broken, first_word}
 use Rattle.stopper.specs.declared.code.Code.{Code}
 use Rattle.symbols.specs.Paper.Symbols.{symbols_of}
-use Rattle.reading.specs.declared.codewords.Found.{Found}
-use Rattle.reading.specs.declared.codewords.Found.TheVariants.{Word, Bad}
-use Rattle.reading.specs.declared.codewords.Scan.{Scan}
-use Rattle.reading.specs.declared.codewords.Scan.TheVariants.{Whole, Bad as scan_bad}
-use Rattle.reading.specs.declared.codewords.Passed.{Passed}
-use Rattle.reading.specs.declared.codewords.Passed.TheVariants.{At, Bad as passed_bad}
+use Rattle.ground.specs.declared.refusal.Refusal.{Refusal}
+use Rattle.ground.specs.declared.refusal.Refusal.TheVariants.{BadCodeword}
+use Rattle.reading.specs.declared.codewords.Word.{Word}
+use Rattle.reading.specs.declared.codewords.BadWord.{BadWord}
 
 -- a place up to symbol h of a buffer that holds so many (the limit is at most 2 ^ 24, so h is)
 pub record Reads (c : Code) (σ : ℕ) (buf : List ℕ) (h p : ℕ) : Type 0 where
@@ -22,23 +20,28 @@ pub record Reads (c : Code) (σ : ℕ) (buf : List ℕ) (h p : ℕ) : Type 0 whe
   pub upto : p ≤ h
 
 -- the code does not say why a codeword is bad: it stops once σ is reached, before it can know
-unfoldable pub found_in : ℕ → First → Found
-found_in p (whole rank n) = Word rank (p + n)
-found_in p (broken f) = Bad
+unfoldable pub found_in : ℕ → First → Option Word
+found_in p (whole rank n) = Some (record { rank = rank; next = p + n })
+found_in p (broken f) = None
 
 -- the codeword that starts at symbol p of a row
-unfoldable pub found_at : Code → ℕ → List ℕ → ℕ → Found
+unfoldable pub found_at : Code → ℕ → List ℕ → ℕ → Option Word
 found_at c σ row p = found_in p (first_word (base c) (stoppers c) σ (drop p row))
 
 -- after `count` codewords from symbol p on
-abbrev pub pass_step : (ℕ → Passed) → ℕ → Found → Passed
-pass_step later p (Word rank next) = later next
-pass_step later p Bad = passed_bad p
+abbrev pub pass_step : (ℕ → Result ℕ BadWord) → ℕ → Option Word → Result ℕ BadWord
+pass_step later p (Some word) = later word.next
+pass_step later p None = Err (record { first = p })
 
-unfoldable pub passed_from : Code → ℕ → List ℕ → ℕ → ℕ → Passed
-passed_from c σ row p zero = At p
+unfoldable pub passed_from : Code → ℕ → List ℕ → ℕ → ℕ → Result ℕ BadWord
+passed_from c σ row p zero = Ok p
 passed_from c σ row p (suc count) = pass_step (λ next. passed_from c σ row next count) p (found_at c σ row p)
 
-unfoldable pub scanned : Reading → Scan
-scanned (done rs) = Whole (length rs)
-scanned (bad f p rs) = scan_bad p
+-- how many codewords were read, or where the first bad one begins
+unfoldable pub scanned : Reading → Result ℕ BadWord
+scanned (done rs) = Ok (length rs)
+scanned (bad f p rs) = Err (record { first = p })
+
+-- the refusal that a bad codeword is
+abbrev pub refused_at : BadWord → Refusal → Type 0
+refused_at b e = e ≡ BadCodeword b.first
