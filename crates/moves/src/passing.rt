@@ -8,7 +8,7 @@ ghost use Rattle.moves.specs.Helpers.States.{open_from, Stuck};
 ghost use Rattle.moves.specs.Helpers.Moves.{Rows, Here};
 
 use crate::byte::{bounds_of, byte, index, moved, moved_twice, moves_by_byte, part_of};
-use reading::codewords::Scan;
+use reading::codewords::BadWord;
 use stopper::code::{Code, base_of};
 use symbols::bits::{byte_of, per_byte};
 use symbols::symbol::get;
@@ -133,21 +133,23 @@ fn by_bytes(code: Code, sigma: u32, buf: &[u8], h: usize, whole: usize, way: Way
 }
 
 // What a way says that went as far as it could.
-fn told(k: u8, s: u8, sigma: u32, buf: &[u8], h: usize, way: Way) -> Scan
+fn told(k: u8, s: u8, sigma: u32, buf: &[u8], h: usize, way: Way) -> Result<usize, BadWord>
     requires { (Reads (even_code k s) sigma buf.now h way.at) × (Here (even_code k s) sigma (row_upto (even_code k s) h buf.now) way.at way.x way.n)
         × (way.at < h → Stuck (even_code k s) sigma way.x (drop way.at (row_upto (even_code k s) h buf.now))) }
     ensures { result ≡ scanned (row_reading (even_code k s) sigma (row_upto (even_code k s) h buf.now) 0) }
 {
     if way.at == h {
         if way.x == 0 {
-            return Scan::Whole(way.n);
+            return Ok(way.n);
         }
     }
-    Scan::Bad(opened(k, s, buf, way.at))
+    Err(BadWord {
+        first: opened(k, s, buf, way.at),
+    })
 }
 
 // As read_all, where there are so many symbols.
-fn read_bytes(code: Code, sigma: u32, buf: &[u8], h: usize) -> Scan
+fn read_bytes(code: Code, sigma: u32, buf: &[u8], h: usize) -> Result<usize, BadWord>
     requires { Reads code sigma buf.now h 1024 }
     ensures { result ≡ scanned (row_reading code sigma (row_upto code h buf.now) 0) }
 {
@@ -172,8 +174,8 @@ fn read_bytes(code: Code, sigma: u32, buf: &[u8], h: usize) -> Scan
     told(k, s, sigma, buf, h, all)
 }
 
-// All codewords from the first on.
-pub fn read_all(code: Code, sigma: u32, buf: &[u8], h: usize) -> Scan
+// All codewords from the first on: how many, or where the first bad one begins.
+pub fn read_all(code: Code, sigma: u32, buf: &[u8], h: usize) -> Result<usize, BadWord>
     requires { Reads code sigma buf.now h 0 }
     ensures { result ≡ scanned (row_reading code sigma (row_upto code h buf.now) 0) }
 {

@@ -9,8 +9,8 @@ use Rattle.stopper.specs.Paper.Table.{even_code}
 use Rattle.stopper.specs.declared.code.Code.{Code}
 use Rattle.symbols.specs.Paper.Symbols.{symbols_of}
 use Rattle.reading.specs.Paper.Reading.{row_upto}
-use Rattle.reading.specs.declared.codewords.Scan.{Scan}
-use Rattle.reading.specs.declared.codewords.Scan.TheVariants.{Bad}
+use Rattle.std.specs.Prelude.{Result, Err}
+use Rattle.reading.specs.declared.codewords.BadWord.{BadWord}
 use Rattle.moves.specs.Helpers.States.{open_from, Stuck}
 use Rattle.moves.proofs.Laws.States.{stuck_end}
 use Rattle.moves.proofs.Laws.Moves.{here_end, here_bad}
@@ -58,5 +58,5 @@ pub returns : goal.returns
 returns c =
     let all = symbols_of c.args.k c.args.buf.now in
     let e : take c.args.way.at all ≡ take c.args.way.at (row c.before.before.before.before.before) = sym (take-take c.args.way.at c.args.h all c.requires.0.upto) in
-    ap {B = Scan} (λ (p : ℕ). Bad p) (c.opened.ensures ∙ ap (open_from (code c.before.before.before.before.before) 0 0) e)
+    ap {B = Result ℕ BadWord} (λ (p : ℕ). Err (record { first = p })) (c.opened.ensures ∙ ap (open_from (code c.before.before.before.before.before) 0 0) e)
     ∙ sym (here_bad (code c.before.before.before.before.before) c.args.sigma c.requires.0.good (row c.before.before.before.before.before) c.requires.1 (stuck c.before.before))
