@@ -7,7 +7,7 @@ ghost use Rattle.sound.specs.Paper.Lengths.{lengths_of};
 
 use crate::ends::pass_first;
 use crate::records::Roll;
-use reading::codewords::{Found, codeword_at};
+use reading::codewords::codeword_at;
 use unpacking::range::unpack_from;
 
 // For fewer characters it is not worth while to work out what bytes give.
@@ -19,20 +19,12 @@ fn unpack_each(roll: Roll, buf: &[u8], first: usize, start: usize, end: usize, o
     ensures { out.new ≡ run (text_of roll buf.now) start end ++ drop (end - start) out.old }
 {
     let table = roll.table;
-    let code = table.code;
-    let sigma = table.sigma as u32;
-    let places = table.places;
     let h = roll.h as usize;
     let mut p = first;
-    let mut i: usize = 0;
-    while i < end - start {
-        let found = codeword_at(code, sigma, buf, h, p);
-        let Found::Word(rank, next) = found else {
-            return;
-        };
-        out[i] = places[rank as usize];
-        p = next;
-        i += 1;
+    for i in 0..end - start {
+        let word = codeword_at(table.code, table.sigma as u32, buf, h, p).unwrap();
+        out[i] = table.places[word.rank as usize];
+        p = word.next;
     }
 }
 
@@ -42,14 +34,20 @@ pub fn unpack_sound(roll: Roll, buf: &[u8], start: usize, end: usize, out: &mut 
     ensures { out.new ≡ run (text_of roll buf.now) start end ++ drop (end - start) out.old }
 {
     let table = roll.table;
-    let code = table.code;
-    let sigma = table.sigma as u32;
-    let places = table.places;
     let h = roll.h as usize;
-    let first = pass_first(code, buf, start);
+    let first = pass_first(table.code, buf, start);
     if end - start < FEW {
         unpack_each(roll, buf, first, start, end, out);
     } else {
-        unpack_from(code, sigma, &places, buf, h, first, end - start, out);
+        unpack_from(
+            table.code,
+            table.sigma as u32,
+            &table.places,
+            buf,
+            h,
+            first,
+            end - start,
+            out,
+        );
     }
 }

@@ -18,8 +18,8 @@ use Rattle.texts.specs.Laws.Directory.{entries_upto, entries_before, directory_l
 use Rattle.reading.specs.Paper.Reading.{row_upto, ranks_read}
 use Rattle.reading.specs.Helpers.Codewords.{passed_from}
 use Rattle.reading.specs.Laws.Codewords.{found_word}
-use Rattle.reading.specs.declared.codewords.Passed.{Passed}
-use Rattle.reading.specs.declared.codewords.Passed.TheVariants.{At}
+use Rattle.std.specs.Prelude.{Result, Ok}
+use Rattle.reading.specs.declared.codewords.BadWord.{BadWord}
 use Rattle.sound.specs.Paper.Roll.{reading, Sound}
 use Rattle.sound.specs.Paper.Lengths.{lengths_of, Right}
 use Rattle.sound.specs.Helpers.Ends.{Ending, end_from}
@@ -77,13 +77,13 @@ module _ {r : Roll} {buf : List ℕ} (s : Sound r buf) (dir : List ℕ) (right :
       ∙ directory_at (lengths_of r buf) (place / 32) (rw (sound_many s) (entries_inside place inside))
 
   -- the codewords from the entry on, up to the place
-  pub right_passed : At (starts place) ≡ passed_from c r.table.sigma row (get_or dir (place / 32) 0) (place % 32)
+  pub right_passed : Ok (starts place) ≡ passed_from c r.table.sigma row (get_or dir (place / 32) 0) (place % 32)
   unfolding lengths_of
   right_passed =
       let e : place / 32 * 32 + place % 32 ≡ place = omega arith in
       sym (rw (right_entry, sound_row s)
       (passed_ranks c (sound_code s) r.table.sigma (sound_below s) (place % 32) (place / 32 * 32) (omega (arith, s.count))
-      ∙ ap {B = Passed} (λ (j : ℕ). At (starts j)) e))
+      ∙ ap {B = Result ℕ BadWord} (λ (j : ℕ). Ok (starts j)) e))
 
   -- a codeword starts before symbol h
   pub right_before_lem : get_or dir (place / 32) 0 < r.h

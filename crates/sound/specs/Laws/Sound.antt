@@ -21,7 +21,7 @@ use Rattle.texts.specs.Paper.Directory.{start_at}
 use Rattle.reading.specs.Paper.Reading.{row_upto, ranks_read}
 use Rattle.reading.specs.Helpers.Codewords.{Reads, found_at}
 use Rattle.reading.specs.Laws.Reading.{whole_is}
-use Rattle.reading.specs.declared.codewords.Found.TheVariants.{Word}
+use Rattle.std.specs.Prelude.{Some}
 use Rattle.sound.specs.Paper.Roll.{reading_from, reading, text_of, Sound}
 use Rattle.sound.specs.Paper.Lengths.{lengths_of}
 use Rattle.sound.specs.Laws.Starts.{drop_start, found_rank, start_upto}
@@ -84,7 +84,7 @@ module _ {r : Roll} {buf : List ℕ} (s : Sound r buf) where
 
   -- codeword j, and where it starts
   pub sound_found : (j : ℕ) → j < r.n
-      → found_at r.table.code r.table.sigma (row r buf) (start_at (lengths_of r buf) j) ≡ Word (get_or (ranks r buf) j 0) (start_at (lengths_of r buf) (suc j))
+      → found_at r.table.code r.table.sigma (row r buf) (start_at (lengths_of r buf) j) ≡ Some (record { rank = get_or (ranks r buf) j 0; next = start_at (lengths_of r buf) (suc j) })
   unfolding lengths_of
   sound_found j h = rw sound_row (found_rank r.table.code sound_code r.table.sigma sound_below j (omega (arith, s.count)))
 

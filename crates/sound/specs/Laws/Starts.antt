@@ -15,8 +15,7 @@ use Rattle.stopper.proofs.Laws.Reading.{first_codeword}
 use Rattle.stopper.specs.declared.code.Code.{Code}
 use Rattle.texts.specs.Paper.Directory.{sum, start_at}
 use Rattle.reading.specs.Helpers.Codewords.{found_in, found_at, passed_from}
-use Rattle.reading.specs.declared.codewords.Found.TheVariants.{Word}
-use Rattle.reading.specs.declared.codewords.Passed.TheVariants.{At}
+use Rattle.std.specs.Prelude.{Some, Ok}
 
 -- codeword j starts behind the ones before it: as many symbols as these have
 pub start_at_lem : (c : Code) (rs : List ℕ) (j : ℕ) → length (write (base c) (stoppers c) (take j rs)) ≡ start_at (map (length_of c) rs) j
@@ -45,7 +44,7 @@ module _ (c : Code) (rs : List ℕ) where
 
 module _ (c : Code) (g : T (good_code c)) (σ : ℕ) {rs : List ℕ} (b : Below σ rs) where
   -- codeword j stands where the ones before it end
-  pub found_rank : (j : ℕ) → j < length rs → found_at c σ (write (base c) (stoppers c) rs) (starts c rs j) ≡ Word (get_or rs j 0) (starts c rs (suc j))
+  pub found_rank : (j : ℕ) → j < length rs → found_at c σ (write (base c) (stoppers c) rs) (starts c rs j) ≡ Some (record { rank = get_or rs j 0; next = starts c rs (suc j) })
   unfolding found_at found_in write length_of
   found_rank j h =
       rw (
@@ -55,7 +54,7 @@ module _ (c : Code) (g : T (good_code c)) (σ : ℕ) {rs : List ℕ} (b : Below 
         start_next c rs j h,
       )
 
-  pub passed_ranks : (n j : ℕ) → j + n ≤ length rs → passed_from c σ (write (base c) (stoppers c) rs) (starts c rs j) n ≡ At (starts c rs (j + n))
+  pub passed_ranks : (n j : ℕ) → j + n ≤ length rs → passed_from c σ (write (base c) (stoppers c) rs) (starts c rs j) n ≡ Ok (starts c rs (j + n))
   unfolding passed_from
   passed_ranks zero j h = rw add-zero
   passed_ranks (suc n) j h = rw (found_rank j (omega arith), add-suc) (passed_ranks n (suc j) (omega arith) ∙ rw suc-add)

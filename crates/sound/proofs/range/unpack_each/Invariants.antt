@@ -1,7 +1,4 @@
-use mathlib.Core.Path.{◌≡◌}
-use mathlib.Core.List.{List, ◌++◌, map}
-use Prim.Native.Nat.{ℕ, ◌+◌, ◌-◌, ◌≤◌}
-use lib.ListN.{take, drop, get_or}
+use Rattle.std.proofs.Common.{◌≡◌, List, ◌++◌, map, ℕ, ◌+◌, take, drop, get_or}
 use Rattle.stopper.specs.Paper.Table.{length_of}
 use Rattle.stopper.specs.declared.code.Code.{Code}
 use Rattle.texts.specs.Paper.Directory.{start_at}
@@ -17,9 +14,5 @@ characters places rs = map (λ rank. get_or places rank 0) rs
 
 abbrev pub invariant-loop-i : goal.invariant-loop-i
 invariant-loop-i l =
-    (l.i ≤ l.end - l.start)
-    × (l.p ≡ start_at (map (length_of l.code) (ranks l.code l.sigma l.buf l.h)) (l.start + l.i))
-    × (l.out ≡ take l.i (drop l.start (characters l.places (ranks l.code l.sigma l.buf l.h))) ++ drop l.i l.initial.out)
-
-abbrev pub decreases-loop-i : goal.decreases-loop-i
-decreases-loop-i l = l.end - l.start - l.i
+    (l.p ≡ start_at (map (length_of l.table.code) (ranks l.table.code l.table.sigma l.buf l.h)) (l.start + l.i))
+    × (l.out ≡ take l.i (drop l.start (characters l.table.places (ranks l.table.code l.table.sigma l.buf l.h))) ++ drop l.i l.initial.out)
