@@ -2,33 +2,44 @@
 ghost use Rattle.std.specs.Prelude.{◌≡◌, ◌*◌, T, length};
 ghost use Rattle.ground.specs.Paper.Rows.{zeros};
 ghost use Rattle.stopper.specs.Paper.Table.{good_table, longest};
-ghost use Rattle.store.specs.Helpers.Measured.{Measured};
+ghost use Rattle.store.specs.Helpers.Measured.{Measured, refused_for};
 
 use crate::words::{first_foreign, fitting, spell_all};
+use ground::refusal::Refusal;
 use stopper::table::Table;
 
-// All fit, with so many symbols; or the place of the first character that is not in the table; or, all being in it, of the first that does not fit.
-#[derive(Clone, Copy)]
-pub enum Extent {
-    Fits(usize),
+// Why a text is not stored: the place of the first character that is not in the table; or, all being in it, of the first that does not fit.
+#[derive(Clone, Copy, Debug, PartialEq, Eq)]
+pub enum Misfit {
     Foreign(usize),
     Over(usize),
 }
 
-// One pass asks both; if it stops, the rest is looked through for a character that is not in the table, as that is asked first. The codewords are
-// laid out in lengths and words; for an empty text none are.
+impl From<Misfit> for Refusal {
+    ghost from_gives = { refused_for };
+
+    fn from(misfit: Misfit) -> Refusal {
+        match misfit {
+            Misfit::Foreign(place) => Refusal::NotInTable(place as u64),
+            Misfit::Over(place) => Refusal::NoRoom(place as u64),
+        }
+    }
+}
+
+// So many symbols. One pass asks both; if it stops, the rest is looked through for a character that is not in the table, as that is asked first. The
+// codewords are laid out in lengths and words; for an empty text none are.
 pub fn measure(
     table: Table,
     room: usize,
     text: &[u8],
     lengths: &mut [u8],
     words: &mut [u8],
-) -> Extent
+) -> Result<usize, Misfit>
     requires { T (good_table table) × (lengths.old ≡ zeros 256) × (length words.old ≡ 256 * longest) }
     ensures { Measured table room text.now lengths.new words.new result }
 {
-    if text.len() == 0 {
-        return Extent::Fits(0);
+    if text.is_empty() {
+        return Ok(0);
     }
     let code = table.code;
     let sigma = table.sigma;
@@ -37,11 +48,11 @@ pub fn measure(
     let fit = fitting(lengths, room, text);
     let upto = fit.upto;
     if text.len() <= upto {
-        return Extent::Fits(fit.taken);
+        return Ok(fit.taken);
     }
     let foreign = first_foreign(lengths, text, upto);
     if foreign < text.len() {
-        return Extent::Foreign(foreign);
+        return Err(Misfit::Foreign(foreign));
     }
-    Extent::Over(upto)
+    Err(Misfit::Over(upto))
 }

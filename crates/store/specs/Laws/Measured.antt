@@ -1,5 +1,5 @@
 -- What measuring a text under a table answers.
-use Rattle.std.specs.Prelude.{◌≡◌, refl, ℕ, suc, ◌+◌, ◌*◌, ◌≤◌, ◌<◌, T, drop}
+use Rattle.std.specs.Prelude.{◌≡◌, refl, ℕ, suc, ◌+◌, ◌*◌, ◌≤◌, ◌<◌, T, drop, Ok, Err}
 use Rattle.std.proofs.Math.Path.{sym}
 use Rattle.std.proofs.Common.{ap, ◌∙◌}
 use mathlib.Core.List.{List, [], ◌∷◌}
@@ -19,14 +19,14 @@ use Rattle.sound.specs.Paper.Roll.{text_row}
 use Rattle.store.specs.Helpers.Words.{Spelt, upto_of, taken_of, absent, word_at, row_of}
 use Rattle.store.specs.Helpers.Measured.{Measured}
 use Rattle.store.specs.Laws.Words.{upto_le, taken_le, foreign_from, foreign_is, over_is, row_is, taken_is, words_laid}
-use Rattle.store.specs.declared.measure.Extent.TheVariants.{Fits, Foreign, Over}
+use Rattle.store.specs.declared.measure.Misfit.TheVariants.{Foreign, Over}
 
 module _ (t : Table) (good : T (good_table t)) (room : ℕ) where
   code : T (good_code t.code)
   code = table_code t good
 
   -- an empty text, under lengths that are 0
-  pub measured_none : (text : List ℕ) {lengths : List ℕ} (words : List ℕ) → length text ≡ 0 → lengths ≡ zeros 256 → length words ≡ 256 * longest → Measured t room text lengths words (Fits 0)
+  pub measured_none : (text : List ℕ) {lengths : List ℕ} (words : List ℕ) → length text ≡ 0 → lengths ≡ zeros 256 → length words ≡ 256 * longest → Measured t room text lengths words (Ok 0)
   unfolding Measured first_foreign first_where text_row write row_of word_at zeros
   measured_none [] words e z w =
       rw z (
@@ -48,7 +48,7 @@ module _ (t : Table) (good : T (good_table t)) (room : ℕ) where
 
   module _ {lengths words : List ℕ} (s : Spelt t.code (characters t) lengths words) {text : List ℕ} (h : Below 256 text) {upto : ℕ} (u : upto ≡ upto_of lengths room text) where
     -- the pass went to the end
-    pub measured_fits : {n : ℕ} → n ≡ taken_of lengths room text → length text ≤ upto → Measured t room text lengths words (Fits n)
+    pub measured_fits : {n : ℕ} → n ≡ taken_of lengths room text → length text ≤ upto → Measured t room text lengths words (Ok n)
     unfolding Measured
     measured_fits e k =
         let v : upto_of lengths room text ≡ length text = omega (arith, u, upto_le lengths room text) in
@@ -67,11 +67,11 @@ module _ (t : Table) (good : T (good_table t)) (room : ℕ) where
       found : v ≡ first_where (absent lengths) text
       found = e ∙ ap (λ (n : ℕ). n + first_where (absent lengths) (drop n text)) u ∙ foreign_from lengths room text
 
-      pub measured_foreign : v < length text → Measured t room text lengths words (Foreign v)
+      pub measured_foreign : v < length text → Measured t room text lengths words (Err (Foreign v))
       unfolding Measured
       measured_foreign k = (found ∙ foreign_is t.code code (characters t) lengths words s h, k)
 
-      pub measured_over : upto < length text → length text ≤ v → Measured t room text lengths words (Over upto)
+      pub measured_over : upto < length text → length text ≤ v → Measured t room text lengths words (Err (Over upto))
       unfolding Measured
       measured_over k m =
           let f : first_where (absent lengths) text ≡ length text = omega (arith, found, first_within (absent lengths) text) in
