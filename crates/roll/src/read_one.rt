@@ -2,42 +2,32 @@
 ghost use Rattle.roll.specs.Paper.Operations.{ReadingOne};
 
 use crate::fits::fits;
-use ground::answers::{Answer, Done};
-use reading::codewords::{Found, Passed, codeword_at, pass_over};
+use ground::refusal::Refusal;
+use reading::codewords::{codeword_at, pass_over};
 use sound::records::Roll;
 
 // It does not check the whole roll: it goes by the entry for place div 32, and judges the codewords from there on.
-pub fn read_one(roll: Roll, buf: &[u8], dir: &[u32], place: usize) -> Answer
+pub fn read_one(roll: Roll, buf: &[u8], dir: &[u32], place: usize) -> Result<u8, Refusal>
     ensures { ReadingOne roll buf.now dir.now place result }
 {
-    let fitting = fits(roll, buf);
-    if let Done::Refused(number, value) = fitting {
-        return Answer::Refused(number, value);
-    }
-    let table = roll.table;
-    let code = table.code;
-    let h = roll.h as usize;
+    fits(roll, buf)?;
     if roll.n as usize <= place {
-        return Answer::Refused(10, 0);
+        return Err(Refusal::BadRange);
     }
     let entry = place / 32;
     if dir.len() <= entry {
-        return Answer::Refused(9, entry as u64);
+        return Err(Refusal::BadEntry(entry as u64));
     }
+    let h = roll.h as usize;
     let first = dir[entry] as usize;
     if h <= first {
-        return Answer::Refused(9, entry as u64);
+        return Err(Refusal::BadEntry(entry as u64));
     }
-    let sigma = table.sigma as u32;
-    let passed = pass_over(code, sigma, buf, h, first, place % 32);
-    match passed {
-        Passed::Bad(at) => Answer::Refused(6, at as u64),
-        Passed::At(at) => {
-            let found = codeword_at(code, sigma, buf, h, at);
-            match found {
-                Found::Word(rank, _) => Answer::Read(table.places[rank as usize]),
-                Found::Bad => Answer::Refused(6, at as u64),
-            }
-        }
-    }
+    let code = roll.table.code;
+    let sigma = roll.table.sigma as u32;
+    let at = pass_over(code, sigma, buf, h, first, place % 32)?;
+    let Some(word) = codeword_at(code, sigma, buf, h, at) else {
+        return Err(Refusal::BadCodeword(at as u64));
+    };
+    Ok(roll.table.places[word.rank as usize])
 }

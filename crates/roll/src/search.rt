@@ -4,30 +4,24 @@ ghost use Rattle.roll.specs.Helpers.Refused.{PatternChecked};
 
 use crate::check::check;
 use find::finding::search_sound;
-use ground::answers::{Done, Total};
+use ground::refusal::Refusal;
 use sound::records::Roll;
 use texts::pattern::good_pattern;
 
 // That a roll is sound and a pattern good, which both searches of a whole roll ask first; refused as check does, or with 11.
-pub fn check_pattern(roll: Roll, buf: &[u8], pattern: &[u8]) -> Done
+pub fn check_pattern(roll: Roll, buf: &[u8], pattern: &[u8]) -> Result<(), Refusal>
     ensures { PatternChecked roll buf.now pattern.now result }
 {
-    let checked = check(roll, buf);
-    let Done::Yes = checked else {
-        return checked;
-    };
+    check(roll, buf)?;
     if !good_pattern(pattern) {
-        return Done::Refused(11, 0);
+        return Err(Refusal::BadPattern);
     }
-    Done::Yes
+    Ok(())
 }
 
-pub fn search(roll: Roll, buf: &[u8], pattern: &[u8], slice: &mut [u32]) -> Total
+pub fn search(roll: Roll, buf: &[u8], pattern: &[u8], slice: &mut [u32]) -> Result<u32, Refusal>
     ensures { Searching roll buf.now pattern.now slice.old result slice.new }
 {
-    let checked = check_pattern(roll, buf, pattern);
-    if let Done::Refused(number, value) = checked {
-        return Total::Refused(number, value);
-    }
-    Total::Of(search_sound(roll, buf, pattern, slice))
+    check_pattern(roll, buf, pattern)?;
+    Ok(search_sound(roll, buf, pattern, slice))
 }

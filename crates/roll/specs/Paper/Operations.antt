@@ -1,13 +1,11 @@
 -- The operations, in the paper's order: the refusals of each, and its promise. The rows named after an operation are its own refusals; where check's
 -- come first, or those that check and read one share, what it says puts them before by `then`.
-use Rattle.std.specs.Prelude.{◌≡◌, not, ◌||◌, List, [], ◌∷◌, ◌++◌, ℕ, ◌-◌, ◌/◌, ◌%◌, ltb, leb, eqb, length, drop, get_or}
-use Rattle.ground.specs.Paper.Refusals.{Row, refuse, Outcome, judged, ◌then◌, kept}
-use Rattle.ground.specs.Paper.Answers.{done_says, answer_says, total_says}
+use Rattle.std.specs.Prelude.{◌≡◌, not, ◌||◌, List, [], ◌∷◌, ◌++◌, ℕ, ◌-◌, ◌/◌, ◌%◌, ltb, leb, eqb, length, drop, get_or, Result}
+use Rattle.ground.specs.Paper.Refusals.{Row, refuse, Outcome, accepted, judged, ◌then◌, kept}
+use Rattle.ground.specs.Paper.Answers.{outcome_of}
 use Rattle.ground.specs.Paper.Runs.{run}
 use Rattle.ground.specs.Paper.Rows.{all_zero}
-use Rattle.ground.specs.declared.answers.Done.{Done}
-use Rattle.ground.specs.declared.answers.Answer.{Answer}
-use Rattle.ground.specs.declared.answers.Total.{Total}
+use Rattle.ground.specs.declared.refusal.Refusal.{Refusal}
 use Rattle.stopper.specs.Paper.Table.{good_table, characters}
 use Rattle.stopper.specs.Paper.Reading.{Reading}
 use Rattle.stopper.specs.declared.table.Table.{Table}
@@ -22,8 +20,6 @@ use Rattle.sound.specs.Paper.Lengths.{lengths_of}
 use Rattle.sound.specs.declared.records.Roll.{Roll}
 use Rattle.store.specs.Paper.Fitting.{first_over}
 use Rattle.store.specs.Paper.Stored.{packed_into, bytes_after, directory_after}
-use Rattle.roll.specs.declared.pack.Packed.{Packed}
-use Rattle.roll.specs.declared.edit.Edited.{Edited}
 
 -- ---- pack: 1, 3, 4
 
@@ -39,7 +35,7 @@ pack_rows t text buf =
 unfoldable pub pack_says : Table → List ℕ → List ℕ → Outcome (Unit {0})
 pack_says t text buf = judged (pack_rows t text buf) tt
 
--- beside a refusal: the table as given, n 0 and h 0
+-- where a record stands beside a refusal: the table as given, n 0 and h 0
 abbrev pub no_roll : Table → Roll
 no_roll t = record { table = t; n = 0; h = 0 }
 
@@ -50,9 +46,8 @@ pack_roll t text buf = kept (pack_says t text buf) (no_roll t) (record_of t text
 abbrev pub pack_leaves : Table → List ℕ → List ℕ → List ℕ
 pack_leaves t text buf = kept (pack_says t text buf) buf (packed_into t.code.k (symbols_for t text) buf)
 
-pub record Packing (t : Table) (text buf : List ℕ) (r : Packed) (after : List ℕ) : Type 0 where
-  pub says : done_says r.answer ≡ pack_says t text buf
-  pub roll : r.roll ≡ pack_roll t text buf
+pub record Packing (t : Table) (text buf : List ℕ) (r : Result Roll Refusal) (after : List ℕ) : Type 0 where
+  pub says : outcome_of r ≡ (pack_says t text buf then accepted (pack_roll t text buf))
   pub leaves : after ≡ pack_leaves t text buf
 
 -- ---- what check and read one both ask first: 1, 5
@@ -78,8 +73,8 @@ check_rows r buf =
 unfoldable pub check_says : Roll → List ℕ → Outcome (Unit {0})
 check_says r buf = fit_says r buf then judged (check_rows r buf) tt
 
-pub record Checking (r : Roll) (buf : List ℕ) (answer : Done) : Type 0 where
-  pub says : done_says answer ≡ check_says r buf
+pub record Checking (r : Roll) (buf : List ℕ) (answer : Result (Unit {0}) Refusal) : Type 0 where
+  pub says : outcome_of answer ≡ check_says r buf
 
 -- ---- unpack a range: check's, 10, 13
 
@@ -95,8 +90,8 @@ unpack_says r buf start end out = check_says r buf then judged (unpack_rows r st
 abbrev pub unpack_leaves : Roll → List ℕ → ℕ → ℕ → List ℕ → List ℕ
 unpack_leaves r buf start end out = kept (unpack_says r buf start end out) out (run (text_of r buf) start end ++ drop (end - start) out)
 
-pub record Unpacking (r : Roll) (buf : List ℕ) (start end : ℕ) (out : List ℕ) (answer : Done) (after : List ℕ) : Type 0 where
-  pub says : done_says answer ≡ unpack_says r buf start end out
+pub record Unpacking (r : Roll) (buf : List ℕ) (start end : ℕ) (out : List ℕ) (answer : Result (Unit {0}) Refusal) (after : List ℕ) : Type 0 where
+  pub says : outcome_of answer ≡ unpack_says r buf start end out
   pub leaves : after ≡ unpack_leaves r buf start end out
 
 -- ---- make a directory: check's, 12
@@ -110,8 +105,8 @@ make_says r buf dir = check_says r buf then judged (make_rows r dir) tt
 abbrev pub make_leaves : Roll → List ℕ → List ℕ → List ℕ
 make_leaves r buf dir = kept (make_says r buf dir) dir (directory_of (lengths_of r buf) ++ drop (entries r.n) dir)
 
-pub record Making (r : Roll) (buf dir : List ℕ) (answer : Done) (after : List ℕ) : Type 0 where
-  pub says : done_says answer ≡ make_says r buf dir
+pub record Making (r : Roll) (buf dir : List ℕ) (answer : Result (Unit {0}) Refusal) (after : List ℕ) : Type 0 where
+  pub says : outcome_of answer ≡ make_says r buf dir
   pub leaves : after ≡ make_leaves r buf dir
 
 -- ---- read one: 1, 5, 10, 9, 6
@@ -135,8 +130,8 @@ one_read r buf dir place = get_or r.table.places (get_or (ranks_read (from_entry
 unfoldable pub read_says : Roll → List ℕ → List ℕ → ℕ → Outcome ℕ
 read_says r buf dir place = fit_says r buf then judged (read_rows r buf dir place) (one_read r buf dir place)
 
-pub record ReadingOne (r : Roll) (buf dir : List ℕ) (place : ℕ) (answer : Answer) : Type 0 where
-  pub says : answer_says answer ≡ read_says r buf dir place
+pub record ReadingOne (r : Roll) (buf dir : List ℕ) (place : ℕ) (answer : Result ℕ Refusal) : Type 0 where
+  pub says : outcome_of answer ≡ read_says r buf dir place
 
 -- ---- search: check's, 11
 
@@ -149,8 +144,8 @@ search_says r buf pattern = check_says r buf then judged (search_rows pattern) (
 abbrev pub search_leaves : Roll → List ℕ → List ℕ → List ℕ → List ℕ
 search_leaves r buf pattern slice = kept (search_says r buf pattern) slice (listed (hits pattern (text_of r buf)) slice)
 
-pub record Searching (r : Roll) (buf pattern slice : List ℕ) (answer : Total) (after : List ℕ) : Type 0 where
-  pub says : total_says answer ≡ search_says r buf pattern
+pub record Searching (r : Roll) (buf pattern slice : List ℕ) (answer : Result ℕ Refusal) (after : List ℕ) : Type 0 where
+  pub says : outcome_of answer ≡ search_says r buf pattern
   pub leaves : after ≡ search_leaves r buf pattern slice
 
 -- ---- edit: check's, 9, 10, 3, 4, 12
@@ -189,8 +184,7 @@ edit_leaves r buf dir start end text = kept (edit_says r buf dir start end text)
 abbrev pub edit_directory : Roll → List ℕ → List ℕ → ℕ → ℕ → List ℕ → List ℕ
 edit_directory r buf dir start end text = kept (edit_says r buf dir start end text) dir (directory_after r (edited (text_of r buf) start end text) dir)
 
-pub record Editing (r : Roll) (buf dir : List ℕ) (start end : ℕ) (text : List ℕ) (e : Edited) (after dir_after : List ℕ) : Type 0 where
-  pub says : done_says e.answer ≡ edit_says r buf dir start end text
-  pub roll : e.roll ≡ edit_roll r buf dir start end text
+pub record Editing (r : Roll) (buf dir : List ℕ) (start end : ℕ) (text : List ℕ) (e : Result Roll Refusal) (after dir_after : List ℕ) : Type 0 where
+  pub says : outcome_of e ≡ (edit_says r buf dir start end text then accepted (edit_roll r buf dir start end text))
   pub leaves : after ≡ edit_leaves r buf dir start end text
   pub directory : dir_after ≡ edit_directory r buf dir start end text

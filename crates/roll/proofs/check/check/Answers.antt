@@ -1,95 +1,87 @@
 -- `roll::check::check` meets its contract.
-use mathlib.Core.Path.{◌≡◌, sym, ap, ◌∙◌}
-use Prim.Native.Nat.{ℕ, ◌+◌, ◌*◌}
-use native.Mathlib.Omega.{arith}
+use Rattle.std.proofs.Common.{◌≡◌, sym, ap, ◌∙◌, List, ℕ, ◌+◌, ◌-◌, ◌*◌, Ok, arith}
+use Rattle.std.proofs.lemmas.Result.{err_from_is_err_and}
 use Rattle.ground.specs.Paper.Runs.{run}
 use Rattle.ground.specs.Paper.Rows.{all_zero}
-use Rattle.ground.specs.Laws.Answers.{says_as}
-use Rattle.ground.specs.Laws.Refusals.{Accepted}
 use Rattle.stopper.specs.Laws.Table.{code_width}
 use Rattle.symbols.specs.Paper.Symbols.{per, bytes_for, symbols_of}
 use Rattle.symbols.specs.Helpers.Widths.{Width}
 use Rattle.symbols.specs.Laws.Width.{per_few}
 use Rattle.symbols.specs.Laws.Sizes.{bytes_for_enough, bytes_for_least}
 use Rattle.symbols.specs.Laws.Rows.{ends_inside}
-use Rattle.reading.specs.Helpers.Codewords.{Reads, scanned}
-use Rattle.reading.specs.declared.codewords.Scan.TheVariants.{Whole}
-use Rattle.sound.specs.Paper.Roll.{reading_from, reading, unused_of}
-use Rattle.roll.specs.Paper.Operations.{fit_says, check_says}
+use Rattle.reading.specs.Helpers.Codewords.{Reads}
+use Rattle.sound.specs.Paper.Roll.{reading_from, unused_of}
+use Rattle.sound.specs.declared.records.Roll.{Roll}
+use Rattle.roll.specs.Paper.Operations.{check_says}
+use Rattle.roll.specs.Helpers.Refused.{Fitting}
 use Rattle.roll.specs.Laws.Operations.{fits_reads, check_6, check_7, check_last}
 use Rattle.roll.proofs.check.check.Goals as goal
-use Rattle.roll.proofs.check.check.Lts as Places
-use Rattle.roll.proofs.check.check.Reads as Clauses
-use Rattle.roll.proofs.check.check.Tie as tie
 
--- what is known at these places
-abbrev In-Yes : Type 0
-In-Yes = Places.Past-After-enum_told tie.the-claims Clauses.Pre Clauses.Post
+module _ (r : Roll) (buf : List ℕ) (f : Fitting r buf (Ok tt)) where
+  -- symbols up to symbol h may be read
+  reads : Reads r.table.code r.table.sigma buf r.h 0
+  reads = fits_reads r buf (sym f.says) 0 (omega arith)
 
-abbrev In-Whole : Type 0
-In-Whole = Places.Past-After-known_told2 tie.the-claims Clauses.Pre Clauses.Post
+  width : Width r.table.code.k
+  width = code_width r.table.code reads.good
 
-abbrev After-unused : Type 0
-After-unused = Places.After-unused tie.the-claims Clauses.Pre Clauses.Post
+  -- the unused symbols end with the last byte
+  module _ {unused : ℕ} (e : unused ≡ bytes_for r.table.code.k r.h * per r.table.code.k - r.h) where
+    end_is : r.h + unused ≡ bytes_for r.table.code.k r.h * per r.table.code.k
+    end_is = omega (arith, e, bytes_for_enough width r.h)
 
-abbrev After-all_zero : Type 0
-After-all_zero = Places.After-all_zero tie.the-claims Clauses.Pre Clauses.Post
+    zero_is : all_zero (run (symbols_of r.table.code.k buf) r.h (r.h + unused)) ≡ all_zero (unused_of r buf)
+    zero_is = ap (λ (to : ℕ). all_zero (run (symbols_of r.table.code.k buf) r.h to)) end_is
 
-fits : (c : In-Yes) → let a = c.args in Accepted (fit_says a.roll a.buf.now)
-fits c = says_as c.fits-fitting.ensures.says c.in-Yes.is
-
--- symbols up to symbol h may be read
-reads : (c : In-Yes) → let a = c.args in Reads a.roll.table.code a.roll.table.sigma a.buf.now a.roll.h 0
-reads c = let a = c.args in fits_reads a.roll a.buf.now (fits c) 0 (omega arith)
-
-width : (c : In-Yes) → Width c.args.roll.table.code.k
-width c = code_width c.args.roll.table.code (reads c).good
-
--- all codewords are read
-whole : (c : In-Whole) → let a = c.args in Whole c.in-Whole.count ≡ scanned (reading a.roll a.buf.now)
-unfolding reading_from
-whole c = sym c.in-Whole.is ∙ c.read_all-read.ensures
-
--- the unused symbols end with the last byte
-end_is : (c : After-unused) → let a = c.args in
-    a.roll.h + c.unused.result ≡ bytes_for a.roll.table.code.k a.roll.h * per a.roll.table.code.k
-end_is c = omega (arith, c.unused.ensures, bytes_for_enough (width c.before.before.before.before.before.before.before.before.before) c.args.roll.h)
-
-zero_is : (c : After-all_zero) → let a = c.args in c.all_zero.result ≡ all_zero (unused_of a.roll a.buf.now)
-zero_is c =
-    let a = c.args in
-    c.all_zero.ensures ∙ ap (λ (to : ℕ). all_zero (run (symbols_of a.roll.table.code.k a.buf.now) a.roll.h to)) (end_is c.before)
-
-pub returns-in_default : goal.returns-in_default
+pub returns-in_err-fits : goal.returns-in_err-fits
 unfolding check_says
-returns-in_default c = let e = c.in_default.is in record { says = rw (says_as c.fits-fitting.ensures.says e, e) }
+returns-in_err-fits c =
+    let p = err_from_is_err_and c.from_residual.result c.from_residual.ensures.1 in
+    rw (p.1, p.2) (record { says = rw (sym c.in_err-fits.ensures.says) })
+
+pub read_all-requires : goal.read_all-requires
+read_all-requires c = reads c.args.roll c.args.buf.now c.in_ok-fits.ensures
+
+pub returns-in_err-count : goal.returns-in_err-count
+unfolding reading_from
+returns-in_err-count c =
+    let p = err_from_is_err_and c.from_residual-in_err-count.result c.from_residual-in_err-count.ensures.1 in
+    rw (p.1, p.2) (record { says = sym (check_6 c.args.roll c.args.buf.now (sym c.in_ok-fits.ensures.says) c.in_err-count.ensures) })
 
 pub returns-then-count-roll : goal.returns-then-count-roll
-returns-then-count-roll c = record { says = sym (check_7 _ _ (fits c.before.before.before.before.before.before.before.before.before) (whole c.before.before.before) c.if-count-roll.true) }
+unfolding reading_from
+returns-then-count-roll c = record { says = sym (check_7 _ _ (sym c.in_ok-fits.ensures.says) c.in_ok-count.ensures c.if-count-roll.true) }
+
+pub unused-requires : goal.unused-requires
+unused-requires c = width c.args.roll c.args.buf.now c.in_ok-fits.ensures
 
 pub overflow_add-h : goal.overflow_add-h
 overflow_add-h c =
-    omega (arith, end_is c.before, bytes_for_least (width c.before.before.before.before.before.before.before.before.before.before) c.args.roll.h, per_few (width c.before.before.before.before.before.before.before.before.before.before), (reads c.before.before.before.before.before.before.before.before.before.before).small)
+    let r = c.args.roll in
+    let f = c.in_ok-fits.ensures in
+    let w = width r c.args.buf.now f in
+    omega (arith, end_is r c.args.buf.now f c.unused.ensures, bytes_for_least w r.h, per_few w, (reads r c.args.buf.now f).small)
 
 pub all_zero-requires : goal.all_zero-requires
 all_zero-requires c =
-    (width c.before.before.before.before.before.before.before.before.before.before, omega arith, omega (arith, end_is c.before, ends_inside (width c.before.before.before.before.before.before.before.before.before.before) c.args.buf.now c.args.roll.h (reads c.before.before.before.before.before.before.before.before.before.before).held))
+    let r = c.args.roll in
+    let buf = c.args.buf.now in
+    let f = c.in_ok-fits.ensures in
+    let w = width r buf f in
+    (w, omega arith, omega (arith, end_is r buf f c.unused.ensures, ends_inside w buf r.h (reads r buf f).held))
 
 pub returns-then-not-all_zero : goal.returns-then-not-all_zero
-returns-then-not-all_zero c =
-    record { says = sym (check_last _ _ (fits c.before.before.before.before.before.before.before.before.before.before.before.before) (whole c.before.before.before.before.before.before) c.if-count-roll.false ∙ rw (sym (zero_is c.before.before) ∙ c.if-not-all_zero.true)) }
-
-pub returns-in-Bad : goal.returns-in-Bad
 unfolding reading_from
-returns-in-Bad c =
-    record { says = sym (check_6 _ _ (fits c.before.before.before.before.before.before.before) (sym c.in-Bad.is ∙ c.read_all-read.ensures)) }
+returns-then-not-all_zero c =
+    let r = c.args.roll in
+    let buf = c.args.buf.now in
+    let f = c.in_ok-fits.ensures in
+    record { says = sym (check_last r buf (sym f.says) c.in_ok-count.ensures c.if-count-roll.false ∙ rw (sym (c.all_zero.ensures ∙ zero_is r buf f c.unused.ensures) ∙ c.if-not-all_zero.true)) }
 
-pub returns-else-not-all_zero : goal.returns-else-not-all_zero
-returns-else-not-all_zero c =
-    record { says = sym (check_last _ _ (fits c.before.before.before.before.before.before.before.before.before.before.before.before) (whole c.before.before.before.before.before.before) c.if-count-roll.false ∙ rw (sym (zero_is c.before.before) ∙ c.if-not-all_zero.false)) }
-
-pub read_all-read-requires : goal.read_all-read-requires
-read_all-read-requires c = reads c.before.before.before.before.before
-
-pub unused-requires : goal.unused-requires
-unused-requires c = width c.before.before.before.before.before.before.before.before.before
+pub returns : goal.returns
+unfolding reading_from
+returns c =
+    let r = c.args.roll in
+    let buf = c.args.buf.now in
+    let f = c.in_ok-fits.ensures in
+    record { says = sym (check_last r buf (sym f.says) c.in_ok-count.ensures c.if-count-roll.false ∙ rw (sym (c.all_zero.ensures ∙ zero_is r buf f c.unused.ensures) ∙ c.if-not-all_zero.false)) }

@@ -1,36 +1,28 @@
 -- `roll::edit::check_directory` meets its contract.
+use Rattle.std.proofs.Common.{sym}
+use Rattle.std.proofs.lemmas.Result.{err_from_is_err_and}
 use borrow.Author.Tests.{lt-ltb, le-ltb}
-use Rattle.ground.specs.Laws.Answers.{says_as}
-use Rattle.sound.specs.Paper.Roll.{Sound}
 use Rattle.roll.specs.Paper.Operations.{directory_says}
 use Rattle.roll.specs.Laws.Accepting.{sound_accepted}
 use Rattle.roll.specs.Laws.Operations.{check_sound}
 use Rattle.roll.proofs.edit.check_directory.Goals as goal
-use Rattle.roll.proofs.edit.check_directory.Lts as Places
-use Rattle.roll.proofs.edit.check_directory.Reads as Clauses
-use Rattle.roll.proofs.edit.check_directory.Tie as tie
 
--- what is known at these places
-abbrev In-Yes : Type 0
-In-Yes = Places.Past-After-enum_told tie.the-claims Clauses.Pre Clauses.Post
-
-sound : (c : In-Yes) → let a = c.args in Sound a.roll a.buf.now
-sound c = check_sound c.check-checked.ensures c.in-Yes.is
-
-pub returns-in_default : goal.returns-in_default
+pub returns-in_err-check : goal.returns-in_err-check
 unfolding directory_says
-returns-in_default c = let e = c.in_default.is in record { says = rw (says_as c.check-checked.ensures.says e, e) }
+returns-in_err-check c =
+    let p = err_from_is_err_and c.from_residual.result c.from_residual.ensures.1 in
+    rw (p.1, p.2) (record { says = rw (sym c.in_err-check.ensures.says) })
+
+pub first_wrong-wrong-requires : goal.first_wrong-wrong-requires
+first_wrong-wrong-requires c = check_sound c.in_ok-check.ensures
 
 pub returns-then-wrong-entries_for : goal.returns-then-wrong-entries_for
 unfolding directory_says
 returns-then-wrong-entries_for c =
     let e = c.first_wrong-wrong.ensures in
-    record { says = rw (sound_accepted (sound c.before.before.before.before), e, lt-ltb _ _ (rw (e, c.entries_for.ensures) at c.if-wrong-entries_for.true)) }
+    record { says = rw (sound_accepted (check_sound c.in_ok-check.ensures), e, lt-ltb _ _ (rw (e, c.entries_for.ensures) at c.if-wrong-entries_for.true)) }
 
 pub returns : goal.returns
 unfolding directory_says
 returns c =
-    record { says = rw (sound_accepted (sound c.before.before.before.before), le-ltb _ _ (rw (c.first_wrong-wrong.ensures, c.entries_for.ensures) at c.if-wrong-entries_for.false)) }
-
-pub first_wrong-wrong-requires : goal.first_wrong-wrong-requires
-first_wrong-wrong-requires c = sound c.before
+    record { says = rw (sound_accepted (check_sound c.in_ok-check.ensures), le-ltb _ _ (rw (c.first_wrong-wrong.ensures, c.entries_for.ensures) at c.if-wrong-entries_for.false)) }
