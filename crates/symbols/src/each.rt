@@ -10,10 +10,8 @@ pub fn clear(k: u8, buf: &mut [u8], from: usize, to: usize)
     requires { (Width k) × (from ≤ to) × (to ≤ length (symbols_of k buf.old)) }
     ensures { symbols_of k buf.new ≡ cleared (symbols_of k buf.old) from to }
 {
-    let mut i = from;
-    while i < to {
+    for i in from..to {
         symbol::put(k, buf, i, 0);
-        i += 1;
     }
 }
 
@@ -22,9 +20,7 @@ pub fn up(k: u8, buf: &mut [u8], from: usize, to: usize, by: usize)
     requires { (Width k) × (from ≤ to) × (to + by ≤ length (symbols_of k buf.old)) × (to + by < 2 ^ 64) }
     ensures { symbols_of k buf.new ≡ moved_up (symbols_of k buf.old) from to by }
 {
-    let mut i = to;
-    while from < i {
-        i -= 1;
+    for i in (from..to).rev() {
         let y = symbol::get(k, buf, i);
         symbol::put(k, buf, i + by, y);
     }
@@ -35,10 +31,8 @@ pub fn down(k: u8, buf: &mut [u8], from: usize, to: usize, by: usize)
     requires { (Width k) × (by ≤ from) × (from ≤ to) × (to ≤ length (symbols_of k buf.old)) }
     ensures { symbols_of k buf.new ≡ moved_down (symbols_of k buf.old) from to by }
 {
-    let mut i = from;
-    while i < to {
+    for i in from..to {
         let y = symbol::get(k, buf, i);
         symbol::put(k, buf, i - by, y);
-        i += 1;
     }
 }

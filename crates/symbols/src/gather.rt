@@ -22,10 +22,8 @@ pub fn join_all(k: u8, row: &[u8]) -> u32
     ensures { Joins k row.now result }
 {
     let mut bits: u32 = 0;
-    let mut i = 0;
-    while i < row.len() {
-        bits = (bits << k) + row[i] as u32;
-        i += 1;
+    for y in row {
+        bits = (bits << k) + u32::from(*y);
     }
     bits
 }
@@ -48,7 +46,7 @@ pub fn begin(k: u8, buf: &[u8], p: usize) -> Gather
     }
     let low = 8 - k * (count as u8);
     Gather {
-        bits: (buf[next] >> low) as u64,
+        bits: u64::from(buf[next] >> low),
         count,
         next,
     }
@@ -76,19 +74,17 @@ fn store(k: u8, g: Gather, buf: &mut [u8]) -> Gather
     ensures { Added k g buf.old [] result buf.new }
 {
     let per = bits::per_byte(k);
-    let wide = k as usize;
-    let bits = g.bits;
+    let wide = usize::from(k);
+    let end = g.next + bits::byte_of(k, g.count);
     let mut count = g.count;
-    let mut next = g.next;
-    while per <= count {
+    for next in g.next..end {
         count -= per;
-        buf[next] = piece(bits, wide * count, 8);
-        next += 1;
+        buf[next] = piece(g.bits, wide * count, 8);
     }
     Gather {
-        bits: lowest(bits, wide * count),
+        bits: lowest(g.bits, wide * count),
         count,
-        next,
+        next: end,
     }
 }
 
@@ -98,7 +94,7 @@ pub fn add(k: u8, g: Gather, buf: &mut [u8], bits: u32, count: usize) -> Gather
     ensures { Added k g buf.old (digits (2 ^ k) count bits) result buf.new }
 {
     let all = Gather {
-        bits: (g.bits << (k as usize * count)) + bits as u64,
+        bits: (g.bits << (usize::from(k) * count)) + u64::from(bits),
         count: g.count + count,
         next: g.next,
     };
@@ -114,10 +110,8 @@ pub fn add_each(k: u8, g: Gather, buf: &mut [u8], row: &[u8]) -> Gather
     ensures { Added k g buf.old row.now result buf.new }
 {
     let mut all = g;
-    let mut i = 0;
-    while i < row.len() {
-        all = add(k, all, buf, row[i] as u32, 1);
-        i += 1;
+    for y in row {
+        all = add(k, all, buf, u32::from(*y), 1);
     }
     all
 }
@@ -128,13 +122,9 @@ pub fn finish(k: u8, g: Gather, buf: &mut [u8])
     ensures { symbols_of k buf.new ≡ over (symbols_of k buf.old) (g.next * per k) (digits (2 ^ k) g.count g.bits) (up_to k g) }
 {
     let first = g.next * bits::per_byte(k);
-    let wide = k as usize;
-    let bits = g.bits;
-    let count = g.count;
-    let mut i = 0;
-    while i < count {
-        let y = piece(bits, wide * (count - 1 - i), wide);
+    let wide = usize::from(k);
+    for i in 0..g.count {
+        let y = piece(g.bits, wide * (g.count - 1 - i), wide);
         symbol::put(k, buf, first + i, y);
-        i += 1;
     }
 }

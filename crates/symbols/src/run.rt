@@ -22,7 +22,7 @@ pub fn clear(k: u8, buf: &mut [u8], from: usize, to: usize)
     }
     let per = bits::per_byte(k);
     each::clear(k, buf, from, first * per);
-    whole::clear(buf, first, last);
+    buf[first..last].fill(0);
     each::clear(k, buf, last * per, to);
 }
 
@@ -73,12 +73,5 @@ pub fn all_zero(k: u8, buf: &[u8], from: usize, to: usize) -> bool
     requires { (Width k) × (from ≤ to) × (to ≤ length (symbols_of k buf.now)) }
     ensures { result ≡ all_zero (run (symbols_of k buf.now) from to) }
 {
-    let mut i = from;
-    while i < to {
-        if get(k, buf, i) != 0 {
-            return false;
-        }
-        i += 1;
-    }
-    true
+    (from..to).all(|i| get(k, buf, i) == 0)
 }

@@ -40,6 +40,5 @@ pub fn room_of(k: u8, bytes: usize) -> usize
     if limit <= bytes {
         return limit;
     }
-    let all = bytes * bits::per_byte(k);
-    if limit <= all { limit } else { all }
+    (bytes * bits::per_byte(k)).min(limit)
 }

@@ -1,7 +1,7 @@
-// Whole bytes: one read from any symbol on, and runs of them cleared or moved.
+// Whole bytes: one read from any symbol on, and runs of them moved: the `up` and `down` of `each`, in bytes in place of symbols.
 ghost use Rattle.std.specs.Prelude.{◌≡◌, [], ◌∷◌, ◌+◌, ◌-◌, ◌*◌, ◌≤◌, ◌<◌, length};
 ghost use Rattle.ground.specs.Paper.Runs.{run};
-ghost use Rattle.ground.specs.Helpers.Moved.{cleared, moved_up, moved_down};
+ghost use Rattle.ground.specs.Helpers.Moved.{moved_up, moved_down};
 ghost use Rattle.symbols.specs.Paper.Symbols.{per, symbols_of};
 ghost use Rattle.symbols.specs.Helpers.Widths.{Width};
 
@@ -18,17 +18,6 @@ pub fn window(k: u8, buf: &[u8], j: usize, place: u8) -> u8
     bits::join(buf[j], buf[j + 1], k * place)
 }
 
-pub fn clear(buf: &mut [u8], first: usize, last: usize)
-    requires { (first ≤ last) × (last ≤ length buf.old) }
-    ensures { buf.new ≡ cleared buf.old first last }
-{
-    let mut j = first;
-    while j < last {
-        buf[j] = 0;
-        j += 1;
-    }
-}
-
 // The bytes from `first` to `last` take the symbols that stand `by` places below them.
 pub fn up(k: u8, buf: &mut [u8], first: usize, last: usize, by: usize)
     requires { (Width k) × (first ≤ last) × (by ≤ first * per k) × (last ≤ length buf.old) }
@@ -36,9 +25,7 @@ pub fn up(k: u8, buf: &mut [u8], first: usize, last: usize, by: usize)
 {
     let back = size::bytes_for(k, by);
     let place = size::unused(k, by) as u8;
-    let mut j = last;
-    while first < j {
-        j -= 1;
+    for j in (first..last).rev() {
         buf[j] = window(k, buf, j - back, place);
     }
 }
@@ -50,9 +37,7 @@ pub fn down(k: u8, buf: &mut [u8], first: usize, last: usize, by: usize)
 {
     let ahead = bits::byte_of(k, by);
     let place = bits::place_in_byte(k, by) as u8;
-    let mut j = first;
-    while j < last {
+    for j in first..last {
         buf[j] = window(k, buf, j + ahead, place);
-        j += 1;
     }
 }

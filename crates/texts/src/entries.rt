@@ -8,7 +8,7 @@ ghost use Rattle.texts.specs.Paper.Directory.{entries};
 pub fn entries_for(n: u32) -> usize
     ensures { result ≡ entries n }
 {
-    (n as usize + 31) / 32
+    (n as usize).div_ceil(32)
 }
 
 // The entries from `from` up to `to` are cleared, if there are any.
@@ -16,9 +16,7 @@ pub fn clear_entries(dir: &mut [u32], from: usize, to: usize)
     requires { to ≤ length dir.old }
     ensures { dir.new ≡ over dir.old from (zeros (to - from)) (from + (to - from)) }
 {
-    let mut i = from;
-    while i < to {
-        dir[i] = 0;
-        i += 1;
+    if from < to {
+        dir[from..to].fill(0);
     }
 }

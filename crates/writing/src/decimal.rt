@@ -10,11 +10,11 @@ pub fn decimal_out(out: &mut [u8], at: usize, n: u64) -> usize
     ensures out { out.new ≡ over out.old at (decimal n) (at + length (decimal n)) }
 {
     if n < 10 {
-        out[at] = 48 + n as u8;
+        out[at] = b'0' + n as u8;
         return at + 1;
     }
     let last = decimal_out(out, at, n / 10);
-    out[last] = 48 + (n % 10) as u8;
+    out[last] = b'0' + (n % 10) as u8;
     last + 1
 }
 
@@ -25,12 +25,10 @@ pub fn numbers_out(out: &mut [u8], at: usize, numbers: &[u32]) -> usize
     ensures out { out.new ≡ over out.old at (number_lines numbers.now) (at + length (number_lines numbers.now)) }
 {
     let mut p = at;
-    let mut i = 0;
-    while i < numbers.len() {
-        p = decimal_out(out, p, numbers[i] as u64);
-        out[p] = 10;
+    for n in numbers {
+        p = decimal_out(out, p, u64::from(*n));
+        out[p] = b'\n';
         p += 1;
-        i += 1;
     }
     p
 }

@@ -8,7 +8,7 @@ fn glyph_of(d: u8) -> u8
     requires { d < 16 }
     ensures { result ≡ glyph d }
 {
-    if d < 10 { 48 + d } else { 87 + d }
+    if d < 10 { b'0' + d } else { b'a' + (d - 10) }
 }
 
 // A byte in hexadecimal.
@@ -29,35 +29,22 @@ pub fn row_out(out: &mut [u8], at: usize, bytes: &[u8]) -> usize
     ensures out { out.new ≡ over out.old at (hex_row bytes.now) (at + length (hex_row bytes.now)) }
 {
     let mut p = at;
-    let mut i = 0;
-    while i < bytes.len() {
-        p = byte_out(out, p, bytes[i]);
-        i += 1;
+    for b in bytes {
+        p = byte_out(out, p, *b);
     }
     p
 }
 
-// Bytes in hexadecimal, 32 a line; `column` stand on the line already.
+// Bytes in hexadecimal, 32 a line.
 pub fn hex_out(out: &mut [u8], at: usize, bytes: &[u8]) -> usize
     requires { at + length (hex_lines bytes.now) ≤ length out.old }
     ensures next { result ≡ at + length (hex_lines bytes.now) }
     ensures out { out.new ≡ over out.old at (hex_lines bytes.now) (at + length (hex_lines bytes.now)) }
 {
     let mut p = at;
-    let mut i = 0;
-    let mut column: usize = 0;
-    while i < bytes.len() {
-        p = byte_out(out, p, bytes[i]);
-        i += 1;
-        column += 1;
-        if column == 32 {
-            out[p] = 10;
-            p += 1;
-            column = 0;
-        }
-    }
-    if 0 < column {
-        out[p] = 10;
+    for line in bytes.chunks(32) {
+        p = row_out(out, p, line);
+        out[p] = b'\n';
         p += 1;
     }
     p

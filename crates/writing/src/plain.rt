@@ -8,10 +8,7 @@ pub fn text_out(out: &mut [u8], at: usize, text: &[u8]) -> usize
     ensures next { result ≡ at + length text.now }
     ensures out { out.new ≡ over out.old at text.now (at + length text.now) }
 {
-    let mut i = 0;
-    while i < text.len() {
-        out[at + i] = text[i];
-        i += 1;
-    }
-    at + i
+    let end = at + text.len();
+    out[at..end].copy_from_slice(text);
+    end
 }

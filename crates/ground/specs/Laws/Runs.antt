@@ -1,5 +1,5 @@
 -- Runs cut out of a row and laid over it, one after the other; and a row in place of what another used.
-use Rattle.std.specs.Prelude.{◌≡◌, refl, List, [], ◌∷◌, ◌++◌, ◌≢◌, true, false, ℕ, zero, suc, ◌+◌, ◌-◌, ◌≤◌, ◌<◌, length, take, drop, get_or, set, T}
+use Rattle.std.specs.Prelude.{◌≡◌, refl, List, [], ◌∷◌, ◌++◌, ◌≢◌, true, false, ℕ, zero, suc, ◌+◌, ◌-◌, ◌≤◌, ◌<◌, length, take, drop, get_or, set, replicate, T}
 use Rattle.std.proofs.Common.{sym, ap₂, ◌∙◌, append_assoc, add-one, arith, eq-eqb, ne_eqb, length-append, length-drop, take-append-drop, take_at, drop_at, take-take, drop-drop, take-add, take-suc, drop-cons, length-take-le, take_all, get_or-drop}
 use Rattle.std.proofs.Math.Path.{ap}
 use Rattle.std.proofs.Math.Nat.{sub_self, sub-zero, zero-sub, suc-sub-suc}
@@ -102,6 +102,20 @@ run_after row at xs end from to fits inside h = ap (take (to - from)) (drop_past
 -- an empty run laid over
 pub over_none : (row : List ℕ) (n : ℕ) → over row n [] n ≡ row
 over_none row n = take-append-drop n row
+
+-- a part written anew, and one filled with 0
+pub part_over : (row : List ℕ) (from : ℕ) (xs : List ℕ) (to : ℕ) → from ≤ to
+    → take from row ++ (xs ++ drop (to - from) (drop from row)) ≡ over row from xs to
+part_over row from xs to h =
+    let e : from + (to - from) ≡ to = omega arith in
+    rw (drop-drop, e)
+
+pub part_filled : (row xs : List ℕ) (from to : ℕ) → from ≤ to → to ≤ length row → xs ≡ replicate (length (take (to - from) (drop from row))) 0
+    → take from row ++ (xs ++ drop (to - from) (drop from row)) ≡ cleared row from to
+unfolding zeros
+part_filled row xs from to h inside e =
+    let n : length (take (to - from) (drop from row)) ≡ to - from = length-take-le (to - from) (drop from row) (rw length-drop (omega arith)) in
+    part_over row from xs to h ∙ rw (e, n)
 
 run_none : (row : List ℕ) (n : ℕ) → run row n n ≡ []
 run_none row n = rw sub_self

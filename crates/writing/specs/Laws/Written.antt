@@ -184,6 +184,28 @@ module _ (bytes : List ℕ) (column i : ℕ) (h : length bytes ≤ i) where
   pub hex_done : column ≤ 0 → hex_from column (drop i bytes) ≡ []
   hex_done l = rw (drop_of_length-le bytes h) (hex_none column l)
 
+-- bytes up to the end of a line, or up to the last
+hex_upto : (i : ℕ) (line rest : List ℕ) → 0 < length line → i + length line ≤ 32 → (i + length line < 32 → rest ≡ [])
+    → hex_from i (line ++ rest) ≡ hex_row line ++ (10 ∷ hex_from 0 rest)
+unfolding hex_row
+hex_upto i [] rest h l e = absurd (not-suc-le-zero h)
+hex_upto i (b ∷ []) rest h l e =
+    elim (dec_lt i 31) [
+      | yes more ↦
+          let none : rest ≡ [] = e (omega arith) in
+          hex_goes i b rest (λ f. omega arith) ∙ rw (none, hex_line (suc i) (omega arith), hex_none 0 (omega arith))
+      | no full ↦ hex_ends i b rest (omega arith)
+    ]
+hex_upto i (b ∷ c ∷ line) rest h l e =
+    hex_goes i b ((c ∷ line) ++ rest) (λ f. omega arith)
+    ∙ ap (λ (r : List ℕ). hex_of b ++ r) (hex_upto (suc i) (c ∷ line) rest (omega arith) (omega arith) (λ more. e (omega arith)))
+    ∙ sym (append_assoc (hex_of b) (hex_row (c ∷ line)) (10 ∷ hex_from 0 rest))
+
+-- a line, and those behind it: it is full, or the last
+pub hex_first : (line rest : List ℕ) → 0 < length line → length line ≤ 32 → (length line < 32 → rest ≡ [])
+    → hex_lines (line ++ rest) ≡ hex_row line ++ (10 ∷ hex_lines rest)
+hex_first line rest h l e = hex_upto 0 line rest h (omega arith) (λ more. e (omega arith))
+
 -- ---- lengths
 
 few : (f n k : ℕ) → 0 < k → n < 10 ^ k → length (decimal_in f n) ≤ k

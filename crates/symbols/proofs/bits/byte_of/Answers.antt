@@ -1,13 +1,9 @@
 -- `symbols::bits::byte_of` meets its contract.
 use mathlib.Core.Path.{◌≡◌, refl}
-use Prim.Native.Nat.{◌-◌, ◌/◌, ◌^◌, ◌≤◌}
-use native.Mathlib.Omega.{arith}
+use Prim.Native.Nat.{◌-◌, ◌/◌, ◌^◌}
 use Rattle.symbols.specs.Paper.Symbols.{per}
 use Rattle.symbols.specs.Laws.Width.{by_width}
 use Rattle.symbols.proofs.bits.byte_of.Goals as goal
-
-pub overflow_sub-result : goal.overflow_sub-result
-overflow_sub-result c = by_width (λ k. k / 2 ≤ 3) c.requires (omega arith) (omega arith)
 
 pub returns : goal.returns
 unfolding per

@@ -1,13 +1,7 @@
-use mathlib.Core.Path.{◌≡◌}
-use Prim.Native.Nat.{◌-◌, ◌≤◌}
-use lib.ListN.{length}
+use Rattle.std.proofs.Common.{◌≡◌, ◌≤◌}
 use Rattle.ground.specs.Helpers.Moved.{moved_up}
 use Rattle.symbols.specs.Paper.Symbols.{symbols_of}
 use Rattle.symbols.proofs.each.up.Given as goal
 
 abbrev pub invariant-loop-i : goal.invariant-loop-i
-invariant-loop-i l =
-    (l.from ≤ l.i) × (l.i ≤ l.to) × (length l.buf ≡ length l.initial.buf) × (symbols_of l.k l.buf ≡ moved_up (symbols_of l.k l.initial.buf) l.i l.to l.by)
-
-abbrev pub decreases-loop-i : goal.decreases-loop-i
-decreases-loop-i l = l.i
+invariant-loop-i l = (l.from ≤ l.i) × (symbols_of l.k l.buf ≡ moved_up (symbols_of l.k l.initial.buf) l.i l.to l.by)

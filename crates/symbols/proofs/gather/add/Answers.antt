@@ -1,46 +1,52 @@
 -- `symbols::gather::add` meets its contract.
-use mathlib.Core.Path.{◌≡◌, refl, ◌∙◌}
-use mathlib.Core.List.{◌++◌, append-nil}
-use Prim.Native.Nat.{◌+◌, ◌*◌, ◌%◌, ◌^◌, ◌≤◌, ◌<◌}
-use native.Mathlib.Omega.{arith}
-use lib.ListN.{take}
+use Rattle.std.proofs.Common.{◌≡◌, ◌++◌, ◌+◌, ◌*◌, ◌%◌, ◌^◌, ◌≤◌, ◌<◌, ℕ, List, refl, ◌∙◌, append-nil, take, arith}
 use lib.Pow.{pow_mono, shl_exact}
 use Rattle.symbols.specs.Paper.Symbols.{per, symbols_of}
-use Rattle.symbols.specs.Helpers.Gathered.{digits, gathered}
+use Rattle.symbols.specs.Helpers.Gathered.{digits, gathered, Waiting}
+use Rattle.symbols.specs.Helpers.Widths.{Width}
 use Rattle.symbols.specs.Laws.Gathered.{digits_length, bits_under, joined_small, waiting_more}
 use Rattle.symbols.specs.Laws.Width.{by_width, per_few}
+use Rattle.symbols.specs.declared.gather.Gather.{Gather}
 use Rattle.symbols.proofs.gather.add.Goals as goal
-use Rattle.symbols.proofs.gather.add.Lts as Places
-use Rattle.symbols.proofs.gather.add.Reads as Clauses
-use Rattle.symbols.proofs.gather.add.Tie as tie
 
--- what is known at these places
-abbrev Start : Type 0
-Start = Places.Start tie.the-claims Clauses.Pre Clauses.Post
+-- a row of `count` symbols behind those that wait
+module _ {k : ℕ} (w : Width k) {g : Gather} {buf : List ℕ} (count bits : ℕ) (h : Waiting k g buf count) (most : count ≤ 8) (l : bits < 2 ^ (k * count)) where
+  -- the bits of the row, and of all that wait
+  few : k * count ≤ 32
+  few = by_width (λ k. k * count ≤ 32) w (omega arith) (omega arith)
 
--- the bits of the row, and of all that wait
-few : (c : Start) → c.args.k * c.args.count ≤ 32
-few c = by_width (λ k. k * c.args.count ≤ 32) c.requires.0 (omega arith) (omega arith)
+  all_few : k * (g.count + count) ≤ 64
+  all_few = omega (arith, few, bits_under w 4 h.few)
 
-all_few : (c : Start) → c.args.k * c.args.g.count + c.args.k * c.args.count ≤ 64
-all_few c = omega (arith, few c, bits_under c.requires.0 4 c.requires.1.few)
+  -- nothing is shifted out
+  shifted : (g.bits * 2 ^ (k * count)) % 2 ^ 64 ≡ g.bits * 2 ^ (k * count)
+  shifted = shl_exact (k * g.count) (k * count) 64 h.small (omega (arith, all_few))
 
--- nothing is shifted out
-shifted : (c : Start) → (c.args.g.bits * 2 ^ (c.args.k * c.args.count)) % 2 ^ 64 ≡ c.args.g.bits * 2 ^ (c.args.k * c.args.count)
-shifted c = shl_exact (c.args.k * c.args.g.count) (c.args.k * c.args.count) 64 c.requires.1.small (all_few c)
+  small : (g.bits * 2 ^ (k * count)) % 2 ^ 64 + bits < 2 ^ (k * (g.count + count))
+  small = rw shifted (joined_small k g.count count g.bits bits h.small l)
 
-small : (c : Start) → c.args.g.bits * 2 ^ (c.args.k * c.args.count) + c.args.bits < 2 ^ (c.args.k * (c.args.g.count + c.args.count))
-small c = joined_small c.args.k c.args.g.count c.args.count c.args.g.bits c.args.bits c.requires.1.small c.requires.3
+  fits : (g.bits * 2 ^ (k * count)) % 2 ^ 64 + bits < 2 ^ 64
+  fits = omega (arith, small, pow_mono all_few)
 
--- the row fills four bytes at most
-many : (c : Start) → c.args.count ≤ 4 * per c.args.k
-unfolding per
-many c = by_width (λ k. c.args.count ≤ 4 * per k) c.requires.0 (omega arith) (omega arith)
+  -- the row fills four bytes at most
+  many : count ≤ 4 * per k
+  unfolding per
+  many = by_width (λ k. count ≤ 4 * per k) w (omega arith) (omega arith)
+
+  -- all that wait, as one number
+  joined : (front : List ℕ)
+      → front ++ digits (2 ^ k) (g.count + count) ((g.bits * 2 ^ (k * count)) % 2 ^ 64 + bits)
+      ≡ (front ++ digits (2 ^ k) g.count g.bits) ++ digits (2 ^ k) count bits
+  joined front = rw shifted (waiting_more k g.count count g.bits bits front l)
+
+pub overflow_mul-all : goal.overflow_mul-all
+overflow_mul-all c = rw c.from.ensures (omega (arith, few c.requires.0 c.args.count c.args.bits c.requires.1 c.requires.2 c.requires.3))
+
+pub overflow_shl-all : goal.overflow_shl-all
+overflow_shl-all c = rw c.from.ensures (omega (arith, few c.requires.0 c.args.count c.args.bits c.requires.1 c.requires.2 c.requires.3))
 
 pub overflow_add-all : goal.overflow_add-all
-overflow_add-all c =
-    let h : c.args.k * (c.args.g.count + c.args.count) ≤ 64 = omega (arith, all_few c.before.before.before) in
-    omega (arith, shifted c.before.before.before, small c.before.before.before, pow_mono h)
+overflow_add-all c = rw (c.from.ensures, c.from-2.ensures) (omega (arith, fits c.requires.0 c.args.count c.args.bits c.requires.1 c.requires.2 c.requires.3))
 
 pub overflow_mul-per_byte : goal.overflow_mul-per_byte
 overflow_mul-per_byte c = omega (arith, c.per_byte.ensures, per_few c.requires.0)
@@ -49,22 +55,20 @@ pub returns-then-all-per_byte : goal.returns-then-all-per_byte
 unfolding gathered
 returns-then-all-per_byte c =
     let k = c.args.k in
-    let g = c.args.g in record {
+    rw (c.from.ensures, c.from-2.ensures) record {
       few = rw c.per_byte.ensures at c.if-all-per_byte.true;
-      small = rw (shifted c.before.before.before.before.before.before.before) (small c.before.before.before.before.before.before.before);
+      small = small c.requires.0 c.args.count c.args.bits c.requires.1 c.requires.2 c.requires.3;
       onward = omega arith;
       upto = rw digits_length (omega arith);
-      symbols =
-          rw (shifted c.before.before.before.before.before.before.before)
-          (waiting_more k g.count c.args.count g.bits c.args.bits (symbols_of k (take g.next c.args.buf.now)) c.requires.3);
+      symbols = joined c.requires.0 c.args.count c.args.bits c.requires.1 c.requires.2 c.requires.3 (symbols_of k (take c.args.g.next c.args.buf.now));
       rest = refl;
     }
 
 pub store-requires : goal.store-requires
 store-requires c = (
   c.requires.0,
-  omega (arith, c.requires.1.few, c.per_byte.ensures, many c.before.before.before.before.before.before.before),
-  rw (shifted c.before.before.before.before.before.before.before) (small c.before.before.before.before.before.before.before),
+  omega (arith, c.requires.1.few, c.per_byte.ensures, many c.requires.0 c.args.count c.args.bits c.requires.1 c.requires.2 c.requires.3),
+  rw (c.from.ensures, c.from-2.ensures) (small c.requires.0 c.args.count c.args.bits c.requires.1 c.requires.2 c.requires.3),
   omega (arith, c.requires.1.within),
 )
 
@@ -72,24 +76,14 @@ pub returns : goal.returns
 unfolding gathered
 returns c =
     let k = c.args.k in
-    let g = c.args.g in
-    let r = c.store.result in
-    let front = symbols_of k (take g.next c.args.buf.now) in
-    let row = digits (2 ^ k) c.args.count c.args.bits in
-    let joined : gathered k r c.store.new.buf ≡ (front ++ digits (2 ^ k) g.count g.bits) ++ row
-    = (rw (append-nil, shifted c.before.before.before.before.before.before.before.before.before.before.before) at c.store.ensures.symbols)
-    ∙ waiting_more k g.count c.args.count g.bits c.args.bits front c.requires.3 in
+    let s = c.store.ensures in
     record {
-      few = c.store.ensures.few;
-      small = c.store.ensures.small;
-      onward = c.store.ensures.onward;
-      upto = rw digits_length (omega (arith, c.store.ensures.upto));
-      symbols = joined;
-      rest = c.store.ensures.rest;
+      few = s.few;
+      small = s.small;
+      onward = s.onward;
+      upto = rw digits_length (omega (arith, s.upto));
+      symbols =
+          (rw (append-nil, c.from.ensures, c.from-2.ensures) at s.symbols)
+          ∙ joined c.requires.0 c.args.count c.args.bits c.requires.1 c.requires.2 c.requires.3 (symbols_of k (take c.args.g.next c.args.buf.now));
+      rest = s.rest;
     }
-
-pub overflow_mul-all : goal.overflow_mul-all
-overflow_mul-all c = omega (arith, few c.before.before)
-
-pub overflow_shl-all : goal.overflow_shl-all
-overflow_shl-all c = omega (arith, few c.before.before.before)

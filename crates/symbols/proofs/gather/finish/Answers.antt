@@ -1,67 +1,50 @@
--- `symbols::gather::finish` meets its contract. The symbols passed are laid over the row.
-use mathlib.Core.Path.{◌≡◌, refl, sym, ap₂, ◌∙◌}
-use mathlib.Core.List.{List}
-use Prim.Native.Nat.{ℕ, ◌+◌, ◌-◌, ◌*◌, ◌/◌, ◌%◌, ◌^◌, ◌≤◌, ◌<◌}
-use native.Mathlib.Nat.{add-zero, sub_self, mul-zero, pow-zero, div-one, mod-lt}
-use native.Mathlib.Omega.{arith}
-use lib.ListN.{length}
-use lib.Pow.{pow_pos}
+-- `symbols::gather::finish` meets its contract: the symbols passed are laid over the row.
+use Rattle.std.proofs.Common.{◌≡◌, ◌+◌, ◌-◌, ◌*◌, ◌/◌, ◌%◌, ◌^◌, ◌≤◌, ◌<◌, ℕ, List, sym, ap₂, ◌∙◌, length, arith, add-zero, mul-zero, div-one, mod-lt, pow_pos}
+use Rattle.std.proofs.Math.Nat.{sub_self, pow-zero}
 use Rattle.ground.specs.Paper.Runs.{over}
 use Rattle.ground.specs.Laws.Runs.{over_none, over_more}
-use Rattle.symbols.specs.Paper.Symbols.{symbols_of}
-use Rattle.symbols.specs.Helpers.Gathered.{digits}
+use Rattle.symbols.specs.Paper.Symbols.{per, symbols_of}
+use Rattle.symbols.specs.Helpers.Gathered.{digits, Waiting}
+use Rattle.symbols.specs.Helpers.Widths.{Width}
 use Rattle.symbols.specs.Laws.Gathered.{digits_length, bits_under, laid_more}
 use Rattle.symbols.specs.Laws.Rows.{symbols_even}
 use Rattle.symbols.specs.Laws.Width.{narrow}
+use Rattle.symbols.specs.declared.gather.Gather.{Gather}
 use Rattle.symbols.proofs.gather.finish.Goals as goal
-use Rattle.symbols.proofs.gather.finish.Lts as Places
-use Rattle.symbols.proofs.gather.finish.Reads as Clauses
-use Rattle.symbols.proofs.gather.finish.Tie as tie
 
--- what is known at these places
-abbrev At-loop-i : Type 0
-At-loop-i = Places.At-loop tie.the-claims Clauses.Pre Clauses.Post goal.the-invariant-loop-i goal.the-decreases-loop-i
+-- what waits is within the number, and has its place in the row
+module _ {k : ℕ} (w : Width k) {g : Gather} {buf : List ℕ} (h : Waiting k g buf 0) where
+  within : (n : ℕ) → n ≤ g.count → k * n < 4 * 8
+  within n l = bits_under w 4 (omega (arith, h.few))
 
-abbrev In-loop-i : Type 0
-In-loop-i = Places.In-loop tie.the-claims Clauses.Pre Clauses.Post goal.the-invariant-loop-i goal.the-decreases-loop-i
-
--- the bits of those that are left are within the number
-within : (c : At-loop-i) (n : ℕ) → n ≤ c.args.g.count
-    → c.args.k * n < 4 * 8
-within c n h =
-    bits_under c.requires.0 4 (omega (arith, c.requires.1.few))
-
--- a symbol that waits has its place in the row
-there : (c : In-loop-i)
-    → (c.args.g.next * c.per_byte.result + c.loop-i.i < 2 ^ 64)
-    × (c.args.g.next * c.per_byte.result + c.loop-i.i
-    < length (symbols_of c.args.k c.args.buf.now))
-there c =
-    rw c.per_byte.ensures
-    (omega (arith, c.requires.1.counts), omega (arith, c.requires.1.within))
+  there : (i : ℕ) → i < g.count → g.next * per k + i < length (symbols_of k buf)
+  there i l = omega (arith, h.within)
 
 pub overflow_mul-first : goal.overflow_mul-first
 overflow_mul-first c = rw c.per_byte.ensures (omega (arith, c.requires.1.counts))
 
 pub loop-i-init : goal.loop-i-init
 unfolding digits
-loop-i-init c =
-    (omega arith, refl, sym (rw add-zero (over_none (symbols_of c.args.k c.args.buf.now) (c.args.g.next * c.per_byte.result))))
+loop-i-init c = sym (rw add-zero (over_none (symbols_of c.args.k c.args.buf.now) (c.args.g.next * c.per_byte.result)))
+
+pub overflow_add-first : goal.overflow_add-first
+overflow_add-first c = rw c.per_byte.ensures (omega (arith, c.requires.1.counts))
 
 pub overflow_mul-wide : goal.overflow_mul-wide
-overflow_mul-wide c =
-    omega (arith, within c.before (c.args.g.count - 1 - c.loop-i.i) (omega arith))
+overflow_mul-wide c = rw c.from-wide.ensures (omega (arith, within c.requires.0 c.requires.1 (c.args.g.count - 1 - c.loop-i.i) (omega arith)))
 
 pub piece-y-requires : goal.piece-y-requires
 piece-y-requires c =
-    (omega (arith, within c.before (c.args.g.count - 1 - c.loop-i.i) (omega arith)), omega (arith, narrow c.requires.0))
+    let w = c.requires.0 in
+    rw c.from-wide.ensures (omega (arith, within w c.requires.1 (c.args.g.count - 1 - c.loop-i.i) (omega arith)), omega (arith, narrow w))
 
 pub put-requires : goal.put-requires
 put-requires c =
     let k = c.args.k in (
       c.requires.0,
-      omega (arith, (there c.before.before).1, symbols_even k c.loop-i.buf c.args.buf.now c.loop-i.invariant.1),
-      rw c.piece-y.ensures (mod-lt (c.args.g.bits / 2 ^ (k * (c.args.g.count - 1 - c.loop-i.i))) (pow_pos k)),
+      rw c.per_byte.ensures
+          (omega (arith, there c.requires.0 c.requires.1 c.loop-i.i c.loop-i-test.true, symbols_even k c.loop-i.buf c.args.buf.now c.loop-i.auto.buf)),
+      rw (c.piece-y.ensures, c.from-wide.ensures) (mod-lt (c.args.g.bits / 2 ^ (k * (c.args.g.count - 1 - c.loop-i.i))) (pow_pos k)),
     )
 
 pub loop-i-preserved : goal.loop-i-preserved
@@ -76,27 +59,15 @@ loop-i-preserved c =
     let f : c.args.g.count - (i + 1) ≡ n = omega arith in
     let g : first + i + 1 ≡ first + (i + 1) = omega arith in
     let done = digits (2 ^ k) i (v / 2 ^ (k * (n + 1))) in
-    let before : symbols_of k c.loop-i.buf ≡ over row first done (first + i) = rw e at c.loop-i.invariant.2 in (
-      omega arith,
-      c.put.auto.buf ∙ c.loop-i.invariant.1,
-      rw f
-          (c.put.ensures
-          ∙ rw (c.piece-y.ensures, before)
-          (over_more row first done (first + i) (v / 2 ^ (k * n) % 2 ^ k) (omega (arith, digits_length (2 ^ k) i (v / 2 ^ (k * (n + 1)))))
-          (there c.before.before.before.before.before.before).1
-          ∙ ap₂ (λ (xs : List ℕ) (to : ℕ). over row first xs to) (sym (laid_more k i n v)) g)),
-    )
+    let before : symbols_of k c.loop-i.buf ≡ over row first done (first + i) = rw e at c.loop-i.invariant in
+    rw f
+    (c.put.ensures
+    ∙ rw (c.piece-y.ensures, c.from-wide.ensures, before)
+    (over_more row first done (first + i) (v / 2 ^ (k * n) % 2 ^ k) (omega (arith, digits_length (2 ^ k) i (v / 2 ^ (k * (n + 1)))))
+    (rw c.per_byte.ensures (there c.requires.0 c.requires.1 i c.loop-i-test.true))
+    ∙ ap₂ (λ (xs : List ℕ) (to : ℕ). over row first xs to) (sym (laid_more k i n v)) g))
 
 pub returns : goal.returns
 returns c =
     let e : c.loop-i.i ≡ c.args.g.count = omega arith in
-    rw (e, sub_self, mul-zero, pow-zero, div-one, c.per_byte.ensures) at c.loop-i.invariant.2
-
-pub per_byte-requires : goal.per_byte-requires
-per_byte-requires c = c.requires.0
-
-pub overflow_add-first : goal.overflow_add-first
-overflow_add-first c = omega (arith, (there c.before.before).0)
-
-pub shape_of-buf : goal.shape_of-buf
-shape_of-buf c = c.loop-i.invariant.1
+    rw (e, sub_self, mul-zero, pow-zero, div-one, c.per_byte.ensures) at c.loop-i.invariant

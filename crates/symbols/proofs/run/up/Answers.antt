@@ -1,30 +1,15 @@
 -- `symbols::run::up` meets its contract: three parts, the last first.
-use mathlib.Core.Path.{◌≡◌, ◌∙◌}
-use Prim.Native.Nat.{◌+◌, ◌-◌, ◌*◌, ◌≤◌}
-use native.Mathlib.Omega.{arith}
+use Rattle.std.proofs.Common.{◌≡◌, ◌+◌, ◌-◌, ◌*◌, ◌≤◌, ◌∙◌, arith}
 use Rattle.ground.specs.Helpers.Moved.{moved_up}
 use Rattle.ground.specs.Laws.Runs.{up_more}
 use Rattle.symbols.specs.Paper.Symbols.{symbols_of}
 use Rattle.symbols.specs.Laws.Rows.{symbols_even}
 use Rattle.symbols.proofs.Between.{Between, between}
 use Rattle.symbols.proofs.run.up.Goals as goal
-use Rattle.symbols.proofs.run.up.Lts as Places
-use Rattle.symbols.proofs.run.up.Reads as Clauses
-use Rattle.symbols.proofs.run.up.Tie as tie
-
--- what is known at these places
-abbrev After-per_byte-per : Type 0
-After-per_byte-per = Places.After-per_byte tie.the-claims Clauses.Pre Clauses.Post
+use Rattle.symbols.proofs.run.up.Goals.{After-per_byte-per}
 
 known : (c : After-per_byte-per)
-    → Between
-    c.args.k
-    c.args.buf.now
-    (c.args.from + c.args.by)
-    (c.args.to + c.args.by)
-    c.bytes_for-first.result
-    c.byte_of-last.result
-    c.per_byte-per.result
+    → let a = c.args in Between a.k a.buf.now (a.from + a.by) (a.to + a.by) c.bytes_for-first.result c.byte_of-last.result c.per_byte-per.result
 known c =
     between c.requires.0 c.args.buf.now _ _ _ _ _
     c.per_byte-per.ensures c.bytes_for-first.ensures c.byte_of-last.ensures
@@ -32,28 +17,25 @@ known c =
 
 pub up-requires-2 : goal.up-requires-2
 up-requires-2 c =
-    (c.requires.0, omega (arith, known c.before), c.requires.2, c.requires.3)
+    (c.requires.0, omega (arith, known (goal.at.up-requires-2 c).After-per_byte-per), c.requires.2, c.requires.3)
 
 pub up-requires-3 : goal.up-requires-3
 up-requires-3 c =
-    let far : c.args.by ≤ c.bytes_for-first.result * c.per_byte-per.result = omega (arith, known c.before.before.before.before.before) in (
-      c.requires.0,
-      omega (arith, c.if-last-first.false),
-      rw (known c.before.before.before.before.before).fill at far,
-      omega (arith, known c.before.before.before.before.before, c.up-2.auto.buf),
-    )
+    let b = known (goal.at.up-requires-3 c).After-per_byte-per in
+    let far : c.args.by ≤ c.bytes_for-first.result * c.per_byte-per.result = omega arith in
+    (c.requires.0, omega (arith, c.if-last-first.false), rw b.fill at far, omega (arith, c.up-2.auto.buf))
 
 pub overflow_mul-first : goal.overflow_mul-first
-overflow_mul-first c = omega (arith, known c.before.before.before.before.before.before.before.before.before)
+overflow_mul-first c = omega (arith, known (goal.at.overflow_mul-first c).After-per_byte-per)
 
 pub overflow_sub-first : goal.overflow_sub-first
-overflow_sub-first c = omega (arith, known c.before.before.before.before.before.before.before.before.before)
+overflow_sub-first c = omega (arith, known (goal.at.overflow_sub-first c).After-per_byte-per)
 
 pub up-requires-4 : goal.up-requires-4
 up-requires-4 c =
-    let even = symbols_even c.args.k c.up-3.new.buf c.args.buf.now
-    (c.up-3.auto.buf ∙ c.up-2.auto.buf) in
-    (c.requires.0, omega (arith, known c.before.before.before.before.before.before.before.before.before), omega (arith, known c.before.before.before.before.before.before.before.before.before, c.requires.2, even), omega (arith, known c.before.before.before.before.before.before.before.before.before, c.requires.3))
+    let b = known (goal.at.up-requires-4 c).After-per_byte-per in
+    let even = symbols_even c.args.k c.up-3.new.buf c.args.buf.now (c.up-3.auto.buf ∙ c.up-2.auto.buf) in
+    (c.requires.0, omega arith, omega (arith, c.requires.2), omega (arith, c.requires.3))
 
 pub returns : goal.returns
 returns c =
@@ -62,18 +44,18 @@ returns c =
     let first = c.bytes_for-first.result in
     let last = c.byte_of-last.result in
     let n = c.per_byte-per.result in
-    let b = known c.before.before.before.before.before.before.before.before.before.before.before.before.before in
+    let b = known (goal.at.returns c).After-per_byte-per in
     let by = c.args.by in
     let one = symbols_of k c.up-2.new.buf in
     let bytes : symbols_of k c.up-3.new.buf ≡ moved_up one (first * n - by) (last * n - by) by
     = rw b.fill c.up-3.ensures in
     let two = up_more row (first * n - by) (last * n - by) c.args.to by c.up-2.ensures bytes
-    (omega (arith, b)) (omega (arith, b)) c.requires.2 in
+    (omega arith) (omega arith) c.requires.2 in
     up_more row c.args.from (first * n - by) c.args.to by two c.up-4.ensures
-    (omega (arith, b)) (omega (arith, b)) c.requires.2
+    (omega arith) (omega arith) c.requires.2
 
 pub overflow_mul-last : goal.overflow_mul-last
-overflow_mul-last c = omega (arith, known c.before)
+overflow_mul-last c = omega (arith, known (goal.at.overflow_mul-last c).After-per_byte-per)
 
 pub overflow_sub-last : goal.overflow_sub-last
-overflow_sub-last c = omega (arith, known c.before)
+overflow_sub-last c = omega (arith, known (goal.at.overflow_sub-last c).After-per_byte-per)

@@ -47,4 +47,4 @@ join-requires c =
 pub returns : goal.returns
 returns c =
     rw c.join.ensures
-    (window_joined c.requires.0 c.args.buf.now c.args.j c.args.place c.requires.1 (c.shared_slice_known-3-1.given (c.args.j + 1)).fits c.requires.2)
+    (window_joined c.requires.0 c.args.buf.now c.args.j c.args.place c.requires.1 (c.type_inv.buf (c.args.j + 1)).fits c.requires.2)

@@ -1,16 +1,27 @@
 -- `texts::pattern::good_pattern` meets its contract.
-use borrow.Author.Tests.{le-leb, lt-leb}
-use Rattle.texts.specs.Paper.Hits.{good_pattern}
+use Rattle.std.proofs.Common.{◌≡◌, ◌≤◌, ◌<◌, ◌⊎◌, ℕ, Bool, not, ◌||◌, List, [], ◌∷◌, refl, ap, ◌∙◌, sym, length, eqb, rules}
+use borrow.Author.Tests.{le-leb}
+use Rattle.std.specs.List.{list_any}
+use Rattle.stopper.specs.Paper.Table.{has}
+use Rattle.texts.specs.Paper.Hits.{good_pattern, most_pattern}
+use Rattle.texts.specs.Laws.Patterns.{pattern_bad}
 use Rattle.texts.proofs.pattern.good_pattern.Goals as goal
 
-pub returns-then-pattern-le-MOST_PATTERN : goal.returns-then-pattern-le-MOST_PATTERN
-unfolding good_pattern
-returns-then-pattern-le-MOST_PATTERN c = rw (le-leb _ _ c.if-pattern-ge1.true, le-leb _ _ c.if-pattern-le-MOST_PATTERN.true) c.of_one_line.ensures
+any_has : (b : ℕ) (l : List ℕ) → list_any (λ x. eqb x b) l ≡ has b l
+unfolding has
+any_has b [] = refl
+any_has b (x ∷ l) = ap (λ (t : Bool). eqb x b || t) (any_has b l)
 
-pub returns-else-pattern-le-MOST_PATTERN : goal.returns-else-pattern-le-MOST_PATTERN
+pub returns-then-contains : goal.returns-then-contains
 unfolding good_pattern
-returns-else-pattern-le-MOST_PATTERN c = rw (le-leb _ _ c.if-pattern-ge1.true, lt-leb _ _ c.if-pattern-le-MOST_PATTERN.false)
+returns-then-contains c =
+    let pattern = c.args.pattern.now in
+    let low : 1 ≤ length pattern = search rules in
+    let high : length pattern ≤ most_pattern = search rules in
+    rw (le-leb _ _ low, le-leb _ _ high) (ap not (c.contains-then-contains.ensures.value ∙ any_has 10 pattern))
 
-pub returns-else-pattern-ge1 : goal.returns-else-pattern-ge1
-unfolding good_pattern
-returns-else-pattern-ge1 c = rw (lt-leb _ _ c.if-pattern-ge1.false)
+pub returns-else-contains : goal.returns-else-contains
+returns-else-contains c =
+    let pattern = c.args.pattern.now in
+    let out : (length pattern < 1) ⊎ (most_pattern < length pattern) = search rules in
+    c.if-contains.false ∙ sym (pattern_bad pattern out)

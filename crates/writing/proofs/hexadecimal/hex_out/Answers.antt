@@ -1,76 +1,43 @@
--- `writing::hexadecimal::hex_out` meets its contract: the bytes passed are put, `column` of them on the line that goes on.
-use Rattle.std.proofs.Common.{◌≡◌, ℕ, ◌+◌, ◌≤◌, ◌<◌, List, [], ◌∷◌, length, drop, get_or, arith}
-use Rattle.std.proofs.Math.ListN.{length-set}
-use Rattle.ground.specs.Paper.Runs.{over}
-use Rattle.writing.specs.Paper.Written.{hex_of, hex_from, hex_lines}
-use Rattle.writing.specs.Laws.Written.{Going, going_none, going_as, going_room, going_more, going_byte, going_all, hex_two, hex_last, hex_more, hex_done, hex_open}
+-- `writing::hexadecimal::hex_out` meets its contract: the lines passed are put.
+use Rattle.std.proofs.Common.{◌≡◌, ℕ, ◌+◌, ◌≤◌, ◌<◌, min, List, ◌∷◌, ◌++◌, ap, ◌∙◌, length, length-append, arith}
+use Rattle.std.proofs.lemmas.List.{nil_from_length}
+use Rattle.writing.specs.Paper.Written.{hex_row, hex_lines}
+use Rattle.writing.specs.Laws.Written.{going_as, going_room, going_next, going_more, going_byte, going_all, hex_first, hex_done}
 use Rattle.writing.proofs.hexadecimal.hex_out.Goals as goal
 
--- after a byte: the line is full, or goes on
-module _ (bytes : List ℕ) (column : ℕ) {old out out' : List ℕ} {at p q i : ℕ} (fits : at + length (hex_lines bytes) ≤ length old) (more : i < length bytes)
-    (g : Going (hex_lines bytes) old at out p (hex_from column (drop i bytes))) (e : q ≡ p + 2)
-    (r : out' ≡ over out p (hex_of (get_or bytes i 0)) (p + 2)) where
-  full : column + 1 ≡ 32 → Going (hex_lines bytes) old at out' q (10 ∷ hex_from 0 (drop (i + 1) bytes))
-  full l = going_more fits (hex_of (get_or bytes i 0)) (going_as (hex_last bytes column i more l) g) r e
+-- of the bytes that are left, the next line: it is full, or the last
+next_line : {left : List ℕ} (line rest : List ℕ) {size : ℕ} → size ≡ 32 → left ≡ line ++ rest → length line ≡ min size (length left) → 0 < length left
+    → hex_lines left ≡ hex_row line ++ (10 ∷ hex_lines rest)
+next_line {left} line rest e s n h =
+    let all : length left ≡ length line + length rest = ap length s ∙ length-append line rest in
+    ap hex_lines s ∙ hex_first line rest (omega arith) (omega arith) (λ short. nil_from_length rest (omega arith))
 
-  within : (column + 1 ≡ 32 → ⊥) → Going (hex_lines bytes) old at out' q (hex_from (column + 1) (drop (i + 1) bytes))
-  within l = going_more fits (hex_of (get_or bytes i 0)) (going_as (hex_more bytes column i more l) g) r e
-
--- after the last byte: a line that goes on
-last : (c : goal.Then-column-gt0)
-    → let a = c.args in
-    Going (hex_lines a.bytes.now) a.out.now a.at c.loop-i.out c.loop-i.p (10 ∷ [])
-last c =
-    let bytes = c.args.bytes.now in
-    going_as (hex_open bytes c.loop-i.column c.loop-i.i c.loop-i-test.false c.if-column-gt0.true) c.loop-i.invariant.2
-
-pub loop-i-init : goal.loop-i-init
-loop-i-init c =
-    let a = c.args in
-    (omega arith, omega arith, going_none (hex_lines a.bytes.now) a.out.now a.at)
-
-pub byte_out-p-requires : goal.byte_out-p-requires
-byte_out-p-requires c =
-    omega (arith, going_room c.requires c.loop-i.invariant.2, hex_two c.args.bytes.now c.loop-i.column c.loop-i.i (omega arith))
+pub row_out-p-requires : goal.row_out-p-requires
+row_out-p-requires c =
+    let line = c.in-Some.line.now in
+    let rest = c.next.new.self.rest.now in
+    let s = c.in-Some.ensures.steps.1 in
+    going_next c.requires (hex_row line) (10 ∷ hex_lines rest)
+    (going_as (next_line line rest c.loop-line.invariant.0 s.0 s.1 s.2) c.loop-line.invariant.1)
 
 pub bounds-out-p : goal.bounds-out-p
 bounds-out-p c =
-    omega (arith, going_room c.requires (full _ _ c.requires (omega arith) c.loop-i.invariant.2 c.byte_out-p.ensures.next c.byte_out-p.ensures.out (omega arith)))
+    let line = c.in-Some.line.now in
+    let s = c.in-Some.ensures.steps.1 in
+    let g = going_as (next_line line c.next.new.self.rest.now c.loop-line.invariant.0 s.0 s.1 s.2) c.loop-line.invariant.1 in
+    omega (arith, going_room c.requires (going_more c.requires (hex_row line) g c.row_out-p.ensures.out c.row_out-p.ensures.next))
 
-pub overflow_add-p : goal.overflow_add-p
-overflow_add-p c =
-    omega (arith, going_room c.requires (full _ _ c.requires (omega arith) c.loop-i.invariant.2 c.byte_out-p.ensures.next c.byte_out-p.ensures.out (omega arith)))
+pub loop-line-preserved : goal.loop-line-preserved
+loop-line-preserved c =
+    let line = c.in-Some.line.now in
+    let e = c.in-Some.ensures.steps in
+    let s = e.1 in
+    let g = going_as (next_line line c.next.new.self.rest.now c.loop-line.invariant.0 s.0 s.1 s.2) c.loop-line.invariant.1 in
+    (e.0 ∙ c.loop-line.invariant.0, going_byte c.requires (going_more c.requires (hex_row line) g c.row_out-p.ensures.out c.row_out-p.ensures.next))
 
-pub loop-i-preserved-then-column-eq32 : goal.loop-i-preserved-then-column-eq32
-loop-i-preserved-then-column-eq32 c =
-    (omega arith, omega arith, going_byte c.requires (full _ _ c.requires (omega arith) c.loop-i.invariant.2 c.byte_out-p.ensures.next c.byte_out-p.ensures.out (omega arith)))
-
-pub bounds-out-p-then-column-gt0 : goal.bounds-out-p-then-column-gt0
-bounds-out-p-then-column-gt0 c =
-    omega (arith, going_room c.requires (last c))
-
-pub overflow_add-p-then-column-gt0 : goal.overflow_add-p-then-column-gt0
-overflow_add-p-then-column-gt0 c =
-    omega (arith, going_room c.requires (last c))
-
-pub shape_of-out-then-column-gt0 : goal.shape_of-out-then-column-gt0
-shape_of-out-then-column-gt0 c =
-    simp length-set (going_room c.requires (last c)).1
-
-pub returns-then-column-gt0 : goal.returns-then-column-gt0
-returns-then-column-gt0 c =
-    let g = going_all c.requires (going_byte c.requires (last c)) in
+pub returns : goal.returns
+returns c =
+    let left = c.loop-line.line-iterator.rest.now in
+    let none : length left ≤ 0 = omega (arith, c.in-None.ensures.steps.1.0) in
+    let g = going_all c.requires (going_as (hex_done left 0 0 none (omega arith)) c.loop-line.invariant.1) in
     record { next = g.0; out = g.1 }
-
-pub shape_of-out-else-column-gt0 : goal.shape_of-out-else-column-gt0
-shape_of-out-else-column-gt0 c =
-    (going_room c.requires c.loop-i.invariant.2).1
-
-pub returns-else-column-gt0 : goal.returns-else-column-gt0
-returns-else-column-gt0 c =
-    let g = going_all c.requires
-    (going_as (hex_done c.args.bytes.now c.loop-i.column c.loop-i.i c.loop-i-test.false c.if-column-gt0.false) c.loop-i.invariant.2) in
-    record { next = g.0; out = g.1 }
-
-pub loop-i-preserved : goal.loop-i-preserved
-loop-i-preserved c = (omega arith, omega arith, within _ _ c.requires (omega arith) c.loop-i.invariant.2 c.byte_out-p.ensures.next c.byte_out-p.ensures.out (λ l. omega arith))

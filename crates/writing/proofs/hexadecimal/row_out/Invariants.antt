@@ -1,11 +1,7 @@
-use Prim.Native.Nat.{◌-◌, ◌≤◌}
-use lib.ListN.{length, drop}
+use Rattle.std.proofs.Common.{drop}
 use Rattle.writing.specs.Paper.Written.{hex_row}
 use Rattle.writing.specs.Laws.Written.{Going}
 use Rattle.writing.proofs.hexadecimal.row_out.Given as goal
 
-abbrev pub invariant-loop-i : goal.invariant-loop-i
-invariant-loop-i l = (l.i ≤ length l.bytes) × Going (hex_row l.bytes) l.initial.out l.at l.out l.p (hex_row (drop l.i l.bytes))
-
-abbrev pub decreases-loop-i : goal.decreases-loop-i
-decreases-loop-i l = length l.bytes - l.i
+abbrev pub invariant-loop-b : goal.invariant-loop-b
+invariant-loop-b l = Going (hex_row l.bytes) l.initial.out l.at l.out l.p (hex_row (drop l.b-index l.bytes))
