@@ -1,11 +1,9 @@
 // Searching a sound roll by jumps, where the pattern has symbols for a window.
 ghost use Rattle.std.specs.Prelude.{◌≡◌, ◌^◌, ◌≤◌, T, length};
 ghost use Rattle.ground.specs.Helpers.Below.{Below};
-ghost use Rattle.stopper.specs.Paper.Table.{good_code};
-ghost use Rattle.symbols.specs.Paper.Symbols.{per, symbols_of};
+ghost use Rattle.symbols.specs.Paper.Symbols.{per};
 ghost use Rattle.texts.specs.Paper.Hits.{hits, good_pattern, listed};
 ghost use Rattle.sound.specs.Paper.Roll.{text_of, Sound};
-ghost use Rattle.jump.specs.Helpers.Counting.{number_at};
 ghost use Rattle.jump.specs.Helpers.Hits.{hits_below};
 
 use crate::scanning::scan;
@@ -21,8 +19,8 @@ use texts::pattern::MOST_PATTERN;
 // The symbols of a pattern looked for in windows.
 fn jump(searched: &Searched, symbols: &[u8], slice: &mut [u32]) -> u32
     requires { (per searched.now.code.k ≤ length symbols.now) × Below (2 ^ searched.now.code.k) symbols.now }
-    ensures total { result ≡ length (hits_below searched.now.code searched.now.h searched.now.buf.now symbols.now searched.now.h) }
-    ensures list { slice.new ≡ listed (hits_below searched.now.code searched.now.h searched.now.buf.now symbols.now searched.now.h) slice.old }
+    ensures total { let s = searched.now in result ≡ length (hits_below s.code s.h s.buf.now symbols.now s.h) }
+    ensures list { let s = searched.now in slice.new ≡ listed (hits_below s.code s.h s.buf.now symbols.now s.h) slice.old }
 {
     let k = searched.code.k;
     let v = window_of(k, symbols.len());

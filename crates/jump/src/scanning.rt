@@ -3,7 +3,6 @@ ghost use Rattle.std.specs.Prelude.{◌≡◌, ◌↔◌, List, [], ◌∷◌, �
 ghost use Rattle.stopper.specs.Paper.Table.{stoppers, good_code};
 ghost use Rattle.symbols.specs.Paper.Symbols.{per, symbols_of};
 ghost use Rattle.texts.specs.Paper.Hits.{listed};
-ghost use Rattle.sound.specs.Helpers.Ends.{stops_by_byte};
 ghost use Rattle.find.specs.Laws.Hits.{AfterStopper};
 ghost use Rattle.jump.specs.Helpers.Counting.{number_at, Counts};
 ghost use Rattle.jump.specs.Helpers.Hits.{occurs, Hit, hits_below, Grows};
@@ -61,7 +60,7 @@ pub struct Found {
 // One more hit, at symbol a. Codewords are counted only where the hit is listed.
 fn note(searched: &Searched, a: usize, found: Found, slice: &mut [u32]) -> Found
     requires { (a ≤ searched.now.h) × Counts searched.now.code searched.now.buf.now a found.counted.next found.counted.ended × (found.total ≤ a) }
-    ensures { (result.total ≡ found.total + 1) × Counts searched.now.code searched.now.buf.now a result.counted.next result.counted.ended × ((hits : List ℕ) → found.total ≡ length hits → Grows hits (hits ++ (number_at searched.now.code searched.now.buf.now a ∷ [])) slice.old slice.new) }
+    ensures { let s = searched.now in (result.total ≡ found.total + 1) × Counts s.code s.buf.now a result.counted.next result.counted.ended × ((hits : List ℕ) → found.total ≡ length hits → Grows hits (hits ++ (number_at s.code s.buf.now a ∷ [])) slice.old slice.new) }
 {
     let mut counted = found.counted;
     let at = found.total as usize;
@@ -84,7 +83,7 @@ fn is_hit_in(
     f: usize,
     a: usize,
 ) -> bool
-    requires { Fits searched.now.code.k (length symbols.now) v × (1 < v.wide → Lasts searched.now.code.k v symbols.now last.now (per searched.now.code.k)) × ((f + v.wide) * per searched.now.code.k ≤ searched.now.h) × (first_of searched.now.code.k v.free f ≤ a) × (a ≤ f * per searched.now.code.k + v.free) }
+    requires { let s = searched.now in let k = s.code.k in Fits k (length symbols.now) v × (1 < v.wide → Lasts k v symbols.now last.now (per k)) × ((f + v.wide) * per k ≤ s.h) × (first_of k v.free f ≤ a) × (a ≤ f * per k + v.free) }
     ensures { T result ↔ Hit searched.now.code searched.now.h searched.now.buf.now symbols.now a }
 {
     let per = per_byte(searched.code.k);
@@ -104,8 +103,8 @@ fn try_window(
     before: Found,
     slice: &mut [u32],
 ) -> Found
-    requires { Fits searched.now.code.k (length symbols.now) v × (1 < v.wide → Lasts searched.now.code.k v symbols.now last.now (per searched.now.code.k)) × ((f + v.wide) * per searched.now.code.k ≤ searched.now.h) × Counts searched.now.code searched.now.buf.now (first_of searched.now.code.k v.free f) before.counted.next before.counted.ended × (before.total ≡ length (hits_below searched.now.code searched.now.h searched.now.buf.now symbols.now (first_of searched.now.code.k v.free f))) }
-    ensures { Counts searched.now.code searched.now.buf.now (first_of searched.now.code.k v.free (f + 1)) result.counted.next result.counted.ended × (result.total ≡ length (hits_below searched.now.code searched.now.h searched.now.buf.now symbols.now (first_of searched.now.code.k v.free (f + 1)))) × Grows (hits_below searched.now.code searched.now.h searched.now.buf.now symbols.now (first_of searched.now.code.k v.free f)) (hits_below searched.now.code searched.now.h searched.now.buf.now symbols.now (first_of searched.now.code.k v.free (f + 1))) slice.old slice.new }
+    requires { let s = searched.now in let first = first_of s.code.k v.free f in Fits s.code.k (length symbols.now) v × (1 < v.wide → Lasts s.code.k v symbols.now last.now (per s.code.k)) × ((f + v.wide) * per s.code.k ≤ s.h) × Counts s.code s.buf.now first before.counted.next before.counted.ended × (before.total ≡ length (hits_below s.code s.h s.buf.now symbols.now first)) }
+    ensures { let s = searched.now in let first = first_of s.code.k v.free f in let next = first_of s.code.k v.free (f + 1) in let hits = hits_below s.code s.h s.buf.now symbols.now in Counts s.code s.buf.now next result.counted.next result.counted.ended × (result.total ≡ length (hits next)) × Grows (hits first) (hits next) slice.old slice.new }
 {
     let per = per_byte(searched.code.k);
     let end = f * per + v.free + 1;
@@ -193,9 +192,9 @@ pub fn scan(
     last: &[u8; 4],
     slice: &mut [u32],
 ) -> u32
-    requires { Fits searched.now.code.k (length symbols.now) v × Safe searched.now.code.k v symbols.now t.now × (1 < v.wide → Lasts searched.now.code.k v symbols.now last.now (per searched.now.code.k)) }
-    ensures total { result ≡ length (hits_below searched.now.code searched.now.h searched.now.buf.now symbols.now searched.now.h) }
-    ensures list { slice.new ≡ listed (hits_below searched.now.code searched.now.h searched.now.buf.now symbols.now searched.now.h) slice.old }
+    requires { let k = searched.now.code.k in Fits k (length symbols.now) v × Safe k v symbols.now t.now × (1 < v.wide → Lasts k v symbols.now last.now (per k)) }
+    ensures total { let s = searched.now in result ≡ length (hits_below s.code s.h s.buf.now symbols.now s.h) }
+    ensures list { let s = searched.now in slice.new ≡ listed (hits_below s.code s.h s.buf.now symbols.now s.h) slice.old }
 {
     let buf = searched.buf;
     let full = byte_of(searched.code.k, searched.h);
