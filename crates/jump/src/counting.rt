@@ -5,6 +5,7 @@ ghost use Rattle.symbols.specs.Paper.Symbols.{per, symbols_of};
 ghost use Rattle.sound.specs.Helpers.Ends.{stops, stops_by_byte};
 ghost use Rattle.jump.specs.Helpers.Counting.{Counts, number_at};
 
+use crate::searched::Searched;
 use sound::ends::stops_of_four;
 use stopper::code::{Code, stoppers_at};
 use symbols::bits::{byte_of, per_byte};
@@ -33,15 +34,13 @@ fn ended_in_fours(code: Code, buf: &[u8], i: usize) -> u8
     requires { T (good_code code) × (code.k ≡ 2) × (i + 48 ≤ length buf.now) }
     ensures { number_at code buf.now (i * per code.k) + result ≡ number_at code buf.now ((i + 48) * per code.k) }
 {
-    let mut continuers: u8 = 0;
-    let mut j: usize = 0;
-    while j < 16 {
+    let mut continuers = 0;
+    for j in 0..16 {
         let first = continuers_of(code, buf[i + j]);
         let second = continuers_of(code, buf[i + 16 + j]);
         let third = continuers_of(code, buf[i + 32 + j]);
         let sums = first + second + third;
         continuers += sums % 16 + sums / 16;
-        j += 1;
     }
     192 - continuers
 }
@@ -54,11 +53,9 @@ fn ended_in_block(code: Code, buf: &[u8], i: usize) -> u8
     if code.k == 2 {
         return ended_in_fours(code, buf, i);
     }
-    let mut n: u8 = 0;
-    let mut j: usize = 0;
-    while j < 48 {
+    let mut n = 0;
+    for j in 0..48 {
         n += stops_of_four(code, buf[i + j]);
-        j += 1;
     }
     n
 }
@@ -68,31 +65,32 @@ fn count_blocks(code: Code, buf: &[u8], counted: Counted, end: usize) -> Counted
     requires { T (good_code code) × (end ≤ length buf.now) × (end * per code.k ≤ 2 ^ 24) × Counts code buf.now (end * per code.k) counted.next counted.ended }
     ensures { Counts code buf.now (end * per code.k) result.next result.ended × (end < result.next + 48) }
 {
-    let mut next = counted.next;
-    let mut ended = counted.ended;
+    let Counted {
+        mut next,
+        mut ended,
+    } = counted;
+    // A while: a turn takes a whole block, and what is left before the end is no block.
     while 48 <= end - next {
-        ended += ended_in_block(code, buf, next) as u32;
+        ended += u32::from(ended_in_block(code, buf, next));
         next += 48;
     }
     Counted { next, ended }
 }
 
 // Codewords counted on up to byte `end`, byte by byte.
-fn count_bytes(code: Code, stops: &[u8], buf: &[u8], counted: Counted, end: usize) -> Counted
+fn count_bytes(code: Code, stops: &[u8; 256], buf: &[u8], counted: Counted, end: usize) -> Counted
     requires { T (good_code code) × (stops.now ≡ stops_by_byte code) × (end ≤ length buf.now) × (end * per code.k ≤ 2 ^ 24) × Counts code buf.now (end * per code.k) counted.next counted.ended }
     ensures { (result.next ≡ end) × Counts code buf.now (end * per code.k) result.next result.ended }
 {
-    let mut next = counted.next;
     let mut ended = counted.ended;
-    while next < end {
-        ended += stops[buf[next] as usize] as u32;
-        next += 1;
+    for b in &buf[counted.next..end] {
+        ended += u32::from(stops[usize::from(*b)]);
     }
-    Counted { next, ended }
+    Counted { next: end, ended }
 }
 
 // Codewords counted on up to the byte of symbol a.
-fn count_to(code: Code, stops: &[u8], buf: &[u8], counted: Counted, a: usize) -> Counted
+fn count_to(code: Code, stops: &[u8; 256], buf: &[u8], counted: Counted, a: usize) -> Counted
     requires { T (good_code code) × (stops.now ≡ stops_by_byte code) × (a ≤ length (symbols_of code.k buf.now)) × (a ≤ 2 ^ 24) × Counts code buf.now a counted.next counted.ended }
     ensures { Counts code buf.now a result.next result.ended × (a < (result.next + 1) * per code.k) }
 {
@@ -108,26 +106,30 @@ pub fn number_of(code: Code, buf: &[u8], counted: Counted, a: usize) -> u32
 {
     let s = stoppers_at(code, 0);
     let mut number = counted.ended;
-    let mut i = counted.next * per_byte(code.k);
-    while i < a {
-        if (get(code.k, buf, i) as u32) < s {
+    for i in counted.next * per_byte(code.k)..a {
+        if u32::from(get(code.k, buf, i)) < s {
             number += 1;
         }
-        i += 1;
     }
     number
 }
 
-// Codewords counted up to the byte of symbol a by those that end from there on: n end among the first h symbols.
-fn count_back(code: Code, stops: &[u8], buf: &[u8], h: usize, n: u32, a: usize) -> Counted
-    requires { T (good_code code) × (stops.now ≡ stops_by_byte code) × (h ≤ length (symbols_of code.k buf.now)) × (h ≤ 2 ^ 24) × (n ≡ number_at code buf.now h) × (a ≤ h) }
-    ensures { Counts code buf.now a result.next result.ended × (a < (result.next + 1) * per code.k) }
+// Codewords counted up to the byte of symbol a by those that end from there on.
+fn count_back(searched: &Searched, a: usize) -> Counted
+    requires { a ≤ searched.now.h }
+    ensures { Counts searched.now.code searched.now.buf.now a result.next result.ended × (a < (result.next + 1) * per searched.now.code.k) }
 {
+    let Searched {
+        code,
+        stops,
+        buf,
+        h,
+        n,
+    } = *searched;
     let next = byte_of(code.k, a);
     let end = h - next * per_byte(code.k);
     let rest = &buf[next..];
-    let none = Counted { next: 0, ended: 0 };
-    let counted = count_to(code, stops, rest, none, end);
+    let counted = count_to(code, stops, rest, Counted { next: 0, ended: 0 }, end);
     Counted {
         next,
         ended: n - number_of(code, rest, counted, end),
@@ -135,21 +137,13 @@ fn count_back(code: Code, stops: &[u8], buf: &[u8], h: usize, n: u32, a: usize) 
 }
 
 // Codewords counted up to the byte of symbol a, on from where they are counted or back from the end, whichever is nearer.
-pub fn count_near(
-    code: Code,
-    stops: &[u8],
-    buf: &[u8],
-    h: usize,
-    n: u32,
-    counted: Counted,
-    a: usize,
-) -> Counted
-    requires { T (good_code code) × (stops.now ≡ stops_by_byte code) × (h ≤ length (symbols_of code.k buf.now)) × (h ≤ 2 ^ 24) × (n ≡ number_at code buf.now h) × (a ≤ h) × Counts code buf.now a counted.next counted.ended }
-    ensures { Counts code buf.now a result.next result.ended × (a < (result.next + 1) * per code.k) }
+pub fn count_near(searched: &Searched, counted: Counted, a: usize) -> Counted
+    requires { (a ≤ searched.now.h) × Counts searched.now.code searched.now.buf.now a counted.next counted.ended }
+    ensures { Counts searched.now.code searched.now.buf.now a result.next result.ended × (a < (result.next + 1) * per searched.now.code.k) }
 {
-    let next = counted.next;
-    if h - a < a - next * per_byte(code.k) {
-        return count_back(code, stops, buf, h, n, a);
+    if searched.h - a < a - counted.next * per_byte(searched.code.k) {
+        count_back(searched, a)
+    } else {
+        count_to(searched.code, searched.stops, searched.buf, counted, a)
     }
-    count_to(code, stops, buf, counted, a)
 }

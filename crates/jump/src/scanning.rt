@@ -3,30 +3,27 @@ ghost use Rattle.std.specs.Prelude.{◌≡◌, ◌↔◌, List, [], ◌∷◌, �
 ghost use Rattle.stopper.specs.Paper.Table.{stoppers, good_code};
 ghost use Rattle.symbols.specs.Paper.Symbols.{per, symbols_of};
 ghost use Rattle.texts.specs.Paper.Hits.{listed};
-ghost use Rattle.sound.specs.Helpers.Ends.{stops_by_byte};
 ghost use Rattle.find.specs.Laws.Hits.{AfterStopper};
 ghost use Rattle.jump.specs.Helpers.Counting.{number_at, Counts};
 ghost use Rattle.jump.specs.Helpers.Hits.{occurs, Hit, hits_below, Grows};
 ghost use Rattle.jump.specs.Helpers.Windows.{Fits, Safe, Lasts, first_of, Skipped};
 
 use crate::counting::{Counted, count_near, number_of};
+use crate::searched::Searched;
 use crate::windows::{Window, place_at};
 use stopper::code::{Code, stoppers_at};
 use symbols::bits::{byte_of, per_byte};
 use symbols::symbol::get;
 
-// Whether symbols stand at symbol a, all of them among the first h.
-fn same(code: Code, buf: &[u8], h: usize, symbols: &[u8], a: usize) -> bool
-    requires { T (good_code code) × (h ≤ length (symbols_of code.k buf.now)) × (a + length symbols.now ≤ h) }
-    ensures { result ≡ occurs code h buf.now symbols.now a }
+// Whether symbols stand at symbol a, all of them among those that are searched.
+fn same(searched: &Searched, symbols: &[u8], a: usize) -> bool
+    requires { a + length symbols.now ≤ searched.now.h }
+    ensures { result ≡ occurs searched.now.code searched.now.h searched.now.buf.now symbols.now a }
 {
-    let k = code.k;
-    let mut j = 0;
-    while j < symbols.len() {
-        if get(k, buf, a + j) != symbols[j] {
+    for (j, y) in symbols.iter().enumerate() {
+        if get(searched.code.k, searched.buf, a + j) != *y {
             return false;
         }
-        j += 1;
     }
     true
 }
@@ -36,122 +33,86 @@ fn after_stopper(code: Code, buf: &[u8], a: usize) -> bool
     requires { T (good_code code) × (a ≤ length (symbols_of code.k buf.now)) }
     ensures { T result ↔ AfterStopper (stoppers code 0) (symbols_of code.k buf.now) a }
 {
-    if a == 0 {
-        return true;
-    }
-    (get(code.k, buf, a - 1) as u32) < stoppers_at(code, 0)
+    a == 0 || u32::from(get(code.k, buf, a - 1)) < stoppers_at(code, 0)
 }
 
 // Whether a hit starts at symbol a.
-fn is_hit(code: Code, buf: &[u8], h: usize, symbols: &[u8], a: usize) -> bool
-    requires { T (good_code code) × (h ≤ length (symbols_of code.k buf.now)) × (a < h) × (h ≤ 2 ^ 24) }
-    ensures { T result ↔ Hit code h buf.now symbols.now a }
+fn is_hit(searched: &Searched, symbols: &[u8], a: usize) -> bool
+    requires { a < searched.now.h }
+    ensures { T result ↔ Hit searched.now.code searched.now.h searched.now.buf.now symbols.now a }
 {
-    if h - a < symbols.len() {
+    if searched.h - a < symbols.len() {
         return false;
     }
-    if !after_stopper(code, buf, a) {
+    if !after_stopper(searched.code, searched.buf, a) {
         return false;
     }
-    same(code, buf, h, symbols, a)
+    same(searched, symbols, a)
 }
 
 // Hits found, and how far codewords are counted.
 #[derive(Clone, Copy)]
 pub struct Found {
     pub total: u32,
-    pub next: usize,
-    pub ended: u32,
+    pub counted: Counted,
 }
 
 // One more hit, at symbol a. Codewords are counted only where the hit is listed.
-fn note(
-    code: Code,
-    stops: &[u8],
-    buf: &[u8],
-    h: usize,
-    n: u32,
-    a: usize,
-    found: Found,
-    slice: &mut [u32],
-) -> Found
-    requires { T (good_code code) × (stops.now ≡ stops_by_byte code) × (h ≤ length (symbols_of code.k buf.now)) × (h ≤ 2 ^ 24) × (n ≡ number_at code buf.now h) × (a ≤ h) × Counts code buf.now a found.next found.ended × (found.total ≤ a) }
-    ensures { (result.total ≡ found.total + 1) × Counts code buf.now a result.next result.ended × ((hits : List ℕ) → found.total ≡ length hits → Grows hits (hits ++ (number_at code buf.now a ∷ [])) slice.old slice.new) }
+fn note(searched: &Searched, a: usize, found: Found, slice: &mut [u32]) -> Found
+    requires { (a ≤ searched.now.h) × Counts searched.now.code searched.now.buf.now a found.counted.next found.counted.ended × (found.total ≤ a) }
+    ensures { let s = searched.now in (result.total ≡ found.total + 1) × Counts s.code s.buf.now a result.counted.next result.counted.ended × ((hits : List ℕ) → found.total ≡ length hits → Grows hits (hits ++ (number_at s.code s.buf.now a ∷ [])) slice.old slice.new) }
 {
-    let total = found.total;
-    let before = Counted {
-        next: found.next,
-        ended: found.ended,
-    };
-    if (total as usize) < slice.len() {
-        let counted = count_near(code, stops, buf, h, n, before, a);
-        slice[total as usize] = number_of(code, buf, counted, a);
-        Found {
-            total: total + 1,
-            next: counted.next,
-            ended: counted.ended,
-        }
-    } else {
-        Found {
-            total: total + 1,
-            next: before.next,
-            ended: before.ended,
-        }
+    let mut counted = found.counted;
+    let at = found.total as usize;
+    if at < slice.len() {
+        counted = count_near(searched, counted, a);
+        slice[at] = number_of(searched.code, searched.buf, counted, a);
+    }
+    Found {
+        total: found.total + 1,
+        counted,
     }
 }
 
 // Whether a hit starts at symbol a, one of those that the window from byte f on is for. The window's last byte is asked first: at most alignments it is another.
 fn is_hit_in(
-    code: Code,
-    buf: &[u8],
-    h: usize,
+    searched: &Searched,
     symbols: &[u8],
     v: Window,
-    last: &[u8],
+    last: &[u8; 4],
     f: usize,
     a: usize,
 ) -> bool
-    requires { T (good_code code) × (h ≤ length (symbols_of code.k buf.now)) × (h ≤ 2 ^ 24) × Fits code.k (length symbols.now) v × (1 < v.wide → Lasts code.k v symbols.now last.now (per code.k)) × (length last.now ≡ 4) × ((f + v.wide) * per code.k ≤ h) × (first_of code.k v.free f ≤ a) × (a ≤ f * per code.k + v.free) }
-    ensures { T result ↔ Hit code h buf.now symbols.now a }
+    requires { let s = searched.now in let k = s.code.k in Fits k (length symbols.now) v × (1 < v.wide → Lasts k v symbols.now last.now (per k)) × ((f + v.wide) * per k ≤ s.h) × (first_of k v.free f ≤ a) × (a ≤ f * per k + v.free) }
+    ensures { T result ↔ Hit searched.now.code searched.now.h searched.now.buf.now symbols.now a }
 {
-    let wide = v.wide;
-    if 1 < wide {
-        if buf[f + wide - 1] != last[f * per_byte(code.k) + v.free - a] {
-            return false;
-        }
+    let per = per_byte(searched.code.k);
+    if 1 < v.wide && searched.buf[f + v.wide - 1] != last[f * per + v.free - a] {
+        return false;
     }
-    is_hit(code, buf, h, symbols, a)
+    is_hit(searched, symbols, a)
 }
 
 // The hits at the symbols that the window from byte f on is for.
 fn try_window(
-    code: Code,
-    stops: &[u8],
-    buf: &[u8],
-    h: usize,
-    n: u32,
+    searched: &Searched,
     symbols: &[u8],
     v: Window,
-    last: &[u8],
+    last: &[u8; 4],
     f: usize,
     before: Found,
     slice: &mut [u32],
 ) -> Found
-    requires { T (good_code code) × (stops.now ≡ stops_by_byte code) × (h ≤ length (symbols_of code.k buf.now)) × (h ≤ 2 ^ 24) × Fits code.k (length symbols.now) v × (1 < v.wide → Lasts code.k v symbols.now last.now (per code.k)) × (length last.now ≡ 4) × ((f + v.wide) * per code.k ≤ h) × Counts code buf.now (first_of code.k v.free f) before.next before.ended × (before.total ≡ length (hits_below code h buf.now symbols.now (first_of code.k v.free f))) × (n ≡ number_at code buf.now h) }
-    ensures { Counts code buf.now (first_of code.k v.free (f + 1)) result.next result.ended × (result.total ≡ length (hits_below code h buf.now symbols.now (first_of code.k v.free (f + 1)))) × Grows (hits_below code h buf.now symbols.now (first_of code.k v.free f)) (hits_below code h buf.now symbols.now (first_of code.k v.free (f + 1))) slice.old slice.new }
+    requires { let s = searched.now in let first = first_of s.code.k v.free f in Fits s.code.k (length symbols.now) v × (1 < v.wide → Lasts s.code.k v symbols.now last.now (per s.code.k)) × ((f + v.wide) * per s.code.k ≤ s.h) × Counts s.code s.buf.now first before.counted.next before.counted.ended × (before.total ≡ length (hits_below s.code s.h s.buf.now symbols.now first)) }
+    ensures { let s = searched.now in let first = first_of s.code.k v.free f in let next = first_of s.code.k v.free (f + 1) in let hits = hits_below s.code s.h s.buf.now symbols.now in Counts s.code s.buf.now next result.counted.next result.counted.ended × (result.total ≡ length (hits next)) × Grows (hits first) (hits next) slice.old slice.new }
 {
-    let per = per_byte(code.k);
+    let per = per_byte(searched.code.k);
     let end = f * per + v.free + 1;
-    let mut a = 0;
-    if per < end {
-        a = end - per;
-    }
     let mut found = before;
-    while a < end {
-        if is_hit_in(code, buf, h, symbols, v, last, f, a) {
-            found = note(code, stops, buf, h, n, a, found, slice);
+    for a in end.saturating_sub(per)..end {
+        if is_hit_in(searched, symbols, v, last, f, a) {
+            found = note(searched, a, found, slice);
         }
-        a += 1;
     }
     found
 }
@@ -169,11 +130,12 @@ fn ahead_of(places: usize, place: usize, beyond: usize) -> usize
 }
 
 // Windows with keys of two bytes, jumped from the one that ends with byte `from` on, up to one to be tried, or as long as three more follow: one branch for four where no key stands in the pattern.
-fn pass(buf: &[u8], places: usize, t: &[u8], full: usize, from: usize) -> usize
-    requires { (0 < places) × (places ≤ 255) × (length t.now ≡ 8192) × ((x : ℕ) → get_or t.now x 0 ≤ places) × (full ≤ length buf.now) × (full ≤ 2 ^ 24) × (0 < from) × (from ≤ full + places) }
+fn pass(buf: &[u8], places: usize, t: &[u8; 8192], full: usize, from: usize) -> usize
+    requires { (0 < places) × (places ≤ 255) × ((x : ℕ) → get_or t.now x 0 ≤ places) × (full ≤ length buf.now) × (full ≤ 2 ^ 24) × (0 < from) × (from ≤ full + places) }
     ensures { (from ≤ result) × (result ≤ full + places) × Skipped 1 places t.now buf.now from result }
 {
     let mut e = from;
+    // A while: the table says how far it goes on.
     while e + 3 * places < full {
         let second = e + places;
         let third = second + places;
@@ -198,22 +160,23 @@ fn pass(buf: &[u8], places: usize, t: &[u8], full: usize, from: usize) -> usize
 }
 
 // Windows jumped from the one that ends with byte `from` on, up to one whose last key the table has at the last place, or past the last. A key that stands nowhere has a branch of its own: foreseen, that jump does not wait for the table.
-fn skip(buf: &[u8], back: usize, places: usize, t: &[u8], full: usize, from: usize) -> usize
-    requires { (back ≤ 1) × (0 < places) × (places ≤ 255) × (length t.now ≡ 8192) × ((x : ℕ) → get_or t.now x 0 ≤ places) × (full ≤ length buf.now) × (full ≤ 2 ^ 24) × (back ≤ from) × (from < full + (places + back)) }
+fn skip(buf: &[u8], back: usize, places: usize, t: &[u8; 8192], full: usize, from: usize) -> usize
+    requires { (back ≤ 1) × (0 < places) × (places ≤ 255) × ((x : ℕ) → get_or t.now x 0 ≤ places) × (full ≤ length buf.now) × (full ≤ 2 ^ 24) × (back ≤ from) × (from < full + (places + back)) }
     ensures { (from ≤ result) × (result < full + (places + back)) × Skipped back places t.now buf.now from result }
 {
-    let mut e = from;
-    if back == 1 {
-        e = pass(buf, places, t, full, from);
-    }
+    let mut e = if back == 1 {
+        pass(buf, places, t, full, from)
+    } else {
+        from
+    };
+    // A while: the table says how far it goes on.
     while e < full {
         let place = place_at(back, t, buf, e);
         if place == 0 {
             e += places;
+        } else if place == places {
+            return e;
         } else {
-            if place == places {
-                return e;
-            }
             e += places - place;
         }
     }
@@ -222,35 +185,28 @@ fn skip(buf: &[u8], back: usize, places: usize, t: &[u8], full: usize, from: usi
 
 // All windows: the total of all hits; the first of them are listed as far as the slice goes.
 pub fn scan(
-    code: Code,
-    stops: &[u8],
-    buf: &[u8],
-    h: usize,
-    n: u32,
+    searched: &Searched,
     symbols: &[u8],
     v: Window,
-    t: &[u8],
-    last: &[u8],
+    t: &[u8; 8192],
+    last: &[u8; 4],
     slice: &mut [u32],
 ) -> u32
-    requires { T (good_code code) × (stops.now ≡ stops_by_byte code) × (h ≤ length (symbols_of code.k buf.now)) × (h ≤ 2 ^ 24) × Fits code.k (length symbols.now) v × Safe code.k v symbols.now t.now × (1 < v.wide → Lasts code.k v symbols.now last.now (per code.k)) × (length last.now ≡ 4) × (n ≡ number_at code buf.now h) }
-    ensures total { result ≡ length (hits_below code h buf.now symbols.now h) }
-    ensures list { slice.new ≡ listed (hits_below code h buf.now symbols.now h) slice.old }
+    requires { let k = searched.now.code.k in Fits k (length symbols.now) v × Safe k v symbols.now t.now × (1 < v.wide → Lasts k v symbols.now last.now (per k)) }
+    ensures total { let s = searched.now in result ≡ length (hits_below s.code s.h s.buf.now symbols.now s.h) }
+    ensures list { let s = searched.now in slice.new ≡ listed (hits_below s.code s.h s.buf.now symbols.now s.h) slice.old }
 {
-    let wide = v.wide;
-    let back = v.back;
-    let places = v.places;
-    let full = byte_of(code.k, h);
+    let buf = searched.buf;
+    let full = byte_of(searched.code.k, searched.h);
     let mut found = Found {
         total: 0,
-        next: 0,
-        ended: 0,
+        counted: Counted { next: 0, ended: 0 },
     };
-    let mut e = skip(buf, back, places, t, full, wide - 1);
+    let mut e = skip(buf, v.back, v.places, t, full, v.wide - 1);
+    // A while: the table says how far it goes on.
     while e < full {
-        let f = e + 1 - wide;
-        found = try_window(code, stops, buf, h, n, symbols, v, last, f, found, slice);
-        e = skip(buf, back, places, t, full, e + 1);
+        found = try_window(searched, symbols, v, last, e + 1 - v.wide, found, slice);
+        e = skip(buf, v.back, v.places, t, full, e + 1);
     }
     found.total
 }

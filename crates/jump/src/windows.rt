@@ -17,20 +17,13 @@ pub struct Window {
     pub free: usize,
 }
 
-// Some number up to both, and not 0 where neither is.
-fn smaller(a: usize, b: usize) -> usize
-    ensures { (result ≤ a) × (result ≤ b) × ((0 < a) → (0 < b) → 0 < result) }
-{
-    if a < b { a } else { b }
-}
-
 // The widest windows of a pattern of so many symbols.
 pub fn window_of(k: u8, long: usize) -> Window
     requires { (Width k) × (per k ≤ long) }
     ensures { Fits k long result }
 {
-    let wide = smaller(byte_of(k, long), 255);
-    let back = smaller(wide / 3, 1);
+    let wide = byte_of(k, long).min(255);
+    let back = (wide / 3).min(1);
     Window {
         wide,
         back,
@@ -45,18 +38,18 @@ fn key(back: usize, y: u8, z: u8) -> usize
     ensures { (result ≡ key_of back y z) × (result < 8192) }
 {
     if back == 0 {
-        y as usize
+        usize::from(y)
     } else {
-        (y as usize + 256 * z as usize) * 2654435761 % 4294967296 / 524288
+        (usize::from(y) + 256 * usize::from(z)) * 2654435761 % 4294967296 / 524288
     }
 }
 
 // What the table says of the window that ends with byte e.
-pub fn place_at(back: usize, t: &[u8], buf: &[u8], e: usize) -> usize
-    requires { (back ≤ 1) × (length t.now ≡ 8192) × (back ≤ e) × (e < length buf.now) }
+pub fn place_at(back: usize, t: &[u8; 8192], buf: &[u8], e: usize) -> usize
+    requires { (back ≤ 1) × (back ≤ e) × (e < length buf.now) }
     ensures { (result ≡ says back t.now buf.now e) × (result ≤ 255) }
 {
-    t[key(back, buf[e - back], buf[e])] as usize
+    usize::from(t[key(back, buf[e - back], buf[e])])
 }
 
 // A symbol behind those of a byte, whose first is lost.
@@ -72,11 +65,9 @@ fn number_from(k: u8, symbols: &[u8], j: usize, n: usize) -> u8
     requires { (Width k) × (Below (2 ^ k) symbols.now) × (n ≤ per k) × (j + n ≤ length symbols.now) }
     ensures { result ≡ number_from k symbols.now j n }
 {
-    let mut b: u8 = 0;
-    let mut i = 0;
-    while i < n {
-        b = next_byte(k, b, symbols[j + i]);
-        i += 1;
+    let mut b = 0;
+    for x in &symbols[j..j + n] {
+        b = next_byte(k, b, *x);
     }
     b
 }
@@ -86,72 +77,60 @@ fn step_of(k: u8, n: usize) -> usize
     requires { (Width k) × (n ≤ per k) }
     ensures { (result ≡ 2 ^ (k * n)) × (256 / result * result ≡ 256) }
 {
-    1 << (k as usize * n)
+    1 << (usize::from(k) * n)
 }
 
 // 1 at the keys of all `many` bytes that end in `head`, the byte z being behind them.
-fn mark(back: usize, z: u8, head: usize, step: usize, many: usize, t: &mut [u8])
-    requires { (back ≤ 1) × (head < step) × (many * step ≡ 256) × (length t.old ≡ 8192) }
+fn mark(back: usize, z: u8, head: usize, step: usize, many: usize, t: &mut [u8; 8192])
+    requires { (back ≤ 1) × (head < step) × (many * step ≡ 256) }
     ensures { Marks back z head step t.old t.new many }
 {
-    let mut i = 0;
-    while i < many {
+    for i in 0..many {
         t[key(back, (i * step + head) as u8, z)] = 1;
-        i += 1;
     }
 }
 
 // The keys at free symbol i, whatever the free symbols are: n of the pattern's fill its byte.
-fn mark_free(k: u8, symbols: &[u8], v: Window, i: usize, t: &mut [u8])
+fn mark_free(k: u8, symbols: &[u8], v: Window, i: usize, t: &mut [u8; 8192])
     requires { (Width k) × (Below (2 ^ k) symbols.now) × Fits k (length symbols.now) v × (i < v.free) × Upto k v.back v.free v.places symbols.now t.old i }
     ensures { Upto k v.back v.free v.places symbols.now t.new (i + 1) }
 {
-    let free = v.free;
-    let back = v.back;
     let per = per_byte(k);
-    let n = per - free + i;
+    let n = per - v.free + i;
     let step = step_of(k, n);
-    let mut z: u8 = 0;
-    if back == 1 {
-        z = number_from(k, symbols, n, per);
-    }
-    let head = number_from(k, symbols, 0, n) as usize;
-    mark(back, z, head, step, 256 / step, t);
+    let z = if v.back == 1 {
+        number_from(k, symbols, n, per)
+    } else {
+        0
+    };
+    let head = usize::from(number_from(k, symbols, 0, n));
+    mark(v.back, z, head, step, 256 / step, t);
 }
 
 // The keys at all symbols: that of a later place is written over an earlier one.
-fn fill_places(k: u8, symbols: &[u8], v: Window, t: &mut [u8])
+fn fill_places(k: u8, symbols: &[u8], v: Window, t: &mut [u8; 8192])
     requires { (Width k) × (Below (2 ^ k) symbols.now) × Fits k (length symbols.now) v × Upto k v.back v.free v.places symbols.now t.old v.free }
     ensures { Safe k v symbols.now t.new }
 {
-    let free = v.free;
-    let back = v.back;
-    let places = v.places;
     let per = per_byte(k);
     let last = per - 1;
-    let behind = back * per;
-    let end = places * per - free;
+    let behind = v.back * per;
     let mut y = number_from(k, symbols, 0, last);
     let mut z = number_from(k, symbols, behind, last);
-    let mut j = 0;
-    while j < end {
+    for j in 0..v.places * per - v.free {
         y = next_byte(k, y, symbols[j + last]);
         z = next_byte(k, z, symbols[j + behind + last]);
-        t[key(back, y, z)] = (byte_of(k, free + j) + 1) as u8;
-        j += 1;
+        t[key(v.back, y, z)] = (byte_of(k, v.free + j) + 1) as u8;
     }
 }
 
 // The table of jumps: 0 for a key that stands nowhere in the pattern, else its last place in a window, and one.
-pub fn fill_table(k: u8, symbols: &[u8], v: Window, t: &mut [u8])
+pub fn fill_table(k: u8, symbols: &[u8], v: Window, t: &mut [u8; 8192])
     requires { (Width k) × (Below (2 ^ k) symbols.now) × Fits k (length symbols.now) v × Upto k v.back v.free v.places symbols.now t.old 0 }
     ensures { Safe k v symbols.now t.new }
 {
-    let free = v.free;
-    let mut i = 0;
-    while i < free {
+    for i in 0..v.free {
         mark_free(k, symbols, v, i, t);
-        i += 1;
     }
     fill_places(k, symbols, v, t);
 }
@@ -161,16 +140,14 @@ pub fn lasts(k: u8, symbols: &[u8], v: Window) -> [u8; 4]
     requires { (Width k) × (Below (2 ^ k) symbols.now) × Fits k (length symbols.now) v }
     ensures { 1 < v.wide → Lasts k v symbols.now result (per k) }
 {
-    let mut last = [0u8; 4];
+    let mut last = [0; 4];
     if v.wide == 1 {
         return last;
     }
     let per = per_byte(k);
     let first = (v.wide - 1) * per - v.free;
-    let mut o = 0;
-    while o < per {
+    for o in 0..per {
         last[o] = number_from(k, symbols, first + o, per);
-        o += 1;
     }
     last
 }

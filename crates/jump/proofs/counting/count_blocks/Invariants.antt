@@ -1,5 +1,4 @@
-use mathlib.Core.Path.{◌≡◌}
-use Prim.Native.Nat.{◌-◌, ◌*◌, ◌≤◌}
+use Rattle.std.proofs.Common.{◌≡◌, ◌-◌, ◌*◌, ◌≤◌}
 use Rattle.symbols.specs.Paper.Symbols.{per}
 use Rattle.jump.specs.Helpers.Counting.{number_at}
 use Rattle.jump.proofs.counting.count_blocks.Given as goal

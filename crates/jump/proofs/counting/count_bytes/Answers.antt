@@ -1,78 +1,68 @@
--- `jump::counting::count_bytes` meets its contract: the codewords that end in the bytes before `next` are counted.
-use mathlib.Core.Path.{◌≡◌, ap, ◌∙◌}
-use mathlib.Core.List.{List, [], ◌∷◌}
-use Prim.Native.Nat.{ℕ, ◌+◌, ◌*◌, ◌≤◌, ◌<◌}
-use native.Mathlib.Omega.{arith}
-use lib.Dec.{T}
-use lib.ListN.{length, get_or}
+-- `jump::counting::count_bytes` meets its contract: the codewords that end in the bytes so far are counted.
+use Rattle.std.proofs.Common.{◌≡◌, List, [], ◌∷◌, ℕ, ◌+◌, ◌-◌, ◌*◌, ◌<◌, T, length, take, drop, get_or, sym, ap, ◌∙◌, arith, length-take, length-drop, get_or-take, get_or-drop}
 use Rattle.stopper.specs.Paper.Table.{stoppers, good_code}
 use Rattle.stopper.specs.declared.code.Code.{Code}
 use Rattle.symbols.specs.Paper.Symbols.{per, symbols_of}
 use Rattle.sound.specs.Helpers.Ends.{stops, stops_by_byte}
-use Rattle.sound.specs.Laws.Stops.{stops_long, stops_at}
+use Rattle.sound.specs.Laws.Stops.{stops_at}
 use Rattle.jump.specs.Helpers.Counting.{number_at}
-use Rattle.jump.specs.Laws.Counting.{number_byte, number_fits, counts_next, counted}
+use Rattle.jump.specs.Laws.Counting.{number_byte, number_fits, counts_next}
 use Rattle.jump.proofs.counting.count_bytes.Goals as goal
-use Rattle.jump.proofs.counting.count_bytes.Lts as Places
-use Rattle.jump.proofs.counting.count_bytes.Reads as Clauses
 
--- what is known at these places
-abbrev At-loop-next : Type 0
-At-loop-next = Places.At-loop Clauses.Pre Clauses.Post goal.the-invariant-loop-next goal.the-decreases-loop-next
+-- the bytes between two
+abbrev between : List ℕ → ℕ → ℕ → List ℕ
+between buf next end = take (end - next) (drop next buf)
 
-abbrev After-shared_slice_known-1 : Type 0
-After-shared_slice_known-1 = Places.After-shared_slice_known Clauses.Pre Clauses.Post goal.the-invariant-loop-next goal.the-decreases-loop-next
+inside : (buf : List ℕ) (next end i : ℕ) → i < length (between buf next end) → (next + i < length buf) × (next + i < end)
+inside buf next end i h =
+    let few = length-take (end - next) (drop next buf) in
+    (omega (arith, few, length-drop next buf), omega (arith, few))
 
-next_before : (s : goal.Start) → s.args.counted.next ≤ s.args.end
-next_before s = let a = s.args in counts_next a.code s.requires.0 a.buf.now a.end s.requires.4
+-- what the table says of one of them is how many codewords end in it
+byte_more : (code : Code) → T (good_code code) → (buf : List ℕ) {table : List ℕ} → table ≡ stops_by_byte code → (next end i byte : ℕ) → i < length (between buf next end) → byte ≡ get_or (between buf next end) i 0
+    → get_or buf (next + i) 0 < 256 → number_at code buf ((next + (i + 1)) * per code.k) ≡ number_at code buf ((next + i) * per code.k) + get_or table byte 0
+byte_more code g buf {table} known next end i byte h e small =
+    let x = inside buf next end i h in
+    let is : byte ≡ get_or buf (next + i) 0 = e ∙ get_or-take (end - next) (drop next buf) i 0 (omega (arith, x.1)) ∙ get_or-drop next buf i 0 in
+    let one : next + (i + 1) ≡ next + i + 1 = omega arith in
+    let ended : stops (stoppers code) 0 (symbols_of code.k (get_or buf (next + i) 0 ∷ [])) ≡ get_or table byte 0
+    = ap (λ (b : ℕ). stops (stoppers code) 0 (symbols_of code.k (b ∷ []))) (sym is)
+    ∙ sym (stops_at code byte (rw is small))
+    ∙ ap (λ (xs : List ℕ). get_or xs byte 0) (sym known) in
+    ap (λ (q : ℕ). number_at code buf (q * per code.k)) one
+    ∙ number_byte code g buf (next + i) x.0
+    ∙ ap (λ (n : ℕ). number_at code buf ((next + i) * per code.k) + n) ended
 
-abbrev byte : At-loop-next → ℕ
-byte l = get_or l.args.buf.now l.loop-next.next 0
+pub slice_bounds-b-items-count : goal.slice_bounds-b-items-count
+slice_bounds-b-items-count c =
+    let a = c.args in counts_next a.code c.requires.0 a.buf.now a.end c.requires.4
 
-small : (c : After-shared_slice_known-1) → byte c.before.before < 256
-small c = omega (arith, c.shared_slice_known-1.given c.loop-next.next)
-
--- what the table says of it
-byte_more : (c : goal.After-shared_slice_known-in-loop-next-1) → let a = c.args in
-    (code : Code) → T (good_code code) → a.stops.now ≡ stops_by_byte code
-    → number_at code a.buf.now ((c.loop-next.next + 1) * per code.k) ≡ number_at code a.buf.now (c.loop-next.next * per code.k) + get_or a.stops.now (byte c.before.before.before.before) 0
-byte_more c code g t =
+pub slice_bounds-b-items-start : goal.slice_bounds-b-items-start
+slice_bounds-b-items-start c =
     let a = c.args in
-    let e : get_or a.stops.now (byte c.before.before.before.before) 0 ≡ stops (stoppers code) 0 (symbols_of code.k (byte c.before.before.before.before ∷ []))
-    = ap (λ (xs : List ℕ). get_or xs (byte c.before.before.before.before) 0) t ∙ stops_at code (byte c.before.before.before.before) (small c.before.before) in
-    number_byte code g a.buf.now c.loop-next.next (omega (arith, c.requires.2, c.loop-next-test.true)) ∙ rw e
+    omega (arith, counts_next a.code c.requires.0 a.buf.now a.end c.requires.4, c.requires.2)
 
 pub overflow_add-ended : goal.overflow_add-ended
 overflow_add-ended c =
     let a = c.args in
+    let next : ℕ = a.counted.next in
+    let i : ℕ = c.loop-b.b-index in
     omega (
       arith,
-      c.loop-next.invariant.1 a.code c.requires.0 c.requires.1 c.requires.4.number,
-      byte_more c a.code c.requires.0 c.requires.1,
-      number_fits a.code c.requires.0 a.buf.now a.end c.requires.3 (c.loop-next.next + 1) (omega (arith, c.loop-next-test.true)),
+      c.loop-b.invariant,
+      c.from-ended.ensures,
+      byte_more a.code c.requires.0 a.buf.now c.requires.1 next a.end i c.from.result c.loop-b-test.true c.from.ensures (omega (arith, c.type_inv.buf (next + i))),
+      number_fits a.code c.requires.0 a.buf.now a.end c.requires.3 (next + (i + 1)) (omega (arith, inside a.buf.now next a.end i c.loop-b-test.true)),
     )
 
-pub loop-next-preserved : goal.loop-next-preserved
-loop-next-preserved c =
-    (omega arith, λ code g t e. omega (arith, c.loop-next.invariant.1 code g t e, byte_more c code g t))
-
-pub bounds-stops-buf : goal.bounds-stops-buf
-bounds-stops-buf c =
-    omega (arith, small c.before.before, ap length c.requires.1, stops_long c.args.code)
-
-pub returns : goal.returns
-returns c =
+pub loop-b-preserved : goal.loop-b-preserved
+loop-b-preserved c =
     let a = c.args in
-    let h = c.loop-next.invariant.0 in (
-      omega (arith, c.loop-next-test.false),
-      counted a.code c.requires.0 a.buf.now a.end h (c.loop-next.invariant.1 a.code c.requires.0 c.requires.1 c.requires.4.number),
+    let next : ℕ = a.counted.next in
+    let i : ℕ = c.loop-b.b-index in
+    omega (
+      arith,
+      c.loop-b.invariant,
+      c.from-ended.ensures,
+      byte_more a.code c.requires.0 a.buf.now c.requires.1 next a.end i c.from.result c.loop-b-test.true c.from.ensures (omega (arith, c.type_inv.buf (next + i))),
     )
-
-pub loop-next-init : goal.loop-next-init
-loop-next-init c = (next_before c, λ code g t e. e)
-
-pub overflow_cast-ended : goal.overflow_cast-ended
-overflow_cast-ended c = omega (arith, small c.before)
-
-pub overflow_cast-ended-in-loop-next : goal.overflow_cast-ended-in-loop-next
-overflow_cast-ended-in-loop-next c = omega (arith, c.shared_slice_known-in-loop-next-1.given (byte c.before.before.before.before))

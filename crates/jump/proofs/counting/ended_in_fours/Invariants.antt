@@ -1,5 +1,4 @@
-use mathlib.Core.Path.{◌≡◌}
-use Prim.Native.Nat.{ℕ, ◌+◌, ◌-◌, ◌*◌, ◌≤◌}
+use Rattle.std.proofs.Common.{◌≡◌, ℕ, ◌+◌, ◌*◌, ◌≤◌}
 use Rattle.symbols.specs.Paper.Symbols.{per}
 use Rattle.jump.specs.Helpers.Counting.{number_at}
 use Rattle.jump.proofs.counting.ended_in_fours.Given as goal
@@ -7,9 +6,5 @@ use Rattle.jump.proofs.counting.ended_in_fours.Given as goal
 abbrev pub invariant-loop-j : goal.invariant-loop-j
 invariant-loop-j l =
     let before : ℕ → ℕ = λ q. number_at l.code l.buf (q * per l.code.k) in
-    (l.j ≤ 16)
-    × (l.continuers ≤ 12 * l.j)
+    (l.continuers ≤ 12 * l.j)
     × (l.continuers + (before (l.i + l.j) + before (l.i + 16 + l.j) + before (l.i + 32 + l.j)) ≡ 12 * l.j + (before l.i + before (l.i + 16) + before (l.i + 32)))
-
-abbrev pub decreases-loop-j : goal.decreases-loop-j
-decreases-loop-j l = 16 - l.j

@@ -1,72 +1,50 @@
 -- `jump::scanning::same` meets its contract.
-use contract.Lifetimes.{Lfts}
-use mathlib.Core.Path.{◌≡◌, sym, ap, ◌∙◌}
-use mathlib.Core.List.{List}
-use Prim.Native.Nat.{ℕ, ◌+◌, ◌<◌}
-use native.Mathlib.Nat.{add-zero}
-use native.Mathlib.Omega.{arith}
-use lib.ListN.{length, take, drop, get_or}
-use lib.Seq.{length-take-le, get_or-take}
+use Rattle.std.proofs.Common.{◌≡◌, List, ℕ, ◌+◌, ◌≤◌, ◌<◌, false, length, take, drop, get_or, sym, ap, ◌∙◌, arith, get_or-take, length-take}
 use Rattle.stopper.specs.Laws.Table.{code_width}
 use Rattle.symbols.specs.Paper.Symbols.{symbols_of}
 use Rattle.texts.specs.Paper.Hits.{stands}
 use Rattle.texts.specs.Laws.Finding.{stands_end, stands_same, stands_differ}
 use Rattle.jump.proofs.scanning.same.Goals as goal
-use Rattle.jump.proofs.scanning.same.Lts as Places
-use Rattle.jump.proofs.scanning.same.Reads as Clauses
-use Rattle.jump.proofs.scanning.same.Tie as tie
 
--- what is known at these places
-abbrev Args : Lfts 2 → Type 0
-Args = Places.Args tie.the-claims Clauses.Pre Clauses.Post goal.the-invariant-loop-j goal.the-decreases-loop-j
+-- symbol y is read behind the first j
+module _ (row symbols : List ℕ) (a h j : ℕ) {y : ℕ} (in-row : h ≤ length row) (room : a + length symbols ≤ h) (lt : j < length symbols) (read : y ≡ get_or row (a + j) 0) where
+  inside : a + j < length (take h row)
+  inside = omega (arith, length-take h row)
 
-abbrev In-loop-j : Type 0
-In-loop-j = Places.In-loop tie.the-claims Clauses.Pre Clauses.Post goal.the-invariant-loop-j goal.the-decreases-loop-j
+  read_is : y ≡ get_or (take h row) (a + j) 0
+  read_is = read ∙ sym (get_or-take h row (a + j) 0 (omega arith))
 
-abbrev After-get : Type 0
-After-get = Places.After-get tie.the-claims Clauses.Pre Clauses.Post goal.the-invariant-loop-j goal.the-decreases-loop-j
+  differs : (y ≡ get_or symbols j 0 → ⊥) → stands (drop j symbols) (drop (a + j) (take h row)) ≡ false
+  differs n = stands_differ symbols (take h row) j (a + j) lt inside (λ e. n (read_is ∙ e))
 
-abbrev row : {κs : Lfts 2} → Args κs → List ℕ
-row s = take s.h (symbols_of s.code.k s.buf.now)
-
-inside : (n : In-loop-j) → n.args.a + n.loop-j.j < length (row n.args)
-inside n =
-    omega (arith, n.loop-j-test.true, n.requires.2, length-take-le n.args.h (symbols_of n.args.code.k n.args.buf.now) n.requires.1)
-
--- the symbol that is read
-symbol_is : (g : After-get) → g.get.result ≡ get_or (row g.args) (g.args.a + g.loop-j.j) 0
-symbol_is g =
-    g.get.ensures ∙ sym (get_or-take g.args.h (symbols_of g.args.code.k g.args.buf.now) _ 0 (omega (arith, g.loop-j-test.true, g.requires.2)))
-
-pub loop-j-init : goal.loop-j-init
-loop-j-init c =
-    let a = c.args in
-    (omega arith, ap (λ (n : ℕ). stands a.symbols.now (drop n (take a.h (symbols_of a.code.k a.buf.now)))) (sym (add-zero a.a)))
+  goes_on : y ≡ get_or symbols j 0 → stands (drop j symbols) (drop (a + j) (take h row)) ≡ stands (drop (j + 1) symbols) (drop (a + (j + 1)) (take h row))
+  goes_on e =
+      let one : a + j + 1 ≡ a + (j + 1) = omega arith in
+      stands_same symbols (take h row) j (a + j) lt inside (sym read_is ∙ e)
+      ∙ ap (λ (i : ℕ). stands (drop (j + 1) symbols) (drop i (take h row))) one
 
 pub get-requires : goal.get-requires
 get-requires c =
-    (code_width c.args.code c.requires.0, omega (arith, c.loop-j-test.true, c.requires.1, c.requires.2))
+    let s = c.args.searched.now in
+    (code_width s.code s.good, omega (arith, c.loop-j-test.true, c.requires, s.inside))
 
-pub returns-then-get-symbols : goal.returns-then-get-symbols
-returns-then-get-symbols c =
-    let a = c.args in
-    sym (c.loop-j.invariant.1 ∙ stands_differ a.symbols.now (row c.args) c.loop-j.j (a.a + c.loop-j.j) c.loop-j-test.true (inside c.before.before.before.before) (λ e. c.if-get-symbols.true (symbol_is c.before.before.before ∙ e)))
+pub returns-then-get-y : goal.returns-then-get-y
+returns-then-get-y c =
+    let s = c.args.searched.now in
+    sym (c.loop-j.invariant ∙ differs _ _ c.args.a s.h c.loop-j.j s.inside c.requires c.loop-j-test.true c.get.ensures c.if-get-y.true)
 
 pub loop-j-preserved : goal.loop-j-preserved
 loop-j-preserved c =
-    let a = c.args in
-    let e : a.a + c.loop-j.j + 1 ≡ a.a + (c.loop-j.j + 1) = omega arith in (
-      omega (arith, c.loop-j-test.true),
-      c.loop-j.invariant.1
-          ∙ stands_same a.symbols.now (row c.args) c.loop-j.j (a.a + c.loop-j.j) c.loop-j-test.true (inside c.before.before.before.before) (sym (symbol_is c.before.before.before) ∙ c.if-get-symbols.false)
-          ∙ ap (λ (i : ℕ). stands (drop (c.loop-j.j + 1) a.symbols.now) (drop i (row c.args))) e,
-    )
+    let s = c.args.searched.now in
+    c.loop-j.invariant ∙ goes_on _ _ c.args.a s.h c.loop-j.j s.inside c.requires c.loop-j-test.true c.get.ensures c.if-get-y.false
 
 pub returns : goal.returns
 returns c =
-    let a = c.args in
-    let e : c.loop-j.j ≡ length a.symbols.now = omega (arith, c.loop-j.invariant.0, c.loop-j-test.false) in
+    let s = c.args.searched.now in
+    let symbols = c.args.symbols.now in
+    let row : List ℕ = take s.h (symbols_of s.code.k s.buf.now) in
+    let e : c.loop-j.j ≡ length symbols = omega arith in
     sym
-    (c.loop-j.invariant.1
-    ∙ ap (λ (i : ℕ). stands (drop i a.symbols.now) (drop (a.a + c.loop-j.j) (row c.args))) e
-    ∙ stands_end a.symbols.now (drop (a.a + c.loop-j.j) (row c.args)))
+    (c.loop-j.invariant
+    ∙ ap (λ (i : ℕ). stands (drop i symbols) (drop (c.args.a + c.loop-j.j) row)) e
+    ∙ stands_end symbols (drop (c.args.a + c.loop-j.j) row))

@@ -1,147 +1,109 @@
 -- `jump::scanning::scan` meets its contract.
-use mathlib.Core.Path.{◌≡◌, refl, sym, ap, subst, ◌∙◌}
-use mathlib.Core.List.{List, []}
-use Prim.Native.Nat.{ℕ, ◌+◌, ◌-◌, ◌*◌, ◌≤◌, ◌<◌}
-use native.Mathlib.Nat.{mul-le-mul_right, div-le_self, le-div_iff_mul-le}
-use native.Mathlib.Omega.{arith}
-use lib.ListN.{length}
-use Rattle.ground.specs.Helpers.Below.{Below}
+use Rattle.std.proofs.Common.{◌≡◌, List, [], ℕ, ◌+◌, ◌-◌, ◌*◌, ◌/◌, ◌^◌, ◌≤◌, ◌<◌, length, sym, ap, subst, ◌∙◌, arith, mul-le-mul_right, div-le_self, le-div_iff_mul-le}
 use Rattle.ground.specs.Laws.Rows.{below_all}
 use Rattle.stopper.specs.Laws.Table.{code_width}
 use Rattle.symbols.specs.Paper.Symbols.{per}
-use Rattle.symbols.specs.Helpers.Widths.{Width}
 use Rattle.symbols.specs.Laws.Width.{per_pos}
 use Rattle.texts.specs.Paper.Hits.{listed}
 use Rattle.texts.specs.Laws.Finding.{listed_none}
 use Rattle.jump.specs.Helpers.Counting.{Counts}
 use Rattle.jump.specs.Helpers.Hits.{hits_below}
-use Rattle.jump.specs.Helpers.Windows.{first_of, Skipped}
+use Rattle.jump.specs.Helpers.Windows.{Fits, Safe, first_of, Skipped}
 use Rattle.jump.specs.Laws.Counting.{counts_none, counts_later, end_inside}
 use Rattle.jump.specs.Laws.Hits.{no_hits}
 use Rattle.jump.specs.Laws.Windows.{skip_hits, end_hits}
+use Rattle.jump.specs.declared.searched.Searched.{Searched}
+use Rattle.jump.specs.declared.windows.Window.{Window}
 use Rattle.jump.proofs.scanning.scan.Goals as goal
-use Rattle.jump.proofs.scanning.scan.Lts as Places
-use Rattle.jump.proofs.scanning.scan.Reads as Clauses
-use Rattle.jump.proofs.scanning.scan.Tie as tie
 
--- what is known at these places
-abbrev Start : Type 0
-Start = Places.Start tie.the-claims Clauses.Pre Clauses.Post goal.the-invariant-loop-e goal.the-decreases-loop-e tie.handed_clauses
+module _ (s : Searched) {symbols : List ℕ} {v : Window} {t : List ℕ} {full : ℕ} (fits : Fits s.code.k (length symbols) v) (safe : Safe s.code.k v symbols t) (whole : full ≡ s.h / per s.code.k) where
+  -- the whole bytes
+  inside : (full ≤ length s.buf.now) × (full ≤ 2 ^ 24)
+  inside = (
+    omega (arith, whole, end_inside s.code s.good s.buf.now s.h s.inside),
+    omega (arith, whole, s.few, div-le_self s.h (per s.code.k)),
+  )
 
-abbrev After-byte_of-full : Type 0
-After-byte_of-full = Places.After-byte_of tie.the-claims Clauses.Pre Clauses.Post goal.the-invariant-loop-e goal.the-decreases-loop-e tie.handed_clauses
+  within : (n : ℕ) → n ≤ full → n * per s.code.k ≤ s.h
+  within n h = (le-div_iff_mul-le (per_pos (code_width s.code s.good))).0 (omega (arith, whole))
 
--- the ways back
--- the hits before the window from byte f on
-abbrev hits : Start → ℕ → List ℕ
-hits s f = let a = s.args in hits_below a.code a.h a.buf.now a.symbols.now (first_of a.code.k a.v.free f)
+  -- the hits before the window from byte f on
+  abbrev hits : ℕ → List ℕ
+  hits f = hits_below s.code s.h s.buf.now symbols (first_of s.code.k v.free f)
 
-width : (s : Start) → Width s.args.code.k
-width s = code_width s.args.code s.requires.0
+  -- all that the loop keeps there
+  abbrev Kept : (total next ended : ℕ) (old new : List ℕ) → ℕ → Type 0
+  Kept total next ended old new f =
+      Counts s.code s.buf.now (first_of s.code.k v.free f) next ended × (total ≡ length (hits f)) × (new ≡ listed (hits f) old)
 
--- the whole bytes
-sizes : (d : After-byte_of-full)
-    → let a = d.args in (d.byte_of-full.result ≤ length a.buf.now) × (d.byte_of-full.result ≤ 16777216) × (a.v.wide ≤ 255) × (a.v.places + a.v.back ≡ a.v.wide) × (0 < a.v.places)
-sizes d =
-    let a = d.args in
-    let e = d.byte_of-full.ensures in (
-      omega (arith, e, end_inside a.code d.requires.0 a.buf.now a.h d.requires.2),
-      omega (arith, e, d.requires.3, div-le_self a.h (per a.code.k)),
-      d.requires.4.small,
-      d.requires.4.sum,
-      d.requires.4.some,
-    )
+  -- windows that are jumped over have no hit
+  skipped : {from to total next ended : ℕ} (old new : List ℕ) → Skipped v.back v.places t s.buf.now from to → from ≤ to → v.wide ≤ from + 1 → to < full + v.wide
+      → Kept total next ended old new (from + 1 - v.wide) → Kept total next ended old new (to + 1 - v.wide)
+  skipped {from} {to} old new p le lo hi k =
+      let q : ℕ = per s.code.k in
+      let m : (from + 1 - v.wide) * q ≤ (to + 1 - v.wide) * q = mul-le-mul_right q (omega arith) in
+      let e : hits (to + 1 - v.wide) ≡ hits (from + 1 - v.wide)
+      = skip_hits s.code s.good (below_all 256 s.buf.now s.bytes) s.h s.inside symbols v fits t safe p lo (within (to + 1 - v.wide) (omega arith)) in
+      (counts_later (omega arith) k.0, k.1 ∙ ap length (sym e), k.2 ∙ ap (λ (x : List ℕ). listed x old) (sym e))
 
-within : (d : After-byte_of-full) (n : ℕ) → n ≤ d.byte_of-full.result → n * per d.args.code.k ≤ d.args.h
-within d n h = (le-div_iff_mul-le (per_pos (width d.before.before.before.before.before.before.before))).0 (omega (arith, d.byte_of-full.ensures))
+  -- nothing is found before the first window
+  first : (slice : List ℕ) → Kept 0 0 0 slice slice (v.wide - 1 + 1 - v.wide)
+  first slice =
+      let z : v.wide - 1 + 1 - v.wide ≡ 0 = omega (arith, fits.some, fits.sum) in
+      let o : first_of s.code.k v.free (v.wide - 1 + 1 - v.wide) ≡ 0 = ap (first_of s.code.k v.free) z ∙ omega (arith, fits.few) in
+      let e : hits (v.wide - 1 + 1 - v.wide) ≡ [] = ap (hits_below s.code s.h s.buf.now symbols) o ∙ no_hits s.code s.buf.now s.h symbols s.inside in
+      (counts_none s.code s.buf.now _, sym (ap length e), sym (ap (λ (x : List ℕ). listed x slice) e ∙ listed_none slice))
 
-bytes : (d : After-byte_of-full) → Below 256 d.args.buf.now
-bytes d = below_all 256 d.args.buf.now (λ i. (d.shared_slice_known-2-1.given i).fits)
-
--- all that the loop keeps, at the window from byte f on
-abbrev Kept : Start → ℕ → ℕ → ℕ → List ℕ → ℕ → Type 0
-Kept s total next ended slice f =
-    let a = s.args in
-    Counts a.code a.buf.now (first_of a.code.k a.v.free f) next ended × (total ≡ length (hits s f)) × (slice ≡ listed (hits s f) a.slice.now) × (length slice ≡ length a.slice.now)
-
--- windows that are jumped over have no hit
-skipped : (d : After-byte_of-full) {from to total next ended : ℕ} {slice : List ℕ} → let a = d.args in
-    Skipped a.v.back a.v.places a.t.now a.buf.now from to → from ≤ to → a.v.wide ≤ from + 1 → to < d.byte_of-full.result + a.v.wide
-    → Kept d.before.before.before.before.before.before.before total next ended slice (from + 1 - a.v.wide) → Kept d.before.before.before.before.before.before.before total next ended slice (to + 1 - a.v.wide)
-skipped d {from} {to} p le lo hi k =
-    let a = d.args in
-    let w : ℕ = a.v.wide in
-    let q : ℕ = per a.code.k in
-    let m : (from + 1 - w) * q ≤ (to + 1 - w) * q = mul-le-mul_right q (omega arith) in
-    let e : hits d.before.before.before.before.before.before.before (to + 1 - w) ≡ hits d.before.before.before.before.before.before.before (from + 1 - w)
-    = skip_hits a.code d.requires.0 (bytes d) a.h d.requires.2 a.symbols.now a.v d.requires.4 a.t.now d.requires.5 p lo (within d (to + 1 - w) (omega arith)) in
-    (counts_later (omega arith) k.0, k.1 ∙ ap length (sym e), k.2 ∙ ap (λ (x : List ℕ). listed x a.slice.now) (sym e), k.3)
+  -- past the last window there is none
+  last : (f : ℕ) → f ≤ full → full < f + v.wide → hits_below s.code s.h s.buf.now symbols s.h ≡ hits f
+  last f h out =
+      end_hits s.code s.good (below_all 256 s.buf.now s.bytes) s.h s.inside symbols v fits t safe f (within f h) (omega (arith, whole))
 
 pub byte_of-full-requires : goal.byte_of-full-requires
-byte_of-full-requires c = width c.before.before.before.before.before.before.before
+byte_of-full-requires c = let s = c.args.searched.now in code_width s.code s.good
 
 pub skip-e-requires : goal.skip-e-requires
 skip-e-requires c =
-    let z = sizes c.before in
-    (c.requires.4.near, z.4, omega (arith, z), c.requires.5.long, c.requires.5.under, z.0, z.1, omega (arith, z), omega (arith, z))
+    let f = c.requires.0 in
+    let z = inside c.args.searched.now f c.requires.1 c.byte_of-full.ensures in
+    (f.near, f.some, omega (arith, f.sum, f.small), c.requires.1.under, z.0, z.1, omega (arith, f.sum, f.some), omega (arith, f.sum, f.some))
 
 pub loop-e-init : goal.loop-e-init
 loop-e-init c =
-    let a = c.args in
-    let w : ℕ = a.v.wide in
+    let s = c.args.searched.now in
+    let f = c.requires.0 in
     let r = c.skip-e.ensures in
-    let few : 0 < w = omega (arith, sizes c.before.before) in
-    let hi : c.skip-e.result < c.byte_of-full.result + w = omega (arith, r.1, sizes c.before.before) in
-    let first : w - 1 + 1 - w ≡ 0 = omega arith in
-    let z : first_of a.code.k a.v.free (w - 1 + 1 - w) ≡ 0 = ap (first_of a.code.k a.v.free) first ∙ omega (arith, c.requires.4.few) in
-    let e : hits c.before.before.before.before.before.before.before.before.before (w - 1 + 1 - w) ≡ []
-    = ap (hits_below a.code a.h a.buf.now a.symbols.now) z ∙ no_hits a.code a.buf.now a.h a.symbols.now c.requires.2 in
-    let k = skipped c.before.before r.2 r.0 (omega arith) hi (counts_none a.code a.buf.now _, sym (ap length e), sym (ap (λ (x : List ℕ). listed x a.slice.now) e ∙ listed_none a.slice.now), refl) in
-    (omega (arith, r.0), hi, k.0, k.1, k.2, k.3)
-
-pub overflow_add-f : goal.overflow_add-f
-overflow_add-f c = omega (arith, c.loop-e-test.true, sizes c.before.before.before.before)
+    let hi : c.skip-e.result < c.byte_of-full.result + c.args.v.wide = omega (arith, r.1, f.sum) in
+    let some : 0 < c.args.v.wide = omega (arith, f.sum, f.some) in
+    let k = skipped s f c.requires.1 c.byte_of-full.ensures c.args.slice.now _ r.2 r.0 (omega (arith, some)) hi (first s f c.requires.1 c.byte_of-full.ensures c.args.slice.now) in
+    (omega (arith, r.0), hi, k.0, k.1, k.2)
 
 pub try_window-found-requires : goal.try_window-found-requires
 try_window-found-requires c =
     let k = c.loop-e.invariant in
-    (c.requires.0, c.requires.1, c.requires.2, c.requires.3, c.requires.4, c.requires.6, c.requires.7, within c.before.before.before.before.before (c.loop-e.e + 1 - c.args.v.wide + c.args.v.wide) (omega (arith, k.0, c.loop-e-test.true)), k.2, k.3, c.requires.8)
-
-pub overflow_add-e : goal.overflow_add-e
-overflow_add-e c = omega (arith, c.loop-e-test.true, sizes c.before.before.before.before.before.before.before.before)
+    (c.requires.0, c.requires.2, within c.args.searched.now c.requires.0 c.requires.1 c.byte_of-full.ensures _ (omega (arith, k.0, c.loop-e-test.true)), k.2, k.3)
 
 pub skip-e-requires-in-loop-e : goal.skip-e-requires-in-loop-e
 skip-e-requires-in-loop-e c =
-    let z = sizes c.before.before.before.before.before.before.before.before in
-    let k = c.loop-e.invariant in
-    (c.requires.4.near, z.4, omega (arith, z), c.requires.5.long, c.requires.5.under, z.0, z.1, omega (arith, k.0, z), omega (arith, c.loop-e-test.true, z))
-
-pub loop-e-smaller : goal.loop-e-smaller
-loop-e-smaller c =
-    omega (arith, c.skip-e-in-loop-e.ensures.0, c.loop-e-test.true)
+    let f = c.requires.0 in
+    let z = inside c.args.searched.now f c.requires.1 c.byte_of-full.ensures in
+    (f.near, f.some, omega (arith, f.sum, f.small), c.requires.1.under, z.0, z.1, omega (arith, c.loop-e.invariant.0, f.sum), omega (arith, c.loop-e-test.true, f.some))
 
 pub loop-e-preserved : goal.loop-e-preserved
 loop-e-preserved c =
-    let a = c.args in
-    let w : ℕ = a.v.wide in
-    let f : ℕ = c.loop-e.e + 1 - w in
+    let s = c.args.searched.now in
+    let f = c.requires.0 in
     let r = c.skip-e-in-loop-e.ensures in
     let k = c.loop-e.invariant in
     let t = c.try_window-found.ensures in
-    let hi : c.skip-e-in-loop-e.result < c.byte_of-full.result + w = omega (arith, r.1, sizes c.before.before.before.before.before.before.before.before.before) in
-    let next : f + 1 ≡ c.loop-e.e + 1 + 1 - w = omega (arith, k.0) in
-    let tried = subst (Kept c.before.before.before.before.before.before.before.before.before.before.before.before.before.before.before.before _ _ _ _) next (t.0, t.1, t.2 a.slice.now k.4, c.slice-1.given ∙ k.5) in
-    let q = skipped c.before.before.before.before.before.before.before.before.before r.2 r.0 (omega (arith, k.0)) hi tried in
-    (omega (arith, r.0, k.0), hi, q.0, q.1, q.2, q.3)
+    let hi : c.skip-e-in-loop-e.result < c.byte_of-full.result + c.args.v.wide = omega (arith, r.1, f.sum) in
+    let next : c.loop-e.e + 1 - c.args.v.wide + 1 ≡ c.loop-e.e + 1 + 1 - c.args.v.wide = omega (arith, k.0) in
+    let tried = subst (Kept s f c.requires.1 c.byte_of-full.ensures _ _ _ c.args.slice.now _) next (t.0, t.1, t.2 c.args.slice.now k.4) in
+    let q = skipped s f c.requires.1 c.byte_of-full.ensures c.args.slice.now _ r.2 r.0 (omega (arith, k.0)) hi tried in
+    (omega (arith, r.0, k.0), hi, q.0, q.1, q.2)
 
 pub returns : goal.returns
 returns c =
-    let a = c.args in
     let k = c.loop-e.invariant in
-    let f : ℕ = c.loop-e.e + 1 - a.v.wide in
-    let e : hits_below a.code a.h a.buf.now a.symbols.now a.h ≡ hits c.before.before.before.before.before.before.before.before.before.before.before f
-    = end_hits a.code c.requires.0 (bytes c.before.before.before.before) a.h c.requires.2 a.symbols.now a.v c.requires.4 a.t.now c.requires.5 f (within c.before.before.before.before f (omega (arith, k.1))) (omega (arith, k.0, c.loop-e-test.false, c.byte_of-full.ensures)) in
-    record { total = k.3 ∙ ap length (sym e); list = k.4 ∙ ap (λ (x : List ℕ). listed x a.slice.now) (sym e) }
-
-pub overflow_sub-wide : goal.overflow_sub-wide
-overflow_sub-wide c = omega (arith, sizes c.before)
+    let e = last c.args.searched.now c.requires.0 c.requires.1 c.byte_of-full.ensures (c.loop-e.e + 1 - c.args.v.wide) (omega (arith, k.1)) (omega (arith, k.0, c.loop-e-test.false)) in
+    record { total = k.3 ∙ ap length (sym e); list = k.4 ∙ ap (λ (x : List ℕ). listed x c.args.slice.now) (sym e) }

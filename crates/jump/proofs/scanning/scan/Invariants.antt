@@ -1,7 +1,4 @@
-use mathlib.Core.Path.{◌≡◌}
-use mathlib.Core.List.{List}
-use Prim.Native.Nat.{ℕ, ◌+◌, ◌-◌, ◌≤◌, ◌<◌}
-use lib.ListN.{length}
+use Rattle.std.proofs.Common.{◌≡◌, List, ℕ, ◌+◌, ◌-◌, ◌≤◌, ◌<◌, length}
 use Rattle.texts.specs.Paper.Hits.{listed}
 use Rattle.jump.specs.Helpers.Counting.{Counts}
 use Rattle.jump.specs.Helpers.Hits.{hits_below}
@@ -10,13 +7,14 @@ use Rattle.jump.proofs.scanning.scan.Given as goal
 
 abbrev pub invariant-loop-e : goal.invariant-loop-e
 invariant-loop-e l =
-    let found_below : List ℕ = hits_below l.code l.h l.buf l.symbols (first_of l.code.k l.v.free (l.e + 1 - l.wide)) in
-    (l.wide ≤ l.e + 1)
-    × (l.e < l.full + l.wide)
-    × Counts l.code l.buf (first_of l.code.k l.v.free (l.e + 1 - l.wide)) l.found.next l.found.ended
-    × (l.found.total ≡ length found_below)
-    × (l.slice ≡ listed found_below l.initial.slice)
-    × (length l.slice ≡ length l.initial.slice)
+    let s = l.searched in
+    let first : ℕ = first_of s.code.k l.v.free (l.e + 1 - l.v.wide) in
+    let hits : List ℕ = hits_below s.code s.h s.buf.now l.symbols first in
+    (l.v.wide ≤ l.e + 1)
+    × (l.e < l.full + l.v.wide)
+    × Counts s.code s.buf.now first l.found.counted.next l.found.counted.ended
+    × (l.found.total ≡ length hits)
+    × (l.slice ≡ listed hits l.initial.slice)
 
 abbrev pub decreases-loop-e : goal.decreases-loop-e
-decreases-loop-e l = l.full + l.wide - l.e
+decreases-loop-e l = l.full + l.v.wide - l.e

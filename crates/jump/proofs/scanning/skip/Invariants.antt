@@ -1,4 +1,4 @@
-use Prim.Native.Nat.{◌+◌, ◌-◌, ◌≤◌, ◌<◌}
+use Rattle.std.proofs.Common.{◌+◌, ◌-◌, ◌≤◌, ◌<◌}
 use Rattle.jump.specs.Helpers.Windows.{Skipped}
 use Rattle.jump.proofs.scanning.skip.Given as goal
 

@@ -1,43 +1,35 @@
 -- `jump::windows::number_from` meets its contract.
-use mathlib.Core.Path.{refl, ap, ◌∙◌}
-use Prim.Native.Nat.{ℕ, ◌+◌, ◌*◌, ◌%◌, ◌^◌}
-use native.Mathlib.Omega.{arith}
-use lib.ListN.{get_or}
-use lib.Pow.{pow_pos}
+use Rattle.std.proofs.Common.{◌≡◌, List, ℕ, ◌+◌, ◌-◌, ◌<◌, length, take, drop, get_or, refl, ◌∙◌, arith, length-take, get_or-take, get_or-drop, pow_pos}
 use Rattle.ground.specs.Laws.Rows.{get_or_below}
 use Rattle.symbols.specs.Paper.Symbols.{number}
 use Rattle.jump.specs.Laws.Table.{number_next}
-use Rattle.jump.specs.Helpers.Windows.{number_from}
 use Rattle.jump.proofs.windows.number_from.Goals as goal
 
-pub loop-i-init : goal.loop-i-init
-unfolding number
-loop-i-init c = (omega arith, refl)
+-- the symbols from j on, as many as are taken
+abbrev taken : List ℕ → ℕ → ℕ → List ℕ
+taken symbols j n = take (j + n - j) (drop j symbols)
 
-pub bounds-symbols-j : goal.bounds-symbols-j
-bounds-symbols-j c = omega (arith, c.requires.3, c.loop-i-test.true)
+before : (symbols : List ℕ) (j n i : ℕ) → i < length (taken symbols j n) → i < n
+before symbols j n i h = omega (arith, length-take (j + n - j) (drop j symbols))
+
+taken_at : (symbols : List ℕ) (j n i : ℕ) → i < n → get_or (taken symbols j n) i 0 ≡ get_or symbols (j + i) 0
+taken_at symbols j n i h =
+    get_or-take (j + n - j) (drop j symbols) i 0 (omega arith) ∙ get_or-drop j symbols i 0
+
+pub loop-x-init : goal.loop-x-init
+unfolding number
+loop-x-init c = refl
 
 pub next_byte-b-requires : goal.next_byte-b-requires
 next_byte-b-requires c =
-    (c.requires.0, get_or_below c.requires.1 (pow_pos c.args.k) _)
-
-pub overflow_add-i : goal.overflow_add-i
-overflow_add-i c = omega (arith, c.loop-i-test.true)
-
-pub loop-i-smaller : goal.loop-i-smaller
-loop-i-smaller c = omega (arith, c.loop-i-test.true)
-
-pub loop-i-preserved : goal.loop-i-preserved
-loop-i-preserved c =
     let a = c.args in
-    let lt = c.loop-i-test.true in (
-      omega (arith, lt),
-      c.next_byte-b.ensures
-          ∙ ap (λ (b : ℕ). (b * 2 ^ a.k + get_or a.symbols.now (a.j + c.loop-i.i) 0) % 256) c.loop-i.invariant.1
-          ∙ number_next c.requires.0 c.requires.1 a.j c.loop-i.i (omega (arith, lt, c.requires.2)),
-    )
+    let lt = before a.symbols.now a.j a.n c.loop-x.x-index c.loop-x-test.true in
+    (c.requires.0, rw (taken_at a.symbols.now a.j a.n c.loop-x.x-index lt) (get_or_below c.requires.1 (pow_pos a.k) _))
 
-pub returns : goal.returns
-returns c =
+pub loop-x-preserved : goal.loop-x-preserved
+loop-x-preserved c =
     let a = c.args in
-    c.loop-i.invariant.1 ∙ ap (number_from a.k a.symbols.now a.j) (omega (arith, c.loop-i.invariant.0, c.loop-i-test.false))
+    let i : ℕ = c.loop-x.x-index in
+    let lt = before a.symbols.now a.j a.n i c.loop-x-test.true in
+    c.next_byte-b.ensures
+    ∙ rw (taken_at a.symbols.now a.j a.n i lt, c.loop-x.invariant) (number_next c.requires.0 c.requires.1 a.j i (omega (arith, c.requires.2)))
