@@ -1,5 +1,5 @@
 -- `radio::feed::follow` meets its contract.
-use Rattle.std.proofs.Common.{◌≡◌, List, [], ℕ, ◌+◌, ◌-◌, ◌*◌, ◌%◌, ◌^◌, ◌≤◌, ◌<◌, min, cond, Option, Some, None, length, take, drop, get_or, refl, sym, ap, subst, ◌∙◌, ⊎_elim, rules, arith, one-mul, shl_exact, length-take-le}
+use Rattle.std.proofs.Common.{◌≡◌, List, [], ℕ, ◌+◌, ◌-◌, ◌*◌, ◌%◌, ◌^◌, ◌≤◌, ◌<◌, min, cond, Option, Some, None, length, take, drop, refl, sym, ap, subst, ◌∙◌, ⊎_elim, rules, arith, one-mul, shl_exact, length-take-le}
 use Rattle.std.proofs.Math.Decide.{dec_lt}
 use Rattle.ground.specs.Paper.Rows.{zeros}
 use Rattle.ground.specs.Laws.Limit.{limit_fits}

@@ -1,5 +1,4 @@
 -- `radio::matching::kept_pattern` meets its contract.
-use Rattle.std.proofs.Common.{◌-◌, length}
 use Rattle.std.proofs.lemmas.List.{drop-replicate}
 use Rattle.ground.specs.Paper.Rows.{zeros, padded}
 use Rattle.radio.proofs.matching.kept_pattern.Goals as goal

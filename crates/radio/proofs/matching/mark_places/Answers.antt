@@ -1,5 +1,5 @@
 -- `radio::matching::mark_places` meets its contract: the masks are those of the characters before place j.
-use Rattle.std.proofs.Common.{◌≡◌, List, [], ℕ, ◌+◌, ◌*◌, ◌%◌, ◌^◌, ◌≤◌, ◌<◌, length, take, get_or, set, refl, sym, ap, ◌∙◌, arith, one-mul, add-one, pow_mono, shl_exact, take-suc, length-take, length-take-le, take_all}
+use Rattle.std.proofs.Common.{◌≡◌, List, [], ℕ, ◌+◌, ◌*◌, ◌%◌, ◌^◌, ◌≤◌, ◌<◌, length, take, get_or, set, refl, ap, ◌∙◌, arith, one-mul, add-one, pow_mono, shl_exact, take-suc, length-take, length-take-le, take_all}
 use Rattle.ground.specs.Paper.Rows.{zeros}
 use Rattle.ground.specs.Laws.Rows.{length_tab, tab_at, tab_zeros}
 use Rattle.texts.specs.Paper.Hits.{most_pattern}

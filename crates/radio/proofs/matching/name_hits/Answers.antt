@@ -1,5 +1,5 @@
 -- `radio::matching::name_hits` meets its contract: the hits are those whose last characters are before place i.
-use Rattle.std.proofs.Common.{◌≡◌, List, [], ◌∷◌, ◌++◌, ℕ, suc, ◌+◌, ◌-◌, ◌*◌, ◌^◌, ◌≤◌, ◌<◌, length, take, get_or, set, refl, sym, ap, ap₂, ◌∙◌, arith, add-zero, le-leb, length-append, length-take, append-nil, take_all}
+use Rattle.std.proofs.Common.{◌≡◌, List, [], ◌∷◌, ◌++◌, ℕ, suc, ◌+◌, ◌-◌, ◌*◌, ◌^◌, ◌≤◌, ◌<◌, length, take, get_or, set, refl, sym, ap, ap₂, ◌∙◌, arith, add-zero, le-leb, length-append, length-take, append-nil}
 use Rattle.std.proofs.lemmas.Bool.{lt-leb}
 use Rattle.std.specs.Int.Bits.{bit_and}
 use Rattle.ground.specs.Laws.Runs.{over_none, over_more}

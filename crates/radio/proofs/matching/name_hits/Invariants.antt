@@ -1,4 +1,4 @@
-use Rattle.std.proofs.Common.{◌≡◌, List, ℕ, ◌+◌, ◌^◌, ◌≤◌, ◌<◌, take}
+use Rattle.std.proofs.Common.{List, ℕ, ◌+◌, ◌^◌, ◌≤◌, ◌<◌, take}
 use Rattle.radio.specs.Helpers.Naming.{Masked, NamedIn}
 use Rattle.radio.proofs.matching.name_hits.Given as goal
 
