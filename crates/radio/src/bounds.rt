@@ -13,10 +13,7 @@ use texts::pattern::{MOST_PATTERN, good_pattern};
 fn bits_within(x: u64, bits: u32) -> bool
     ensures { result ≡ ltb x (2 ^ bits) }
 {
-    if 64 <= bits {
-        return true;
-    }
-    x < 1 << bits
+    64 <= bits || x < 1 << bits
 }
 
 pub fn kept(searcher: Searcher) -> Done

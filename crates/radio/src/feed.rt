@@ -8,7 +8,7 @@ use crate::bounds::kept;
 use crate::matching::{mark_places, name_hits};
 use crate::records::Searcher;
 use ground::answers::Done;
-use judge::judging::{either, hear_run, reader_of};
+use judge::judging::{hear_run, reader_of};
 use judge::records::Progress;
 use stretches::codewords::{AT_ONCE, read_stretch};
 use symbols::bits::per_byte;
@@ -57,38 +57,40 @@ fn follow(searcher: Searcher, piece: &[u8], all: usize, slice: &mut [u32]) -> Fo
     requires { Follows searcher piece.now all slice.old }
     ensures { Went searcher piece.now slice.old result slice.new }
 {
-    let judge = searcher.judge;
-    let roll = judge.roll;
-    let table = roll.table;
-    let code = table.code;
-    let sigma = table.sigma as u32;
+    let roll = &searcher.judge.roll;
+    let table = &roll.table;
     let h = roll.h;
-    let p = judge.progress;
+    let p = searcher.judge.progress;
     let left = (h - p.read) as usize;
+    if p.past != 0 || left == 0 {
+        return nowhere(p, searcher.ends);
+    }
+    let upto = left.min(all);
     let length = searcher.length;
-    let mut ends = searcher.ends;
-    if p.past != 0 {
-        return nowhere(p, ends);
-    }
-    if left == 0 {
-        return nowhere(p, ends);
-    }
-    let upto = if left < all { left } else { all };
-    let pattern = searcher.pattern;
     let mut masks = [0u64; 256];
-    mark_places(pattern, length as usize, &mut masks);
+    mark_places(searcher.pattern, length as usize, &mut masks);
     let whole: u64 = 1 << (length - 1);
     let mut text = [0u8; AT_ONCE];
+    let mut ends = searcher.ends;
     let mut r = reader_of(p);
     let mut count = p.count;
     let mut first = p.first;
     let mut hits: usize = 0;
     let mut i: usize = 0;
+    // A while: how far a turn goes comes from the stretch that it reads.
     while i < upto {
-        let on = read_stretch(code, sigma, &table.places, r, piece, i, upto, &mut text);
-        if !on.going {
+        let Some(on) = read_stretch(
+            table.code,
+            u32::from(table.sigma),
+            &table.places,
+            r,
+            piece,
+            i,
+            upto,
+            &mut text,
+        ) else {
             break;
-        }
+        };
         let named = name_hits(
             &masks,
             whole,
@@ -102,7 +104,9 @@ fn follow(searcher: Searcher, piece: &[u8], all: usize, slice: &mut [u32]) -> Fo
         );
         i = on.to;
         r = on.reader;
-        first = either(on.ended, p.read + i as u32, first);
+        if on.ended {
+            first = p.read + i as u32;
+        }
         count += on.characters as u32;
         ends = named.ends;
         hits = named.hits;
@@ -118,7 +122,7 @@ fn follow(searcher: Searcher, piece: &[u8], all: usize, slice: &mut [u32]) -> Fo
             shorter: r.shorter,
             rows: r.rows,
             value: r.value,
-            bad: either((h <= read) & (first < read), 1, 0),
+            bad: u32::from((h <= read) & (first < read)),
             stained: p.stained,
         },
         ends,

@@ -6,7 +6,7 @@ ghost use Rattle.texts.specs.Paper.Hits.{most_pattern};
 ghost use Rattle.radio.specs.Helpers.Masks.{masks_of};
 ghost use Rattle.radio.specs.Helpers.Naming.{Names, NamedAll};
 
-use stretches::codewords::{AT_ONCE, wide};
+use stretches::codewords::AT_ONCE;
 use texts::pattern::MOST_PATTERN;
 
 // The beginnings that end at the last character, and so many hits in all.
@@ -21,11 +21,8 @@ pub fn mark_places(pattern: [u8; MOST_PATTERN], length: usize, masks: &mut [u64]
     requires { (length ≤ most_pattern) × (masks.old ≡ zeros 256) }
     ensures { masks.new ≡ masks_of (take length pattern) }
 {
-    let mut j: usize = 0;
-    while j < length {
-        let b = wide(pattern[j]);
-        masks[b] += 1 << j;
-        j += 1;
+    for (j, &b) in pattern[..length].iter().enumerate() {
+        masks[usize::from(b)] += 1 << j;
     }
 }
 
@@ -54,14 +51,11 @@ pub fn name_hits(
 {
     let mut on = ends;
     let mut at = hits;
-    let mut i: usize = 0;
-    while i < n {
-        let b = wide(text[i]);
-        i += 1;
-        on = advance(on, masks[b]);
+    for (i, &b) in text[..n].iter().enumerate() {
+        on = advance(on, masks[usize::from(b)]);
         if whole <= on {
             on -= whole;
-            slice[at] = count + i as u32 - length;
+            slice[at] = count + (i as u32 + 1) - length;
             at += 1;
         }
     }
@@ -74,10 +68,6 @@ pub fn kept_pattern(pattern: &[u8]) -> [u8; MOST_PATTERN]
     ensures { result ≡ padded most_pattern pattern.now }
 {
     let mut places = [0u8; MOST_PATTERN];
-    let mut i: usize = 0;
-    while i < pattern.len() {
-        places[i] = pattern[i];
-        i += 1;
-    }
+    places[..pattern.len()].copy_from_slice(pattern);
     places
 }

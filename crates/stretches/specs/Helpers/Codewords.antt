@@ -1,6 +1,5 @@
 -- A stretch of symbols read at once: whole codewords, by one number for the continuers of the open one, or a symbol.
-use Rattle.std.specs.Prelude.{◌≡◌, ◌⊎◌, Bool, true, false, cond, ◌&&◌, List, [], map, ℕ, ◌+◌, ◌-◌, ◌*◌, ◌^◌, ◌≤◌, ◌<◌, T, ltb, leb, length, take, drop, get_or}
-use Rattle.ground.specs.Paper.Rows.{tab}
+use Rattle.std.specs.Prelude.{◌≡◌, ◌⊎◌, Bool, true, false, cond, ◌&&◌, List, [], map, ℕ, ◌+◌, ◌-◌, ◌*◌, ◌^◌, ◌≤◌, ◌<◌, T, ltb, leb, length, take, drop, get_or, Option, Result, IfSome, IfNone, IfOk, IfErr, OnSome}
 use Rattle.ground.specs.Paper.Runs.{run}
 use Rattle.stopper.specs.Paper.Table.{base, stoppers, good_code}
 use Rattle.stopper.specs.Helpers.State.{Small, opened}
@@ -11,7 +10,6 @@ use Rattle.symbols.specs.Helpers.Bits.{cut_out}
 use Rattle.judge.specs.Paper.Judge.{flag, progress, hears_all, ranks_heard}
 use Rattle.judge.specs.declared.records.Progress.{Progress}
 use Rattle.stretches.specs.declared.codewords.Role.{Role}
-use Rattle.stretches.specs.declared.codewords.Roles.{Roles}
 use Rattle.stretches.specs.declared.codewords.Passed.{Passed}
 use Rattle.stretches.specs.declared.codewords.Stretch.{Stretch}
 
@@ -42,11 +40,10 @@ stops_of s y = cond (ltb y s) 1 0
 abbrev pub role_of : ℕ → ℕ → ℕ → Role
 role_of s c y = record { times = times_of s c y; plus = plus_of s y; low = low_of s y; stops = stops_of s y }
 
-pub record RolesOf (s c : ℕ) (r : Roles) : Type 0 where
-  pub times : r.times ≡ tab (times_of s c) 0 16
-  pub plus : r.plus ≡ tab (plus_of s) 0 16
-  pub low : r.low ≡ tab (low_of s) 0 16
-  pub stops : r.stops ≡ tab (stops_of s) 0 16
+-- all symbols' roles
+pub record RolesOf (s c : ℕ) (roles : List Role) : Type 0 where
+  pub all : length roles ≡ 16
+  pub each : (y : ℕ) (d : Role) → y < 16 → get_or roles y d ≡ role_of s c y
 
 -- ---- the open codeword in one number
 
@@ -110,42 +107,42 @@ pub record LaidOut (k : ℕ) (piece : List ℕ) (first n : ℕ) (row : List ℕ)
   pub inside : first * per k + n ≤ length (symbols_of k piece)
   pub symbols : (i : ℕ) → i < n → get_or row i 0 ≡ get_or (symbols_of k piece) (first * per k + i) 0
 
-pub record Passes (c : Code) (σ : ℕ) (row : List ℕ) (from to : ℕ) (text : List ℕ) : Type 0 where
+pub record Passes (c : Code) (σ : ℕ) (row : List ℕ) (from to : ℕ) : Type 0 where
   pub code : T (good_code c)
   pub sigma : σ ≤ 256
   pub order : from < to
   pub near : to ≤ 256
   pub inside : to ≤ length row
   pub small : (i : ℕ) → i < to → get_or row i 0 < 16
-  pub long : length text ≡ 256
 
-pub record PassedAll (c : Code) (σ : ℕ) (places row : List ℕ) (from to : ℕ) (r : Passed) (text : List ℕ) : Type 0 where
+-- so many characters; or the place before which less can be tried
+pub record PassedAll (c : Code) (σ : ℕ) (places row : List ℕ) (from to : ℕ) (r : Result ℕ ℕ) (text : List ℕ) : Type 0 where
   pub long : length text ≡ 256
-  pub short : r.whole ≡ false → r.to < to
-  pub few : T r.whole → r.characters ≤ 256
-  pub whole : T r.whole → Through c σ places opened (run row from to) (take r.characters text) opened true
+  pub short : IfErr r (λ before. before < to)
+  pub few : IfOk r (λ n. n ≤ 256)
+  pub whole : IfOk r (λ n. Through c σ places opened (run row from to) (take n text) opened true)
 
-pub record PassedSome (c : Code) (σ : ℕ) (places : List ℕ) (state : Reader) (piece : List ℕ) (from upto : ℕ) (r : Passed) (text : List ℕ) : Type 0 where
+pub record PassedSome (c : Code) (σ : ℕ) (places : List ℕ) (state : Reader) (piece : List ℕ) (from upto : ℕ) (r : Option Passed) (text : List ℕ) : Type 0 where
   pub long : length text ≡ 256
-  pub begins : T r.whole → state ≡ opened
-  pub on : T r.whole → from < r.to
-  pub within : T r.whole → r.to ≤ upto
-  pub few : T r.whole → r.characters ≤ 256
-  pub whole : T r.whole → Through c σ places opened (run (symbols_of c.k piece) from r.to) (take r.characters text) opened true
+  pub begins : OnSome r (state ≡ opened)
+  pub on : IfSome r (λ p. from < p.to)
+  pub within : IfSome r (λ p. p.to ≤ upto)
+  pub few : IfSome r (λ p. p.characters ≤ 256)
+  pub whole : IfSome r (λ p. Through c σ places opened (run (symbols_of c.k piece) from p.to) (take p.characters text) opened true)
 
-pub record Reads (c : Code) (σ : ℕ) (r : Reader) (piece : List ℕ) (at upto : ℕ) (text : List ℕ) : Type 0 where
+pub record Reads (c : Code) (σ : ℕ) (r : Reader) (piece : List ℕ) (at upto : ℕ) : Type 0 where
   pub code : T (good_code c)
   pub sigma : σ ≤ 256
   pub small : Small r
   pub order : at < upto
   pub inside : upto ≤ length (symbols_of c.k piece)
   pub fits : upto < 2 ^ 32
-  pub long : length text ≡ 256
 
-pub record ReadStretch (c : Code) (σ : ℕ) (places : List ℕ) (r : Reader) (piece : List ℕ) (at upto : ℕ) (x : Stretch) (text : List ℕ) : Type 0 where
+-- a stretch; none where no codeword ends well from here on
+pub record ReadStretch (c : Code) (σ : ℕ) (places : List ℕ) (r : Reader) (piece : List ℕ) (at upto : ℕ) (x : Option Stretch) (text : List ℕ) : Type 0 where
   pub long : length text ≡ 256
-  pub on : T x.going → at < x.to
-  pub within : T x.going → x.to ≤ upto
-  pub few : T x.going → x.characters ≤ 256
-  pub through : T x.going → Through c σ places r (run (symbols_of c.k piece) at x.to) (take x.characters text) x.reader x.ended
-  pub silent : x.going ≡ false → Silent c σ r (drop at (symbols_of c.k piece))
+  pub on : IfSome x (λ s. at < s.to)
+  pub within : IfSome x (λ s. s.to ≤ upto)
+  pub few : IfSome x (λ s. s.characters ≤ 256)
+  pub through : IfSome x (λ s. Through c σ places r (run (symbols_of c.k piece) at s.to) (take s.characters text) s.reader s.ended)
+  pub silent : IfNone x (Silent c σ r (drop at (symbols_of c.k piece)))

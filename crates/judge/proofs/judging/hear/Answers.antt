@@ -1,6 +1,5 @@
 -- `judge::judging::hear` meets its contract.
-use mathlib.Core.Path.{sym, ap, ◌∙◌}
-use native.Mathlib.Omega.{arith}
+use Rattle.std.proofs.Common.{sym, ap, ◌∙◌}
 use Rattle.stopper.specs.Helpers.State.{stepped}
 use Rattle.stopper.specs.declared.reading.Reader.{Reader}
 use Rattle.judge.specs.Paper.Judge.{heard_as}
@@ -15,16 +14,9 @@ returns-then-h-p c =
     let a = c.args in
     c.stained_by.ensures ∙ sym (hears_unused a.code a.sigma a.h a.p a.symbol c.if-p-ne0.false c.if-h-p.true)
 
-pub read_symbol-step-requires : goal.read_symbol-step-requires
-read_symbol-step-requires c =
-    (c.requires.0, c.requires.1, rw c.reader_of-r.ensures c.requires.2.small)
-
-pub heard-requires : goal.heard-requires
-heard-requires c = (c.if-h-p.false, omega (arith, c.requires.2.count, c.requires.2.first))
-
 pub returns : goal.returns
 returns c =
     let a = c.args in
     c.heard.ensures
-    ∙ ap (heard_as a.h a.p) (c.read_symbol-step.ensures ∙ ap (λ (x : Reader). stepped a.code a.sigma x a.symbol) c.reader_of-r.ensures)
+    ∙ ap (heard_as a.h a.p) (c.read_symbol.ensures ∙ ap (λ (x : Reader). stepped a.code a.sigma x a.symbol) c.reader_of.ensures)
     ∙ sym (hears_symbol a.code a.sigma a.h a.p a.symbol c.if-p-ne0.false c.if-h-p.false)

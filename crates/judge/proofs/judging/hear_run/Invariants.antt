@@ -1,6 +1,4 @@
-use mathlib.Core.Path.{◌≡◌}
-use mathlib.Core.List.{List}
-use Prim.Native.Nat.{ℕ, ◌-◌, ◌≤◌}
+use Rattle.std.proofs.Common.{◌≡◌, List, ℕ}
 use Rattle.ground.specs.Paper.Runs.{run}
 use Rattle.symbols.specs.Paper.Symbols.{symbols_of}
 use Rattle.judge.specs.Paper.Judge.{hears_all}
@@ -10,7 +8,4 @@ use Rattle.judge.proofs.judging.hear_run.Given as goal
 abbrev pub invariant-loop-i : goal.invariant-loop-i
 invariant-loop-i l =
     let row : List ℕ = symbols_of l.code.k l.piece in
-    (l.from ≤ l.i) × (l.i ≤ l.to) × Steady l.h l.on × (hears_all l.code l.sigma l.h l.initial.on (run row l.from l.to) ≡ hears_all l.code l.sigma l.h l.on (run row l.i l.to))
-
-abbrev pub decreases-loop-i : goal.decreases-loop-i
-decreases-loop-i l = l.to - l.i
+    Steady l.h l.on × (hears_all l.code l.sigma l.h l.initial.on (run row l.from l.to) ≡ hears_all l.code l.sigma l.h l.on (run row l.i l.to))

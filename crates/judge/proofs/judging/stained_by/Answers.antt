@@ -1,5 +1,5 @@
 -- `judge::judging::stained_by` meets its contract.
-use borrow.Author.Tests.{eq-eqb, ne_eqb}
+use Rattle.std.proofs.Common.{eq-eqb, ne_eqb}
 use Rattle.judge.specs.Paper.Judge.{stained_by}
 use Rattle.judge.proofs.judging.stained_by.Goals as goal
 
@@ -7,6 +7,6 @@ pub returns-then-symbol-eq0 : goal.returns-then-symbol-eq0
 unfolding stained_by
 returns-then-symbol-eq0 c = rw (eq-eqb _ _ c.if-symbol-eq0.true)
 
-pub returns : goal.returns
+pub returns-else-symbol-eq0 : goal.returns-else-symbol-eq0
 unfolding stained_by
-returns c = rw (ne_eqb _ _ c.if-symbol-eq0.false)
+returns-else-symbol-eq0 c = rw (ne_eqb _ _ c.if-symbol-eq0.false)

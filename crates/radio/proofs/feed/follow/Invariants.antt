@@ -1,7 +1,4 @@
-use mathlib.Core.Path.{◌≡◌}
-use mathlib.Core.List.{List}
-use Prim.Native.Nat.{ℕ, ◌-◌, ◌≤◌}
-use lib.ListN.{length}
+use Rattle.std.proofs.Common.{◌≡◌, List, ℕ, ◌-◌, ◌≤◌, length}
 use Rattle.symbols.specs.Paper.Symbols.{symbols_of}
 use Rattle.radio.specs.Helpers.Naming.{Masked}
 use Rattle.radio.specs.Helpers.Following.{Along}
@@ -9,8 +6,9 @@ use Rattle.radio.proofs.feed.follow.Given as goal
 
 abbrev pub invariant-loop-i : goal.invariant-loop-i
 invariant-loop-i l =
-    (l.i ≤ l.upto) × (length l.slice ≡ length l.initial.slice)
-    × ((pattern : List ℕ) → Masked l.masks l.whole l.length pattern → Along l.code l.sigma l.table.places l.h l.p pattern l.initial.ends (symbols_of l.code.k l.piece) l.initial.slice l.slice l.ends l.r l.count l.first l.hits l.i) × (length l.text ≡ 256)
+    let t = l.table in
+    (l.i ≤ l.upto) × (length l.text ≡ 256)
+    × ((pattern : List ℕ) → Masked l.masks l.whole l.length pattern → Along t.code t.sigma t.places l.h l.p pattern l.initial.ends (symbols_of t.code.k l.piece) l.initial.slice l.slice l.ends l.r l.count l.first l.hits l.i)
 
 abbrev pub decreases-loop-i : goal.decreases-loop-i
 decreases-loop-i l = l.upto - l.i

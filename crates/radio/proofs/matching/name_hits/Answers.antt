@@ -1,34 +1,14 @@
 -- `radio::matching::name_hits` meets its contract: the hits are those whose last characters are before place i.
-use mathlib.Core.Path.{◌≡◌, refl, sym, ap, ap₂, ◌∙◌}
-use mathlib.Core.List.{List, [], ◌∷◌, ◌++◌, append-nil}
-use Prim.Native.Nat.{ℕ, suc, ◌+◌, ◌-◌, ◌^◌, ◌≤◌, ◌<◌}
-use native.Mathlib.Nat.{add-zero, lt_of_lt_of_le}
-use native.Mathlib.Omega.{arith}
-use borrow.Author.Tests.{le-leb, lt-leb}
-use lib.ListN.{length, take, get_or, set, length-append, length-set}
-use lib.Pow.{pow_mono}
+use Rattle.std.proofs.Common.{◌≡◌, List, [], ◌∷◌, ◌++◌, ℕ, suc, ◌+◌, ◌-◌, ◌*◌, ◌^◌, ◌≤◌, ◌<◌, length, take, get_or, set, refl, sym, ap, ap₂, ◌∙◌, arith, add-zero, le-leb, length-append, length-take, append-nil}
+use Rattle.std.proofs.lemmas.Bool.{lt-leb}
+use Rattle.std.specs.Int.Bits.{bit_and}
 use Rattle.ground.specs.Laws.Runs.{over_none, over_more}
 use Rattle.radio.specs.Paper.Matching.{advanced, whole_bit, matches, matches_all, named}
 use Rattle.radio.specs.Helpers.Naming.{Masked, NamedIn}
 use Rattle.radio.specs.Laws.Matching.{grown_count, matches_low, hit_fits, hit_none, hit_rest, named_hit, named_none, matches_next, named_next}
 use Rattle.radio.specs.Laws.Following.{advanced_is}
 use Rattle.radio.proofs.matching.name_hits.Goals as goal
-use Rattle.radio.proofs.matching.name_hits.Lts as Places
-use Rattle.radio.proofs.matching.name_hits.Reads as Clauses
-use Rattle.radio.proofs.matching.name_hits.Tie as tie
-
--- what is known at these places
-abbrev At-loop-i : Type 0
-At-loop-i = Places.At-loop tie.the-claims Clauses.Pre Clauses.Post goal.the-invariant-loop-i goal.the-decreases-loop-i
-
-abbrev In-loop-i : Type 0
-In-loop-i = Places.In-loop tie.the-claims Clauses.Pre Clauses.Post goal.the-invariant-loop-i goal.the-decreases-loop-i
-
-abbrev After-advance-on : Type 0
-After-advance-on = Places.After-advance tie.the-claims Clauses.Pre Clauses.Post goal.the-invariant-loop-i goal.the-decreases-loop-i
-
-abbrev Then-whole-on : Type 0
-Then-whole-on = Places.Then1 tie.the-claims Clauses.Pre Clauses.Post goal.the-invariant-loop-i goal.the-decreases-loop-i
+use Rattle.radio.proofs.matching.name_hits.Goals.{then-whole-on, else-whole-on}
 
 -- ---- one character more
 
@@ -72,117 +52,68 @@ module _ (pattern text : List ℕ) {count bits : ℕ} {slice : List ℕ} {hits o
         leaves = rw (same, z.leaves) (over_more slice hits before at hit (sym z.hits) room);
       }
 
+-- ---- what the advance gives, whatever pattern the masks are of
+
+module _ {masks : List ℕ} {whole long : ℕ} (pattern : List ℕ) (k : Masked masks whole long pattern) (on character : ℕ) {b r : ℕ} (small : b < 256) (is : b ≡ character)
+    (given : r ≡ bit_and (2 * on + 1) (get_or masks b 0)) where
+  advance_is : r ≡ advanced pattern on character
+  advance_is = given ∙ advanced_is pattern masks on b k.entries small ∙ ap (advanced pattern on) is
+
+  -- a hit, or none
+  hit : whole ≤ r → whole_bit pattern ≤ advanced pattern on character
+  hit h = omega (arith, advance_is, k.bit)
+
+  none : r < whole → advanced pattern on character < whole_bit pattern
+  none h = omega (arith, advance_is, k.bit)
+
+  rest_low : whole ≤ r → r - whole < whole
+  rest_low h = omega (arith, advance_is, k.bit, hit_rest pattern on character k.some (hit h), matches_low pattern on character)
+
+  grown : (n : ℕ) {m : ℕ} → on < 2 ^ n → m ≡ suc n → r < 2 ^ m
+  grown n h e = rw e (omega (arith, advance_is, grown_count pattern on character n h))
+
+  fits : (n : ℕ) → on < 2 ^ n → whole ≤ r → long ≤ suc n
+  fits n h q = omega (arith, k.characters, hit_fits pattern on character n h (hit q))
+
 -- ---- the loop
-
-abbrev Of : At-loop-i → List ℕ → Type 0
-Of l pattern = let a = l.args in Masked a.masks.now a.whole a.length pattern
-
-within : (c : In-loop-i) → c.loop-i.i < length c.args.text.now
-within c = omega (arith, c.loop-i-test.true, c.requires.inside)
-
--- the entry of a hit
-room : (c : In-loop-i) → c.loop-i.at < length c.args.slice.now
-room c = omega (arith, c.loop-i-test.true, c.requires.room, c.loop-i.invariant.4)
-
--- what the advance gives, whatever pattern the masks are of
-advance_is : (c : After-advance-on) → (pattern : List ℕ) → Of c.before.before.before.before.before.before.before pattern → c.advance-on.result ≡ advanced pattern c.loop-i.on (get_or c.args.text.now c.loop-i.i 0)
-advance_is c pattern k =
-    c.advance-on.ensures
-    ∙ advanced_is pattern c.args.masks.now c.loop-i.on c.wide-b.result k.entries c.wide-b.ensures.1
-    ∙ ap (advanced pattern c.loop-i.on) c.wide-b.ensures.0
-
-advance_count : (c : After-advance-on) → c.advance-on.result < 2 ^ (c.args.count + (c.loop-i.i + 1))
-advance_count c =
-    let one : suc (c.args.count + c.loop-i.i) ≡ c.args.count + (c.loop-i.i + 1) = omega arith in
-    omega (arith, advance_is c c.requires.pattern c.requires.masked, grown_count c.requires.pattern c.loop-i.on (get_or c.args.text.now c.loop-i.i 0) (c.args.count + c.loop-i.i) c.loop-i.invariant.3, ap (λ (m : ℕ). 2 ^ m) one)
-
-hit : (c : Then-whole-on) → (pattern : List ℕ) → Of c.before.before.before.before.before.before.before.before pattern
-    → whole_bit pattern ≤ advanced pattern c.loop-i.on (get_or c.args.text.now c.loop-i.i 0)
-hit c pattern k = rw (← advance_is c.before pattern k, ← k.bit) c.if-whole-on.true
-
-none : (c : goal.Else-whole-on) → (pattern : List ℕ) → Of c.before.before.before.before.before.before.before.before.before pattern
-    → advanced pattern c.loop-i.on (get_or c.args.text.now c.loop-i.i 0) < whole_bit pattern
-none c pattern k = rw (← advance_is c.before.before pattern k, ← k.bit) c.if-whole-on.false
-
-rest_low : (c : goal.Then-whole-on) → let w = c.args.whole in c.advance-on.result - w < w
-rest_low c =
-    let pattern = c.requires.pattern in
-    let k = c.requires.masked in
-    let x = get_or c.args.text.now c.loop-i.i 0 in
-    omega (arith, advance_is c.before.before pattern k, k.bit, hit_rest pattern c.loop-i.on x k.some (hit c.before pattern k), matches_low pattern c.loop-i.on x)
 
 pub loop-i-init : goal.loop-i-init
 loop-i-init c =
     let a = c.args in
-    (omega arith, refl, c.requires.low, rw add-zero c.requires.ended, omega arith, λ pattern k. named_start pattern a.count a.ends a.slice.now a.hits)
-
-pub bounds-text-i : goal.bounds-text-i
-bounds-text-i c = omega (arith, c.loop-i-test.true, c.requires.few)
-
-pub overflow_add-i : goal.overflow_add-i
-overflow_add-i c = omega (arith, c.loop-i-test.true, c.requires.few)
-
-pub advance-on-requires : goal.advance-on-requires
-advance-on-requires c =
-    let h : whole_bit c.requires.pattern ≤ 2 ^ 63 = pow_mono {i = length c.requires.pattern - 1} {j = 63} (omega (arith, c.requires.most)) in
-    lt_of_lt_of_le c.loop-i.invariant.2 (rw c.requires.masked.bit h)
-
-pub overflow_cast-slice : goal.overflow_cast-slice
-overflow_cast-slice c = omega (arith, c.loop-i-test.true, c.requires.few)
-
-pub overflow_add-slice : goal.overflow_add-slice
-overflow_add-slice c = omega (arith, c.loop-i-test.true, c.requires.fits)
+    (c.requires.low, rw add-zero c.requires.ended, omega arith, λ pattern k. named_start pattern a.count a.ends a.slice.now a.hits)
 
 pub overflow_sub-slice : goal.overflow_sub-slice
 overflow_sub-slice c =
-    let p = c.requires in
-    omega (arith, p.masked.characters, hit_fits p.pattern c.loop-i.on _ _ c.loop-i.invariant.3 (hit c.before p.pattern p.masked))
-
-pub offset_bounds-slice-at : goal.offset_bounds-slice-at
-offset_bounds-slice-at c = omega (arith, room c.before.before.before.before.before.before.before.before, c.well_formed)
-
-pub bounds-slice-at : goal.bounds-slice-at
-bounds-slice-at c = omega (arith, room c.before.before.before.before.before.before.before.before, c.loop-i.invariant.1)
-
-pub overflow_add-at : goal.overflow_add-at
-overflow_add-at c = omega (arith, room c.before.before.before.before.before.before.before.before, c.well_formed)
-
-pub loop-i-smaller-then-whole-on : goal.loop-i-smaller-then-whole-on
-loop-i-smaller-then-whole-on c = omega (arith, c.loop-i-test.true)
-
-pub loop-i-preserved-then-whole-on : goal.loop-i-preserved-then-whole-on
-loop-i-preserved-then-whole-on c = (
-  omega (arith, c.loop-i-test.true),
-  simp length-set c.loop-i.invariant.1,
-  rest_low c,
-  omega (arith, advance_count c.before.before),
-  omega (arith, c.loop-i.invariant.4),
-  λ pattern k. more_hit pattern _ (c.loop-i.invariant.5 pattern k) (within c.before.before.before.before.before.before.before.before) (advance_is c.before.before pattern k) k (room c.before.before.before.before.before.before.before.before) (hit c.before pattern k),
-)
-
-pub loop-i-smaller : goal.loop-i-smaller
-loop-i-smaller c = omega (arith, c.loop-i-test.true)
+    omega (arith, fits c.requires.pattern c.requires.masked c.loop-i.on _ (omega arith) c.from.ensures c.advance-on.ensures (c.args.count + c.loop-i.i) c.loop-i.invariant.1 c.if-whole-on.true)
 
 pub loop-i-preserved : goal.loop-i-preserved
-loop-i-preserved c = (
-  omega (arith, c.loop-i-test.true),
-  c.loop-i.invariant.1,
-  c.if-whole-on.false,
-  advance_count c.before.before,
-  omega (arith, c.loop-i.invariant.4),
-  λ pattern k. more_none pattern _ (c.loop-i.invariant.5 pattern k) (within c.before.before.before.before.before.before.before.before) (advance_is c.before.before pattern k) (none c pattern k),
-)
-
-pub returns : goal.returns
-returns c =
-    let all : c.loop-i.i ≡ c.args.n = omega (arith, c.loop-i.invariant.0, c.loop-i-test.false) in
-    record { same = c.loop-i.invariant.1; named = λ pattern k. rw (← all) (c.loop-i.invariant.5 pattern k) }
-
-pub offset_bounds-masks-b : goal.offset_bounds-masks-b
-offset_bounds-masks-b c = omega (arith, c.wide-b.ensures.1)
-
-pub bounds-masks-b : goal.bounds-masks-b
-bounds-masks-b c = c.wide-b.ensures.1
-
-pub shape_of-slice : goal.shape_of-slice
-shape_of-slice c = c.loop-i.invariant.1
+loop-i-preserved c =
+    let a = c.args in
+    let p = c.requires in
+    let text : List ℕ = take a.n a.text.now in
+    let (low, count, few, named) = c.loop-i.invariant in
+    let small : c.from.result < 256 = omega arith in
+    let more : c.advance-on.result < 2 ^ (a.count + (c.loop-i.i + 1)) = grown p.pattern p.masked c.loop-i.on _ small c.from.ensures c.advance-on.ensures (a.count + c.loop-i.i) count (omega arith) in
+    let place : c.loop-i.at < length a.slice.now = omega (arith, length-take a.n a.text.now, p.room) in
+    elim c.if-whole-on.branch [
+      | then-whole-on w ↦
+          let h : a.whole ≤ c.advance-on.result = w.if-whole-on.true in
+          rw (w.on-is, w.at-is, w.slice-is) (
+            rest_low p.pattern p.masked c.loop-i.on _ small c.from.ensures c.advance-on.ensures h,
+            omega arith,
+            omega arith,
+            λ pattern k.
+                more_hit pattern text (named pattern k) c.loop-i-test.true (advance_is pattern k c.loop-i.on _ small c.from.ensures c.advance-on.ensures) k place
+                (hit pattern k c.loop-i.on _ small c.from.ensures c.advance-on.ensures h),
+          )
+      | else-whole-on w ↦
+          let h : c.advance-on.result < a.whole = w.if-whole-on.false in
+          rw (w.on-is, w.at-is, w.slice-is) (
+            h,
+            more,
+            omega arith,
+            λ pattern k.
+                more_none pattern text (named pattern k) c.loop-i-test.true (advance_is pattern k c.loop-i.on _ small c.from.ensures c.advance-on.ensures)
+                (none pattern k c.loop-i.on _ small c.from.ensures c.advance-on.ensures h),
+          )
+    ]
