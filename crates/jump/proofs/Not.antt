@@ -6,7 +6,8 @@ use native.Mathlib.Omega.{arith}
 use lib.ListN.{get_or}
 use Rattle.ground.specs.Paper.Limit.{limit}
 use Rattle.ground.specs.Paper.Rows.{tab, zeros, padded, all_zero, first_where}
-use Rattle.ground.specs.declared.answers.Total.{Total}
+use Rattle.std.specs.Prelude.{Result}
+use Rattle.ground.specs.declared.refusal.Refusal.{Refusal}
 use Rattle.stopper.specs.Paper.Code.{codeword, place, first, shorter, opens, spell, rank_of, rank_from, rank_at}
 use Rattle.stopper.specs.Paper.Table.{stoppers, good_width, good_code, good_characters, good_table, has, repeats, table_of}
 use Rattle.stopper.specs.Paper.Reading.{read_from, ahead}
@@ -25,6 +26,6 @@ abbrev abracad : List ℕ
 abracad = 97 ∷ 98 ∷ 114 ∷ 97 ∷ 99 ∷ 97 ∷ 100 ∷ []
 
 -- a hit numbered in symbols
-pub search_jumping_not_numbered : {answer : Total} → Searching cabracad (193 ∷ 140 ∷ 52 ∷ []) abracad (9 ∷ []) answer (2 ∷ []) → ⊥
+pub search_jumping_not_numbered : {answer : Result ℕ Refusal} → Searching cabracad (193 ∷ 140 ∷ 52 ∷ []) abracad (9 ∷ []) answer (2 ∷ []) → ⊥
 unfolding limit tab zeros padded first_where codeword place first shorter opens spell rank_of rank_from rank_at stoppers good_width good_code good_characters good_table has repeats read_from ahead per bytes_for room shift symbol_at symbols_of reading_from is_bad ranks_read first_bad text_of all_zero stands hits_from hits good_pattern fit_says check_says search_says
 search_jumping_not_numbered p = let e = ap (λ (l : List ℕ). get_or l 0 0) p.leaves in omega arith
