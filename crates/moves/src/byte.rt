@@ -40,19 +40,11 @@ fn stop_before(code: Code, sigma: u32, y: u32, m: Move) -> Move
     requires { T (good_code code) × (sigma ≤ 256) × (Small m) × (y < stoppers code 0) }
     ensures { (Small result) × ((w : List ℕ) → Moves code sigma w m → Moves code sigma (y ∷ w) result) }
 {
-    if m.bound == 0 {
+    if m.bound == 0 || sigma <= y || 127 <= m.stops {
         return never();
     }
-    if sigma <= y {
-        return never();
-    }
-    if 127 <= m.stops {
-        return never();
-    }
-    let s = stoppers_at(code, 0);
-    let bound = upto(sigma - y - 1, s);
     Move {
-        bound,
+        bound: upto(sigma - y - 1, stoppers_at(code, 0)),
         times: 0,
         plus: m.plus,
         stops: m.stops + 1,
@@ -69,18 +61,11 @@ fn more_before(code: Code, sigma: u32, y: u32, m: Move) -> Move
     let d = y - s + 1;
     let times = c * m.times;
     let plus = d * m.times + m.plus;
-    if m.bound <= d {
+    if m.bound <= d || 255 < times || 255 < plus {
         return never();
     }
-    if 255 < times {
-        return never();
-    }
-    if 255 < plus {
-        return never();
-    }
-    let bound = upto(m.bound - d - 1, c);
     Move {
-        bound,
+        bound: upto(m.bound - d - 1, c),
         times,
         plus,
         stops: m.stops,

@@ -27,7 +27,7 @@ pub struct Way {
     pub n: usize,
 }
 
-// Whole bytes, from byte way.at on, two by two: as far as their moves take the state.
+// Whole bytes, from byte way.at on, two by two: as far as their moves take the state. The parts of the moves stand in rows of their own for the speed of its loop.
 fn by_moves(
     code: Code,
     sigma: u32,

@@ -1,8 +1,8 @@
 -- `moves::byte::longer` meets its contract: the rows that symbol y and row w make, in the order of their numbers.
-use Rattle.std.proofs.Common.{◌≡◌, List, ◌∷◌, ℕ, suc, ◌+◌, ◌*◌, ◌^◌, ◌<◌, ◌≤◌, T, length, get_or, set, ap, sym, ◌∙◌, arith, mul-le-mul_right, length-set, get_or-set_same, get_or-set_other}
+use Rattle.std.proofs.Common.{◌≡◌, List, ◌∷◌, ℕ, suc, ◌+◌, ◌*◌, ◌^◌, ◌<◌, ◌≤◌, length, get_or, set, ap, sym, ◌∙◌, arith, mul-le-mul_right, length-set, get_or-set_same, get_or-set_other}
 use Rattle.std.proofs.Math.Nat.{pow-suc}
 use Rattle.std.proofs.Math.Decide.{ℕ_discrete}
-use Rattle.stopper.specs.Paper.Table.{base, good_code}
+use Rattle.stopper.specs.Paper.Table.{base}
 use Rattle.stopper.specs.Laws.Table.{code_base}
 use Rattle.stopper.specs.declared.code.Code.{Code}
 use Rattle.symbols.specs.Helpers.Gathered.{digits}

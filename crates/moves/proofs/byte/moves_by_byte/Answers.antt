@@ -1,5 +1,5 @@
 -- `moves::byte::moves_by_byte` meets its contract: the moves of all rows of n symbols, until there are as many as byte values.
-use Rattle.std.proofs.Common.{◌≡◌, [], ℕ, suc, ◌*◌, ◌^◌, ◌≤◌, ◌<◌, T, set, sym, subst, ◌∙◌, add-one, arith}
+use Rattle.std.proofs.Common.{◌≡◌, [], ℕ, suc, ◌*◌, ◌^◌, ◌≤◌, ◌<◌, T, set, sym, subst, add-one, arith}
 use Rattle.std.proofs.Math.Nat.{pow-zero, pow-suc, pow-le-pow_right}
 use Rattle.ground.specs.Paper.Rows.{zeros}
 use Rattle.stopper.specs.Paper.Table.{base, good_code}

@@ -1,5 +1,5 @@
 -- `moves::passing::by_moves` meets its contract: `Here` after every two bytes.
-use Rattle.std.proofs.Common.{◌≡◌, List, [], ◌∷◌, ℕ, suc, ◌+◌, ◌*◌, ◌≤◌, ◌<◌, length, get_or, refl, sym, ap, subst, ◌∙◌, add-one, arith, mul-le-mul_right, le-mul_of_pos_right}
+use Rattle.std.proofs.Common.{◌≡◌, List, [], ◌∷◌, ℕ, suc, ◌+◌, ◌*◌, ◌≤◌, ◌<◌, length, get_or, refl, ap, subst, ◌∙◌, add-one, arith, mul-le-mul_right, le-mul_of_pos_right}
 use Rattle.stopper.specs.Laws.Table.{code_width}
 use Rattle.stopper.specs.declared.code.Code.{Code}
 use Rattle.symbols.specs.Paper.Symbols.{per, symbols_of}
@@ -40,7 +40,7 @@ module _ {code : Code} {σ : ℕ} {buf : List ℕ} {h whole : ℕ} (z : Reads co
         → x < get_or bound b 0 → x * get_or times b 0 + get_or plus b 0 < get_or bound d 0
         → Here code σ (row_upto code h buf) (j * per code.k) x n
         → Here code σ (row_upto code h buf) ((j + 2) * per code.k) ((x * get_or times b 0 + get_or plus b 0) * get_or times d 0 + get_or plus d 0)
-            (n + (get_or stops b 0 + get_or stops d 0))
+        (n + (get_or stops b 0 + get_or stops d 0))
     two_bytes j l {b} {d} e f k i t u w =
         let half = one_byte j (omega arith) e k t w in
         here_as (omega arith) refl (omega arith) (one_byte (suc j) (omega arith) (f ∙ ap (λ (o : ℕ). get_or buf o 0) (add-one j)) i u half)

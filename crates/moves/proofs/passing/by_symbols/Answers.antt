@@ -1,5 +1,5 @@
 -- `moves::passing::by_symbols` meets its contract: `Here` after every symbol.
-use Rattle.std.proofs.Common.{◌≡◌, List, ◌∷◌, ℕ, suc, ◌+◌, ◌-◌, ◌*◌, ◌≤◌, ◌<◌, T, length, drop, get_or, sym, ◌∙◌, arith, add-one, drop-cons, length-take-le, mul-le-mul}
+use Rattle.std.proofs.Common.{◌≡◌, List, ℕ, ◌+◌, ◌-◌, ◌*◌, ◌≤◌, ◌<◌, T, length, drop, get_or, sym, ◌∙◌, arith, add-one, drop-cons, length-take-le, mul-le-mul}
 use Rattle.std.proofs.Math.Seq.{get_or-take}
 use Rattle.stopper.specs.Paper.Table.{base, good_code}
 use Rattle.stopper.specs.Laws.Table.{one_number, code_width, code_good, code_base}
@@ -7,7 +7,7 @@ use Rattle.stopper.specs.declared.code.Code.{Code}
 use Rattle.symbols.specs.Paper.Symbols.{symbols_of}
 use Rattle.reading.specs.Paper.Reading.{row_upto}
 use Rattle.reading.specs.Helpers.Codewords.{Reads}
-use Rattle.moves.specs.Helpers.States.{few, many, opened_by, ended_by, Stuck}
+use Rattle.moves.specs.Helpers.States.{few, Stuck}
 use Rattle.moves.specs.Helpers.Moves.{Here}
 use Rattle.moves.proofs.Laws.States.{stuck_stop, stuck_more}
 use Rattle.moves.specs.Laws.Moves.{here_stop, here_more, here_few}

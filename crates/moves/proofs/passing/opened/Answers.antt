@@ -1,7 +1,6 @@
 -- `moves::passing::opened` meets its contract: a continuer opens nothing.
-use Rattle.std.proofs.Common.{◌≡◌, ℕ, suc, ◌-◌, take, ap, sym, ◌∙◌, arith}
+use Rattle.std.proofs.Common.{◌≡◌, suc, ◌-◌, sym, ◌∙◌, arith}
 use Rattle.stopper.specs.Laws.Table.{one_number, code_width}
-use Rattle.stopper.specs.declared.code.Code.{Code}
 use Rattle.symbols.specs.Paper.Symbols.{symbols_of}
 use Rattle.moves.specs.Helpers.States.{open_from}
 use Rattle.moves.specs.Laws.States.{open_last_stop, open_last_more}
