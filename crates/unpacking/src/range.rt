@@ -1,11 +1,12 @@
 // The characters of codewords, from a symbol on: whole bytes by what they give, other symbols one by one.
-ghost use Rattle.std.specs.Prelude.{◌≡◌, false, ◌++◌, map, ◌*◌, ◌≤◌, ◌<◌, length, take, drop, get_or};
+ghost use Rattle.std.specs.Prelude.{◌≡◌, false, ◌++◌, map, ◌+◌, ◌*◌, ◌≤◌, ◌<◌, length, take, drop, get_or};
 ghost use Rattle.ground.specs.Helpers.Bound.{limit_bound};
 ghost use Rattle.symbols.specs.Paper.Symbols.{per};
 ghost use Rattle.symbols.specs.Helpers.Widths.{Width};
 ghost use Rattle.reading.specs.Paper.Reading.{row_upto, row_reading, is_bad, ranks_read};
 ghost use Rattle.reading.specs.Helpers.Codewords.{Reads};
-ghost use Rattle.unpacking.specs.Helpers.Gives.{KnownByByte, Unpacks, Wrote, WroteBytes};
+ghost use Rattle.moves.specs.Helpers.Moves.{part_in};
+ghost use Rattle.unpacking.specs.Helpers.Gives.{KnownByByte, first_times, first_plus, Unpacks, Wrote, WroteBytes};
 
 use crate::giving::{AllKnown, known_by_byte};
 use moves::byte::{bound_of, ended, moved_by};
@@ -24,6 +25,21 @@ struct Task<'a> {
     h: usize,
     p: usize,
     m: usize,
+}
+
+// The byte of g whose lowest bit is bit `low`. Each byte is cut out where it is stored: the loop below is slower where all are cut out first.
+fn part(g: u64, low: u32) -> u8
+    requires { low < 64 }
+    ensures { result ≡ part_in low g }
+{
+    ((g >> low) % 256) as u8
+}
+
+// The rank of the first codeword that ends in a byte that gives g.
+fn first(g: u64, x: u32) -> usize
+    ensures { result ≡ x * first_times g + first_plus g }
+{
+    x as usize * usize::from(part(g, 0)) + usize::from(part(g, 8))
 }
 
 // The first symbol of the byte after that of symbol p, or h.
@@ -91,11 +107,11 @@ fn write_known(task: &Task, all: &AllKnown, whole: usize, way: Way, out: &mut [u
         if bound_of(e) <= x {
             return Way { at, x, n };
         }
-        let [times, plus, second, third, fourth, ..] = all.gives[b].to_le_bytes();
-        out[n] = places[x as usize * usize::from(times) + usize::from(plus)];
-        out[n + 1] = second;
-        out[n + 2] = third;
-        out[n + 3] = fourth;
+        let g = all.gives[b];
+        out[n] = places[first(g, x)];
+        out[n + 1] = part(g, 16);
+        out[n + 2] = part(g, 24);
+        out[n + 3] = part(g, 32);
         x = moved_by(e, x);
         n += ended(e);
     }

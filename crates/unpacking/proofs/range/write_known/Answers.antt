@@ -1,13 +1,12 @@
 -- `unpacking::range::write_known` meets its contract: `Wrote` after every byte.
 use Rattle.std.proofs.Common.{◌≡◌, List, [], ◌∷◌, ◌++◌, ℕ, suc, ◌+◌, ◌*◌, ◌≤◌, ◌<◌, length, drop, get_or, set, refl, sym, ap, ◌∙◌, arith, mul-le-mul_right}
-use Rattle.std.specs.Int.{w64, to_le_bytes}
 use Rattle.stopper.specs.Laws.Table.{code_width}
 use Rattle.stopper.specs.declared.code.Code.{Code}
 use Rattle.symbols.specs.Paper.Symbols.{per, symbols_of}
 use Rattle.symbols.specs.Laws.Width.{per_pos, per_few}
 use Rattle.symbols.specs.Laws.Rows.{symbols_length, starts_within}
 use Rattle.reading.specs.Paper.Reading.{row_upto}
-use Rattle.moves.specs.Helpers.Moves.{bound_in, times_in, plus_in, stops_in}
+use Rattle.moves.specs.Helpers.Moves.{part_in, bound_in, times_in, plus_in, stops_in}
 use Rattle.moves.specs.Laws.Moves.{byte_split}
 use Rattle.unpacking.specs.Helpers.Gives.{first_times, first_plus, KnownByByte, Unpacks, WroteBytes}
 use Rattle.unpacking.specs.Laws.Gives.{ranks_few, spells_first, wrote_byte, wrote_as, back_kept}
@@ -33,9 +32,9 @@ module _ {code : Code} {σ : ℕ} {buf : List ℕ} {h p m : ℕ} (z : Unpacks co
     rank_small = spells_first code places ((known b).1 (omega (arith, taken))) x ((known b).0.good x taken) z.reads.few
 
     one_byte : {out : List ℕ} {n : ℕ} → WroteBytes code σ places (row_upto code h buf) p out (record { at = j; x = x; n = n }) → n + 4 ≤ length out
-        → let g = to_le_bytes w64 (get_or u b 0) in
-        let first = get_or places (x * get_or g 0 0 + get_or g 1 0) 0 in
-        WroteBytes code σ places (row_upto code h buf) p (set (set (set (set out n first) (n + 1) (get_or g 2 0)) (n + 2) (get_or g 3 0)) (n + 3) (get_or g 4 0))
+        → let g = get_or u b 0 in
+        let first = get_or places (x * first_times g + first_plus g) 0 in
+        WroteBytes code σ places (row_upto code h buf) p (set (set (set (set out n first) (n + 1) (part_in 16 g)) (n + 2) (part_in 24 g)) (n + 3) (part_in 32 g))
         (record { at = j + 1; x = x * times_in (get_or t b 0) + plus_in (get_or t b 0); n = n + stops_in (get_or t b 0) })
     one_byte w room =
         let rest = drop (suc j * per code.k) (row_upto code h buf) in
@@ -47,10 +46,10 @@ module _ {code : Code} {σ : ℕ} {buf : List ℕ} {h p m : ℕ} (z : Unpacks co
 pub bounds-buf-at : goal.bounds-buf-at
 bounds-buf-at c = in_buffer c.requires.0 c.loop-at.at c.args.whole c.requires.3 c.loop-at-test.true
 
-pub bounds-places-x : goal.bounds-places-x
-bounds-places-x c =
+pub bounds-places-first : goal.bounds-places-first
+bounds-places-first c =
     let taken = rw c.bound_of.ensures.0 at c.if-bound_of-x.false in
-    rw (c.from.ensures, c.from-in-loop-at.ensures, c.to_le_bytes.ensures)
+    rw c.first.ensures
     (rank_small c.requires.0 c.loop-at.at c.args.whole c.requires.3 c.loop-at-test.true c.args.task.now.places.now _ _ c.requires.1 c.from-b.ensures taken)
 
 pub loop-at-preserved : goal.loop-at-preserved
@@ -64,7 +63,7 @@ loop-at-preserved c =
     let places = c.args.task.now.places.now in
     let ended = ended_few z at c.args.whole c.requires.3 l places _ _ known b taken in
     let room : c.loop-at.n + 4 ≤ c.args.task.now.m = omega (arith, c.loop-at.invariant.few) in
-    rw (c.from.ensures, c.from-in-loop-at.ensures, c.to_le_bytes.ensures, c.moved_by-x.ensures.0, c.ended-n.ensures.0) (record {
+    rw (c.first.ensures, c.part.ensures, c.part-in-loop-at.ensures, c.part-in-loop-at-2.ensures, c.moved_by-x.ensures.0, c.ended-n.ensures.0) (record {
       few = omega (arith, ended, room);
       wrote = one_byte z at c.args.whole c.requires.3 l places _ _ known b taken c.loop-at.invariant.wrote (omega (arith, room));
       kept = back_kept c.args.task.now.m c.loop-at.out c.loop-at.n _ _ _ _ room ∙ c.loop-at.invariant.kept;
