@@ -4,19 +4,7 @@ ghost use Rattle.stopper.specs.Paper.Table.{base, stoppers, good_code};
 ghost use Rattle.moves.specs.Helpers.Moves.{Moves, Small, In, SymbolBefore, Longer, MovesByByte, bound_in, times_in, plus_in, stops_in, part_in, PartIn};
 
 use stopper::code::{Code, base_of, stoppers_at};
-
-// A byte as a number, and as a place in a row of 256.
-pub fn byte(b: u8) -> u32
-    ensures { (result ≡ b) × (result < 256) }
-{
-    b as u32
-}
-
-pub fn index(b: u8) -> usize
-    ensures { (result ≡ b) × (result < 256) }
-{
-    b as usize
-}
+use symbols::bits::per_byte;
 
 // A state below the bound becomes so many times as much, plus so much, and so many codewords end.
 #[derive(Clone, Copy)]
@@ -52,19 +40,11 @@ fn stop_before(code: Code, sigma: u32, y: u32, m: Move) -> Move
     requires { T (good_code code) × (sigma ≤ 256) × (Small m) × (y < stoppers code 0) }
     ensures { (Small result) × ((w : List ℕ) → Moves code sigma w m → Moves code sigma (y ∷ w) result) }
 {
-    if m.bound == 0 {
+    if m.bound == 0 || sigma <= y || 127 <= m.stops {
         return never();
     }
-    if sigma <= y {
-        return never();
-    }
-    if 127 <= m.stops {
-        return never();
-    }
-    let s = stoppers_at(code, 0);
-    let bound = upto(sigma - y - 1, s);
     Move {
-        bound,
+        bound: upto(sigma - y - 1, stoppers_at(code, 0)),
         times: 0,
         plus: m.plus,
         stops: m.stops + 1,
@@ -81,18 +61,11 @@ fn more_before(code: Code, sigma: u32, y: u32, m: Move) -> Move
     let d = y - s + 1;
     let times = c * m.times;
     let plus = d * m.times + m.plus;
-    if m.bound <= d {
+    if m.bound <= d || 255 < times || 255 < plus {
         return never();
     }
-    if 255 < times {
-        return never();
-    }
-    if 255 < plus {
-        return never();
-    }
-    let bound = upto(m.bound - d - 1, c);
     Move {
-        bound,
+        bound: upto(m.bound - d - 1, c),
         times,
         plus,
         stops: m.stops,
@@ -100,11 +73,10 @@ fn more_before(code: Code, sigma: u32, y: u32, m: Move) -> Move
 }
 
 // A symbol before what m does.
-fn before(code: Code, sigma: u32, symbol: u8, m: Move) -> Move
-    requires { T (good_code code) × (sigma ≤ 256) × (Small m) × (symbol < 16) }
-    ensures { (Small result) × ((w : List ℕ) → Moves code sigma w m → Moves code sigma (symbol ∷ w) result) }
+fn before(code: Code, sigma: u32, y: u32, m: Move) -> Move
+    requires { T (good_code code) × (sigma ≤ 256) × (Small m) × (y < 16) }
+    ensures { (Small result) × ((w : List ℕ) → Moves code sigma w m → Moves code sigma (y ∷ w) result) }
 {
-    let y = symbol as u32;
     if y < stoppers_at(code, 0) {
         stop_before(code, sigma, y, m)
     } else {
@@ -132,7 +104,7 @@ fn out_of(e: u32) -> Move
 }
 
 // Symbol y before what the move e does.
-fn symbol_before(code: Code, sigma: u32, y: u8, e: u32) -> u32
+fn symbol_before(code: Code, sigma: u32, y: u32, e: u32) -> u32
     requires { T (good_code code) × (sigma ≤ 256) × (y < 16) }
     ensures { SymbolBefore code sigma y e result }
 {
@@ -144,18 +116,10 @@ fn longer(code: Code, sigma: u32, size: usize, t: &[u32; 256]) -> [u32; 256]
     requires { T (good_code code) × (sigma ≤ 256) × (0 < size) × (size * base code ≤ 256) }
     ensures { Longer code sigma size t.now result }
 {
-    let upto = size * base_of(code) as usize;
     let mut r = [0u32; 256];
-    let mut v: usize = 0;
-    let mut y: u8 = 0;
-    let mut w: usize = 0;
-    while v < upto {
-        r[v] = symbol_before(code, sigma, y, t[w]);
-        v += 1;
-        w += 1;
-        if w == size {
-            w = 0;
-            y += 1;
+    for y in 0..base_of(code) {
+        for w in 0..size {
+            r[y as usize * size + w] = symbol_before(code, sigma, y, t[w]);
         }
     }
     r
@@ -175,7 +139,7 @@ pub fn moves_by_byte(code: Code, sigma: u32) -> [u32; 256]
         stops: 0,
     });
     let mut size: usize = 1;
-    while size < 256 {
+    for _n in 0..per_byte(code.k) {
         t = longer(code, sigma, size, &t);
         size *= base;
     }
@@ -187,10 +151,8 @@ pub fn bounds_of(t: &[u32; 256]) -> [u16; 256]
     ensures { PartIn bound_in t.now 256 result }
 {
     let mut r = [0u16; 256];
-    let mut b: usize = 0;
-    while b < 256 {
-        r[b] = (t[b] / 65536 % 512) as u16;
-        b += 1;
+    for (b, e) in t.iter().enumerate() {
+        r[b] = bound_of(*e) as u16;
     }
     r
 }
@@ -200,10 +162,8 @@ pub fn part_of(t: &[u32; 256], low: u32) -> [u8; 256]
     ensures { PartIn (part_in low) t.now 256 result }
 {
     let mut r = [0u8; 256];
-    let mut b: usize = 0;
-    while b < 256 {
-        r[b] = ((t[b] >> low) % 256) as u8;
-        b += 1;
+    for (b, e) in t.iter().enumerate() {
+        r[b] = ((*e >> low) % 256) as u8;
     }
     r
 }
@@ -213,7 +173,7 @@ pub fn moved(times: u8, plus: u8, x: u32) -> u32
     requires { x < 512 }
     ensures { (result ≡ x * times + plus) × (result < 131072) }
 {
-    x * times as u32 + plus as u32
+    x * u32::from(times) + u32::from(plus)
 }
 
 // The state after two bytes: one multiplication waits for x. In 32 bits the compiler would make two of it again.
@@ -221,8 +181,8 @@ pub fn moved_twice(times: u8, plus: u8, times2: u8, plus2: u8, x: u64) -> u64
     requires { x < 512 }
     ensures { (result ≡ (x * times + plus) * times2 + plus2) × (result ≤ (x * times + plus) * 255 + 255) }
 {
-    let t = times2 as u32;
-    x * ((times as u32 * t) as u64) + ((plus as u32 * t + plus2 as u32) as u64)
+    let t = u32::from(times2);
+    x * u64::from(u32::from(times) * t) + u64::from(u32::from(plus) * t + u32::from(plus2))
 }
 
 // The same of a move in one number: its bound, the state after it, how many codewords it ends.

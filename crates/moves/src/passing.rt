@@ -7,7 +7,7 @@ ghost use Rattle.reading.specs.Helpers.Codewords.{Reads, scanned};
 ghost use Rattle.moves.specs.Helpers.States.{open_from, Stuck};
 ghost use Rattle.moves.specs.Helpers.Moves.{Rows, Here};
 
-use crate::byte::{bounds_of, byte, index, moved, moved_twice, moves_by_byte, part_of};
+use crate::byte::{bounds_of, moved, moved_twice, moves_by_byte, part_of};
 use reading::codewords::BadWord;
 use stopper::code::{Code, base_of};
 use symbols::bits::{byte_of, per_byte};
@@ -27,10 +27,9 @@ pub struct Way {
     pub n: usize,
 }
 
-// Whole bytes, from byte way.at on, two by two: as far as their moves take the state.
+// Whole bytes, from byte way.at on, two by two: as far as their moves take the state. The parts of the moves stand in rows of their own for the speed of its loop.
 fn by_moves(
-    k: u8,
-    s: u8,
+    code: Code,
     sigma: u32,
     bound: &[u16; 256],
     times: &[u8; 256],
@@ -41,45 +40,45 @@ fn by_moves(
     whole: usize,
     way: Way,
 ) -> Way
-    requires { (Reads (even_code k s) sigma buf.now h (whole * per k)) × (Rows (even_code k s) sigma bound.now times.now plus.now stops.now)
-        × (way.at ≤ whole) × (Here (even_code k s) sigma (row_upto (even_code k s) h buf.now) (way.at * per k) way.x way.n) × (way.x < 131072) }
-    ensures { (result.at ≤ whole) × (Here (even_code k s) sigma (row_upto (even_code k s) h buf.now) (result.at * per k) result.x result.n) × (result.x < 131072) }
+    requires { (Reads code sigma buf.now h (whole * per code.k)) × (Rows code sigma bound.now times.now plus.now stops.now)
+        × (way.at ≤ whole) × (Here code sigma (row_upto code h buf.now) (way.at * per code.k) way.x way.n) × (way.x < 131072) }
+    ensures { (result.at ≤ whole) × (Here code sigma (row_upto code h buf.now) (result.at * per code.k) result.x result.n) × (result.x < 131072) }
 {
     let mut at = way.at;
-    let mut x = way.x as u64;
+    let mut x = u64::from(way.x);
     let mut n = way.n;
+    // A while: two bytes a turn, and only as far as their moves take the state.
     while at + 1 < whole {
-        let b = index(buf[at]);
-        let d = index(buf[at + 1]);
+        let b = usize::from(buf[at]);
+        let d = usize::from(buf[at + 1]);
         let z = x as u32;
-        if bound[b] as u32 <= z {
+        if u32::from(bound[b]) <= z {
             break;
         }
         let t = times[b];
         let p = plus[b];
-        if bound[d] as u32 <= moved(t, p, z) {
+        if u32::from(bound[d]) <= moved(t, p, z) {
             break;
         }
         x = moved_twice(t, p, times[d], plus[d], x);
-        n += index(stops[b]) + index(stops[d]);
+        n += usize::from(stops[b]) + usize::from(stops[d]);
         at += 2;
     }
     Way { at, x: x as u32, n }
 }
 
 // Symbols one by one, up to symbol `upto`, or up to one at which the open codeword is bad whatever follows.
-fn by_symbols(k: u8, s: u8, sigma: u32, buf: &[u8], h: usize, upto: usize, way: Way) -> Way
-    requires { (Reads (even_code k s) sigma buf.now h upto) × (way.at ≤ upto) × (Here (even_code k s) sigma (row_upto (even_code k s) h buf.now) way.at way.x way.n) × (way.x < 131072) }
-    ensures { (result.at ≤ upto) × (Here (even_code k s) sigma (row_upto (even_code k s) h buf.now) result.at result.x result.n) × (result.x < 131072)
-        × (result.at < upto → Stuck (even_code k s) sigma result.x (drop result.at (row_upto (even_code k s) h buf.now))) }
+fn by_symbols(code: Code, sigma: u32, buf: &[u8], h: usize, upto: usize, way: Way) -> Way
+    requires { (Reads code sigma buf.now h upto) × (way.at ≤ upto) × (Here code sigma (row_upto code h buf.now) way.at way.x way.n) × (way.x < 131072) }
+    ensures { (result.at ≤ upto) × (Here code sigma (row_upto code h buf.now) result.at result.x result.n) × (result.x < 131072)
+        × (result.at < upto → Stuck code sigma result.x (drop result.at (row_upto code h buf.now))) }
 {
-    let few = byte(s);
-    let many = base_of(Code { k, s }) - few;
-    let mut at = way.at;
+    let few = u32::from(code.s);
+    let many = base_of(code) - few;
     let mut x = way.x;
     let mut n = way.n;
-    while at < upto {
-        let y = byte(get(k, buf, at));
+    for at in way.at..upto {
+        let y = u32::from(get(code.k, buf, at));
         if y < few {
             if sigma <= x * few + y {
                 return Way { at, x, n };
@@ -93,23 +92,19 @@ fn by_symbols(k: u8, s: u8, sigma: u32, buf: &[u8], h: usize, upto: usize, way: 
             }
             x = next;
         }
-        at += 1;
     }
-    Way { at, x, n }
+    Way { at: upto, x, n }
 }
 
 // The first symbol of the codeword that is open before symbol `at`: behind the last stopper before it.
-fn opened(k: u8, s: u8, buf: &[u8], at: usize) -> usize
-    requires { T (good_code (even_code k s)) × (at ≤ length (symbols_of k buf.now)) }
-    ensures { result ≡ open_from (even_code k s) 0 0 (take at (symbols_of k buf.now)) }
+fn opened(code: Code, buf: &[u8], at: usize) -> usize
+    requires { T (good_code code) × (at ≤ length (symbols_of code.k buf.now)) }
+    ensures { result ≡ open_from code 0 0 (take at (symbols_of code.k buf.now)) }
 {
-    let few = byte(s);
-    let mut p = at;
-    while 0 < p {
-        if byte(get(k, buf, p - 1)) < few {
-            return p;
+    for p in (0..at).rev() {
+        if get(code.k, buf, p) < code.s {
+            return p + 1;
         }
-        p -= 1;
     }
     0
 }
@@ -120,31 +115,27 @@ fn by_bytes(code: Code, sigma: u32, buf: &[u8], h: usize, whole: usize, way: Way
         × (way.at ≤ whole) × (Here code sigma (row_upto code h buf.now) (way.at * per code.k) way.x way.n) × (way.x < 131072) }
     ensures { (result.at ≤ whole) × (Here code sigma (row_upto code h buf.now) (result.at * per code.k) result.x result.n) × (result.x < 131072) }
 {
-    let k = code.k;
-    let s = code.s;
     let t = moves_by_byte(code, sigma);
     let bound = bounds_of(&t);
     let times = part_of(&t, 8);
     let plus = part_of(&t, 0);
     let stops = part_of(&t, 25);
     by_moves(
-        k, s, sigma, &bound, &times, &plus, &stops, buf, h, whole, way,
+        code, sigma, &bound, &times, &plus, &stops, buf, h, whole, way,
     )
 }
 
 // What a way says that went as far as it could.
-fn told(k: u8, s: u8, sigma: u32, buf: &[u8], h: usize, way: Way) -> Result<usize, BadWord>
-    requires { (Reads (even_code k s) sigma buf.now h way.at) × (Here (even_code k s) sigma (row_upto (even_code k s) h buf.now) way.at way.x way.n)
-        × (way.at < h → Stuck (even_code k s) sigma way.x (drop way.at (row_upto (even_code k s) h buf.now))) }
-    ensures { result ≡ scanned (row_reading (even_code k s) sigma (row_upto (even_code k s) h buf.now) 0) }
+fn told(code: Code, sigma: u32, buf: &[u8], h: usize, way: Way) -> Result<usize, BadWord>
+    requires { (Reads code sigma buf.now h way.at) × (Here code sigma (row_upto code h buf.now) way.at way.x way.n)
+        × (way.at < h → Stuck code sigma way.x (drop way.at (row_upto code h buf.now))) }
+    ensures { result ≡ scanned (row_reading code sigma (row_upto code h buf.now) 0) }
 {
-    if way.at == h {
-        if way.x == 0 {
-            return Ok(way.n);
-        }
+    if way.at == h && way.x == 0 {
+        return Ok(way.n);
     }
     Err(BadWord {
-        first: opened(k, s, buf, way.at),
+        first: opened(code, buf, way.at),
     })
 }
 
@@ -153,25 +144,23 @@ fn read_bytes(code: Code, sigma: u32, buf: &[u8], h: usize) -> Result<usize, Bad
     requires { Reads code sigma buf.now h 1024 }
     ensures { result ≡ scanned (row_reading code sigma (row_upto code h buf.now) 0) }
 {
-    let k = code.k;
-    let s = code.s;
-    let few = by_symbols(k, s, sigma, buf, h, FIRST, Way { at: 0, x: 0, n: 0 });
+    let few = by_symbols(code, sigma, buf, h, FIRST, Way { at: 0, x: 0, n: 0 });
     if few.at < FIRST {
-        return told(k, s, sigma, buf, h, few);
+        return told(code, sigma, buf, h, few);
     }
     let begun = Way {
-        at: byte_of(k, FIRST),
+        at: byte_of(code.k, FIRST),
         x: few.x,
         n: few.n,
     };
-    let bytes = by_bytes(code, sigma, buf, h, byte_of(k, h), begun);
+    let bytes = by_bytes(code, sigma, buf, h, byte_of(code.k, h), begun);
     let rest = Way {
-        at: bytes.at * per_byte(k),
+        at: bytes.at * per_byte(code.k),
         x: bytes.x,
         n: bytes.n,
     };
-    let all = by_symbols(k, s, sigma, buf, h, h, rest);
-    told(k, s, sigma, buf, h, all)
+    let all = by_symbols(code, sigma, buf, h, h, rest);
+    told(code, sigma, buf, h, all)
 }
 
 // All codewords from the first on: how many, or where the first bad one begins.
@@ -182,8 +171,6 @@ pub fn read_all(code: Code, sigma: u32, buf: &[u8], h: usize) -> Result<usize, B
     if FEW <= h {
         return read_bytes(code, sigma, buf, h);
     }
-    let k = code.k;
-    let s = code.s;
-    let all = by_symbols(k, s, sigma, buf, h, h, Way { at: 0, x: 0, n: 0 });
-    told(k, s, sigma, buf, h, all)
+    let all = by_symbols(code, sigma, buf, h, h, Way { at: 0, x: 0, n: 0 });
+    told(code, sigma, buf, h, all)
 }

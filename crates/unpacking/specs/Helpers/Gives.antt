@@ -19,16 +19,9 @@ pub data Spells (c : Code) (places w : List ℕ) (times plus : ℕ) (later : Lis
   speaks : (rs : List ℕ) → ((x : ℕ) → ranks_ended c x w ≡ (x * times + plus) ∷ rs) → characters_of places rs ≡ take (length rs) later
       → Spells c places w times plus later
 
--- what the symbols w give, where it is known: only numbers below 256 are
-abbrev pub Tells : Code → List ℕ → List ℕ → Gives → Type 0
-Tells c places w g = g.times ≤ 255 → Spells c places w g.times g.plus (g.second ∷ g.third ∷ g.fourth ∷ [])
-
-pub record Slight (g : Gives) : Type 0 where
-  pub times : g.times ≤ 256
-  pub plus : g.plus ≤ 255
-  pub second : g.second ≤ 255
-  pub third : g.third ≤ 255
-  pub fourth : g.fourth ≤ 255
+-- what the symbols w give
+abbrev pub Says : Code → List ℕ → List ℕ → Gives → Type 0
+Says c places w g = Spells c places w g.times g.plus (g.second ∷ g.third ∷ g.fourth ∷ [])
 
 -- what a byte gives, in one number
 abbrev pub first_times : ℕ → ℕ

@@ -1,7 +1,4 @@
-use mathlib.Core.Path.{◌≡◌}
-use mathlib.Core.List.{List}
-use Prim.Native.Nat.{ℕ, suc, ◌+◌, ◌-◌, ◌*◌, ◌^◌, ◌≤◌, ◌<◌}
-use lib.ListN.{length, get_or}
+use Rattle.std.proofs.Common.{◌≡◌, List, ℕ, suc, ◌+◌, ◌*◌, ◌^◌, ◌<◌, get_or, length}
 use Rattle.stopper.specs.Paper.Table.{base}
 use Rattle.stopper.specs.declared.code.Code.{Code}
 use Rattle.symbols.specs.Helpers.Gathered.{digits}
@@ -13,8 +10,8 @@ abbrev pub Done : Code → ℕ → ℕ → List ℕ → List ℕ → ℕ → Typ
 Done code sigma size t r v =
     (n : ℕ) → size ≡ base code ^ n → MovesOf code sigma n t → (u : ℕ) → u < v → MoveIn code sigma (digits (base code) (suc n) u) (get_or r u 0)
 
-abbrev pub invariant-loop-v : goal.invariant-loop-v
-invariant-loop-v l = (l.v ≡ l.y * l.size + l.w) × (l.w < l.size) × (l.v ≤ l.upto) × (length l.r ≡ 256) × Done l.code l.sigma l.size l.t l.r l.v
+abbrev pub invariant-loop-y : goal.invariant-loop-y
+invariant-loop-y l = (length l.r ≡ 256) × Done l.code l.sigma l.size l.t l.r (l.y * l.size)
 
-abbrev pub decreases-loop-v : goal.decreases-loop-v
-decreases-loop-v l = l.upto - l.v
+abbrev pub invariant-loop-w : goal.invariant-loop-w
+invariant-loop-w l = (length l.r ≡ 256) × Done l.code l.sigma l.size l.t l.r (l.y * l.size + l.w)

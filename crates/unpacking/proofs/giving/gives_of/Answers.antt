@@ -1,75 +1,63 @@
 -- `unpacking::giving::gives_of` meets its contract: from the last symbol of the byte to the first.
-use mathlib.Core.Path.{◌≡◌, refl, sym, ◌∙◌, ap}
-use mathlib.Core.List.{[], ◌∷◌}
-use Prim.Native.Nat.{ℕ, suc, ◌-◌, ◌≤◌}
-use native.Mathlib.Omega.{arith}
-use lib.ListN.{length, drop, get_or, drop_of_length-le, length-drop}
-use lib.Seq.{drop-cons}
+use Rattle.std.proofs.Common.{◌≡◌, List, [], ◌∷◌, ℕ, suc, ◌-◌, ◌≤◌, ◌<◌, T, length, drop, get_or, sym, ap, ◌∙◌, arith, length-drop, drop-cons}
+use Rattle.std.proofs.Math.ListN.{drop_of_length-le}
 use Rattle.ground.specs.Laws.Rows.{below_at}
+use Rattle.stopper.specs.Paper.Table.{good_code}
 use Rattle.stopper.specs.Laws.Table.{code_width, code_base}
-use Rattle.symbols.specs.Paper.Symbols.{symbols_of}
+use Rattle.stopper.specs.declared.code.Code.{Code}
+use Rattle.symbols.specs.Paper.Symbols.{per, symbols_of}
 use Rattle.symbols.specs.Laws.Width.{per_few}
 use Rattle.symbols.specs.Laws.Rows.{symbols_length, symbols_below}
 use Rattle.unpacking.specs.Laws.Gives.{spells_none}
 use Rattle.unpacking.proofs.giving.gives_of.Goals as goal
-use Rattle.unpacking.proofs.giving.gives_of.Lts as Places
-use Rattle.unpacking.proofs.giving.gives_of.Reads as Clauses
-use Rattle.unpacking.proofs.giving.gives_of.Tie as tie
 
--- what is known at these places
-abbrev In-loop-t : Type 0
-In-loop-t = Places.In-loop tie.the-claims Clauses.Pre Clauses.Post goal.the-invariant-loop-t goal.the-decreases-loop-t
+module _ (code : Code) (g : T (good_code code)) (b : ℕ) where
+  -- the symbols of a byte
+  abbrev all : List ℕ
+  all = symbols_of code.k (b ∷ [])
+
+  module _ (t : ℕ) (some : 0 < t) (l : t ≤ per code.k) where
+    inside : t - 1 < length all
+    inside = omega (arith, symbols_length code.k (b ∷ []))
+
+    small : get_or all (t - 1) 0 < 16
+    small = omega (arith, code_base code g, below_at (symbols_below code.k (b ∷ [])) (t - 1) inside)
+
+    -- the last of those before t, and the few after it
+    split : drop (t - 1) all ≡ get_or all (t - 1) 0 ∷ drop t all
+    split = let e : suc (t - 1) ≡ t = omega arith in rw e at (drop-cons all (t - 1) 0 inside)
+
+    short : length (drop t all) ≤ 3
+    short = omega (arith, length-drop t all, symbols_length code.k (b ∷ []), per_few (code_width code g))
 
 pub per_byte-t-requires : goal.per_byte-t-requires
 per_byte-t-requires c = code_width c.args.code c.requires
 
 pub loop-t-init : goal.loop-t-init
 loop-t-init c =
-    let k = c.args.code.k in
-    let all = symbols_of k (c.args.b ∷ []) in
-    let n : drop c.per_byte-t.result all ≡ [] = drop_of_length-le all {i = c.per_byte-t.result} (omega (arith, symbols_length k (c.args.b ∷ []), c.per_byte-t.ensures)) in (
-      omega (arith, c.per_byte-t.ensures),
-      record { times = omega arith; plus = omega arith; second = omega arith; third = omega arith; fourth = omega arith },
-      λ _. rw n (spells_none c.args.code c.args.places.now _),
-    )
+    let all = symbols_of c.args.code.k (c.args.b ∷ []) in
+    let none : drop c.per_byte-t.result all ≡ [] = drop_of_length-le all (omega (arith, symbols_length c.args.code.k (c.args.b ∷ []), c.per_byte-t.ensures)) in
+    rw none (spells_none c.args.code c.args.places.now _)
 
-pub overflow_sub-t : goal.overflow_sub-t
-overflow_sub-t c = omega arith
+pub get-requires : goal.get-requires
+get-requires c = (code_width c.args.code c.requires, inside c.args.code c.requires c.args.b c.loop-t.t c.loop-t-test.true (omega (arith, c.per_byte-t.ensures)))
 
-pub slice_bounds-get-end : goal.slice_bounds-get-end
-slice_bounds-get-end c = refl
-
--- the symbol in hand is one of the byte's
-inside : (c : In-loop-t) → suc (c.loop-t.t - 1) ≤ length (symbols_of c.args.code.k (c.args.b ∷ []))
-inside c = omega (arith, symbols_length c.args.code.k (c.args.b ∷ []), c.loop-t.invariant.0, c.loop-t-test.true)
-
-pub get-y-requires : goal.get-y-requires
-get-y-requires c =
-    (code_width c.args.code c.requires, inside c.before)
-
-pub gives_before-g-requires : goal.gives_before-g-requires
-gives_before-g-requires c =
-    let b = below_at (symbols_below c.args.code.k (c.args.b ∷ [])) (c.loop-t.t - 1) (inside c.before.before) in
-    (c.requires, c.loop-t.invariant.1, omega (arith, c.get-y.ensures, (code_base c.args.code c.requires).1, b))
-
-pub loop-t-smaller : goal.loop-t-smaller
-loop-t-smaller c = omega arith
+pub gives_before-requires : goal.gives_before-requires
+gives_before-requires c =
+    (c.requires, omega (arith, c.get.ensures, small c.args.code c.requires c.args.b c.loop-t.t c.loop-t-test.true (omega (arith, c.per_byte-t.ensures))))
 
 pub loop-t-preserved : goal.loop-t-preserved
 loop-t-preserved c =
-    let k = c.args.code.k in
-    let all = symbols_of k (c.args.b ∷ []) in
+    let code = c.args.code in
+    let b = c.args.b in
     let t = c.loop-t.t in
-    let i : suc (t - 1) ≡ t = omega (arith, c.loop-t-test.true) in
-    let d : drop (t - 1) all ≡ c.get-y.result ∷ drop t all
-    = drop-cons all (t - 1) 0 (inside c.before.before.before)
-    ∙ ap (λ (n : ℕ). get_or all (t - 1) 0 ∷ drop n all) i
-    ∙ ap (λ (y : ℕ). y ∷ drop t all) (sym c.get-y.ensures) in
-    let short : length (drop t all) ≤ 3
-    = omega (arith, length-drop t all, symbols_length k (c.args.b ∷ []), per_few (code_width c.args.code c.requires), c.loop-t-test.true) in
-    (omega (arith, c.loop-t.invariant.0), c.gives_before-g.ensures.0, rw d (c.gives_before-g.ensures.1 (drop t all) short c.loop-t.invariant.2))
+    let some = c.loop-t-test.true in
+    let l : t ≤ per code.k = omega (arith, c.per_byte-t.ensures) in
+    let rest = drop t (symbols_of code.k (b ∷ [])) in
+    let e = split code c.requires b t some l ∙ ap (λ (y : ℕ). y ∷ rest) (sym c.get.ensures) in
+    rw e (c.in_ok-g.ensures rest (short code c.requires b t some l) c.loop-t.invariant)
 
 pub returns : goal.returns
 returns c =
     let z : c.loop-t.t ≡ 0 = omega arith in
-    (c.loop-t.invariant.1, rw z at c.loop-t.invariant.2)
+    rw z at c.loop-t.invariant

@@ -1,11 +1,6 @@
-use mathlib.Core.Path.{◌≡◌}
-use Prim.Native.Nat.{◌-◌}
-use lib.ListN.{length}
+use Rattle.std.proofs.Common.{◌≡◌, length}
 use Rattle.unpacking.specs.Helpers.Gives.{KnownByByte}
 use Rattle.unpacking.proofs.giving.known_by_byte.Given as goal
 
 abbrev pub invariant-loop-b : goal.invariant-loop-b
 invariant-loop-b l = (length l.go ≡ 256) × (length l.gives ≡ 256) × KnownByByte l.code l.sigma l.places l.go l.gives
-
-abbrev pub decreases-loop-b : goal.decreases-loop-b
-decreases-loop-b l = 256 - l.b
