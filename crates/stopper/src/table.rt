@@ -32,6 +32,7 @@ pub fn good_characters(table: Table) -> bool
     true
 }
 
+#[tactic(auto, unfolding(crate::specs::Paper::Table::good_table))]
 pub fn good_table(table: Table) -> bool
     ensures { result ≡ good_table table }
 {
