@@ -1,5 +1,5 @@
 -- `stopper::reading::read_symbol` meets its contract: each way through it is a case of `stepped`.
-use Rattle.std.proofs.Common.{◌≡◌, refl, sym, ap, ◌∙◌, ℕ, arith}
+use Rattle.std.proofs.Common.{refl, sym, ap, ◌∙◌, arith}
 use Rattle.stopper.specs.Paper.Table.{base}
 use Rattle.stopper.specs.Helpers.State.{past_at, stepped}
 use Rattle.stopper.specs.Laws.State.{Sizes, sizes, step_past_stop, step_bad, step_rank, step_past_on, step_reach, step_on}
