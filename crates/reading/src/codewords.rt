@@ -33,16 +33,12 @@ pub fn codeword_at(code: Code, sigma: u32, buf: &[u8], h: usize, p: usize) -> Fo
     requires { Reads code sigma buf.now h p }
     ensures { result ≡ found_at code sigma (row_upto code h buf.now) p }
 {
-    let k = code.k;
     let mut r = opening();
-    let mut i = p;
-    while i < h {
-        let y = get(k, buf, i);
-        i += 1;
-        let next = read_symbol(code, sigma, r, y);
-        match next {
+    for i in p..h {
+        let y = get(code.k, buf, i);
+        match read_symbol(code, sigma, r, y) {
             Step::Rank(rank) => {
-                return Found::Word(rank, i);
+                return Found::Word(rank, i + 1);
             }
             Step::Bad => {
                 return Found::Bad;
@@ -65,13 +61,10 @@ pub fn pass_over(code: Code, sigma: u32, buf: &[u8], h: usize, p: usize, count: 
     ensures { result ≡ passed_from code sigma (row_upto code h buf.now) p count }
 {
     let mut at = p;
-    let mut left = count;
-    while 0 < left {
-        let found = codeword_at(code, sigma, buf, h, at);
-        match found {
+    for _ in 0..count {
+        match codeword_at(code, sigma, buf, h, at) {
             Found::Word(_, next) => {
                 at = next;
-                left -= 1;
             }
             Found::Bad => {
                 return Passed::Bad(at);

@@ -1,11 +1,7 @@
-use Prim.Native.Nat.{◌-◌, ◌≤◌}
-use lib.ListN.{drop}
+use Rattle.std.proofs.Common.{◌-◌, drop}
 use Rattle.stopper.specs.Laws.Seen.{Seen}
 use Rattle.reading.specs.Paper.Reading.{row_upto}
 use Rattle.reading.proofs.codewords.codeword_at.Given as goal
 
 abbrev pub invariant-loop-i : goal.invariant-loop-i
-invariant-loop-i l = (l.i ≤ l.h) × (l.p ≤ l.i) × Seen l.code l.sigma (drop l.p (row_upto l.code l.h l.buf)) (l.i - l.p) l.r
-
-abbrev pub decreases-loop-i : goal.decreases-loop-i
-decreases-loop-i l = l.h - l.i
+invariant-loop-i l = Seen l.code l.sigma (drop l.p (row_upto l.code l.h l.buf)) (l.i - l.p) l.r
