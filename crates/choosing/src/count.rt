@@ -7,25 +7,19 @@ ghost use Rattle.choosing.specs.Paper.Operations.{Counting};
 
 use ground::refusal::Refusal;
 
+#[tactic(auto, unfolding(ground::specs::Paper::Rows::zeros))]
 fn clear(counts: &mut [u32])
     ensures { counts.new ≡ zeros (length counts.old) }
 {
-    let mut i: usize = 0;
-    while i < counts.len() {
-        counts[i] = 0;
-        i += 1;
-    }
+    counts.fill(0);
 }
 
 fn tally(text: &[u8], counts: &mut [u32])
     requires { (length text.now ≤ limit) × (counts.old ≡ zeros 256) }
     ensures { counts.new ≡ counts_of text.now }
 {
-    let mut i: usize = 0;
-    while i < text.len() {
-        let b = text[i] as usize;
-        counts[b] = counts[b] + 1;
-        i += 1;
+    for b in text {
+        counts[usize::from(*b)] += 1;
     }
 }
 

@@ -28,24 +28,22 @@ pub struct Place {
     pub q: u32,
 }
 
+#[tactic(auto, unfolding(crate::specs::Paper::Table::good_width))]
 pub fn good_width(k: u8) -> bool
     ensures { result ≡ good_width k }
 {
     k == 2 || k == 4
 }
 
+#[tactic(auto, unfolding(crate::specs::Paper::Table::good_width, crate::specs::Paper::Table::good_code))]
 pub fn good_code(code: Code) -> bool
     ensures { result ≡ good_code code }
 {
-    let k = code.k;
-    let s = code.s;
-    if k == 2 {
-        return 1 <= s && s <= 3;
+    match code.k {
+        2 => (1..=3).contains(&code.s),
+        4 => (1..=15).contains(&code.s),
+        _ => false,
     }
-    if k == 4 {
-        return 1 <= s && s <= 15;
-    }
-    false
 }
 
 // The number of base symbols.
@@ -53,15 +51,15 @@ pub fn base_of(code: Code) -> u32
     requires { T (good_code code) }
     ensures { result ≡ base code }
 {
-    let k = code.k;
-    if k == 2 { 4 } else { 16 }
+    if code.k == 2 { 4 } else { 16 }
 }
 
 // How many stoppers there are at a place of a codeword.
+#[tactic(auto, unfolding(crate::specs::Paper::Table::stoppers))]
 pub fn stoppers_at(code: Code, place: u32) -> u32
     ensures { result ≡ stoppers code place }
 {
-    code.s as u32
+    u32::from(code.s)
 }
 
 // Where the codewords of a length begin: the place of their stopper, and how many codewords are shorter.
@@ -138,14 +136,12 @@ pub fn place_of(code: Code, rank: u32) -> Place
     let first = stoppers_at(code, 0);
     let second = stoppers_at(code, 1);
     let later = stoppers_at(code, 2);
-    if first == later {
-        if second == later {
-            let b = border_of(later, m - later, rank);
-            return Place {
-                at: b.at,
-                q: rank - b.shorter,
-            };
-        }
+    if first == later && second == later {
+        let b = border_of(later, m - later, rank);
+        return Place {
+            at: b.at,
+            q: rank - b.shorter,
+        };
     }
     if rank < first {
         return Place { at: 0, q: rank };
@@ -167,6 +163,5 @@ pub fn length_of(code: Code, rank: u32) -> u32
     requires { T (good_code code) × (rank < 256) }
     ensures { result ≡ length_of code rank }
 {
-    let p = place_of(code, rank);
-    p.at + 1
+    place_of(code, rank).at + 1
 }

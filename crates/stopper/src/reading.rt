@@ -37,6 +37,7 @@ pub fn opening() -> Reader
     }
 }
 
+#[tactic(auto, unfolding(crate::specs::Helpers::State::nearer))]
 pub fn next_place(place: u32) -> u32
     ensures { result ≡ nearer place }
 {
@@ -60,7 +61,7 @@ pub fn read_symbol(code: Code, sigma: u32, r: Reader, symbol: u8) -> Step
     ensures { result ≡ stepped code sigma r symbol }
 {
     let s = stoppers_at(code, r.place);
-    let y = symbol as u32;
+    let y = u32::from(symbol);
     let shorter = r.shorter;
     let value = r.value;
     if y < s {

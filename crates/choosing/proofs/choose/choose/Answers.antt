@@ -1,14 +1,8 @@
 -- `choosing::choose::choose` meets its contract: the operation's refusals in order, and its acceptance.
-use mathlib.Core.Path.{◌≡◌, sym, ap, ◌∙◌}
-use mathlib.Core.List.{List}
-use Prim.Native.Nat.{ℕ}
+use mathlib.Core.Path.{sym, ap, ◌∙◌}
 use native.Mathlib.Omega.{arith}
 use borrow.Author.Tests.{ne_eqb}
-use lib.ListN.{length}
-use Rattle.ground.specs.Paper.Rows.{tab}
-use Rattle.ground.specs.Laws.Rows.{length_tab}
 use Rattle.ground.specs.Laws.Tests.{true_yes}
-use Rattle.choosing.specs.Paper.Choosing.{counted}
 use Rattle.choosing.specs.Paper.Operations.{choose_says}
 use Rattle.choosing.specs.Helpers.Answers.{count_in}
 use Rattle.choosing.specs.Laws.Ranking.{length_ranked}
@@ -25,13 +19,9 @@ pub returns-then-counts-ne256 : goal.returns-then-counts-ne256
 unfolding choose_says
 returns-then-counts-ne256 c = choose_refused (rw (sym c.good_width.ensures ∙ c.if-not-good_width.false, ne_eqb _ _ c.if-counts-ne256.true))
 
--- the raised counts
-long : (counts : List ℕ) {raised : List ℕ} → raised ≡ tab (counted counts) 0 256 → length raised ≡ 256
-long counts e = ap length e ∙ length_tab _ 0 256
-
 pub best_of-best-requires : goal.best_of-best-requires
 best_of-best-requires c =
-    (true_yes _ (sym c.good_width.ensures ∙ c.if-not-good_width.false), long c.args.counts.now c.raised_of-raised.ensures, c.ranking_of-ranking.ensures)
+    (true_yes _ (sym c.good_width.ensures ∙ c.if-not-good_width.false), c.ranking_of-ranking.ensures)
 
 pub overflow_cast-result : goal.overflow_cast-result
 overflow_cast-result c =
@@ -44,6 +34,3 @@ returns c =
     choose_yes ((chooses_is _ _).0 (good, c.if-counts-ne256.false))
     (c.ranking_of-ranking.ensures ∙ raised_ranking counts c.raised_of-raised.ensures)
     (c.best_of-best.ensures ∙ raised_best counts c.raised_of-raised.ensures _ good)
-
-pub ranking_of-ranking-requires : goal.ranking_of-ranking-requires
-ranking_of-ranking-requires c = long c.args.counts.now c.raised_of-raised.ensures

@@ -1,13 +1,7 @@
--- `choosing::raising::raised_of` meets its contract: no count is lower than lent or higher than it counts as, and the first i of the twelve are not 0.
-use mathlib.Core.Path.{◌≡◌, refl, sym, ap, subst, ◌∙◌}
-use mathlib.Core.Logic.{⊎_elim}
+-- `choosing::raising::raised_of` meets its contract.
+use Rattle.std.proofs.Common.{◌≡◌, refl, sym, ap, subst, ◌∙◌, ⊎_elim, ℕ, suc, ◌+◌, ◌≤◌, ◌<◌, List, [], ◌∷◌, length, get_or, set, length-set, get_or-set_same, get_or-set_other, arith}
 use mathlib.Core.List.Memᴰ
-use mathlib.Core.List.{List, [], ◌∷◌}
-use Prim.Native.Nat.{ℕ, suc, ◌+◌, ◌≤◌, ◌<◌}
-use native.Mathlib.Decide.{ℕ_discrete}
-use native.Mathlib.Omega.{arith}
-use lib.ListN.{length, get_or, set, length-set}
-use lib.Seq.{get_or-set_same, get_or-set_other}
+use Rattle.std.proofs.Math.Decide.{ℕ_discrete}
 use Rattle.ground.specs.Paper.Rows.{tab}
 use Rattle.ground.specs.Laws.Rows.{tab_ext}
 use Rattle.ground.specs.Laws.Tests.{by_value, true_yes}
@@ -88,43 +82,18 @@ module _ {counts raised : List ℕ} {i : ℕ} (u : Upto counts raised i) where
           omega (arith, twelve_least b m, each (λ (y : ℕ). 0 < get_or raised y 0) twelve (λ j k. u.first j (omega (arith, twelve_long))) b m))
           (λ e. rw e (omega arith))
 
--- the array is the row
-byte : (i : ℕ) → i < 12 → get_or (10 ∷ 43 ∷ 48 ∷ 49 ∷ 50 ∷ 51 ∷ 52 ∷ 53 ∷ 54 ∷ 55 ∷ 56 ∷ 57 ∷ []) i 0 < 256
-unfolding twelve
-byte i h = twelve_byte (get_or twelve i 0) (mem_at twelve i h)
+pub loop-b-init : goal.loop-b-init
+loop-b-init c = start c.copy_from_slice.ensures.after c.requires
 
-pub loop-i-preserved : goal.loop-i-preserved
+pub loop-b-preserved : goal.loop-b-preserved
 unfolding twelve
-loop-i-preserved c =
-    let h = c.loop-i-test.true in
+loop-b-preserved c =
+    let h = c.loop-b-test.true in
+    let e = c.from-b.ensures in
     elim c.if-raised-b-eq0.branch [
-      | then-raised-b-eq0 w ↦ rw w.raised-is (lifted c.loop-i.invariant h w.if-raised-b-eq0.true)
-      | else-raised-b-eq0 w ↦ rw w.raised-is (kept c.loop-i.invariant h (omega (arith, w.if-raised-b-eq0.false)))
+      | then-raised-b-eq0 w ↦ rw (w.raised-is, e) (lifted c.loop-b.invariant h (rw e at w.if-raised-b-eq0.true))
+      | else-raised-b-eq0 w ↦ rw w.raised-is (kept c.loop-b.invariant h (omega (arith, rw e at w.if-raised-b-eq0.false)))
     ]
 
-pub copy_of-raised-requires : goal.copy_of-raised-requires
-copy_of-raised-requires c = c.requires
-
-pub loop-i-init : goal.loop-i-init
-loop-i-init c = start c.copy_of-raised.ensures c.requires
-
-pub bounds-twelve-i : goal.bounds-twelve-i
-bounds-twelve-i c = c.loop-i-test.true
-
-pub overflow_cast-b : goal.overflow_cast-b
-overflow_cast-b c = omega (arith, byte c.loop-i.i c.loop-i-test.true)
-
-pub offset_bounds-raised-b : goal.offset_bounds-raised-b
-offset_bounds-raised-b c = omega (arith, byte c.loop-i.i c.loop-i-test.true)
-
-pub bounds-raised-b : goal.bounds-raised-b
-bounds-raised-b c = byte c.loop-i.i c.loop-i-test.true
-
-pub offset_bounds-raised-b-then-raised-b-eq0 : goal.offset_bounds-raised-b-then-raised-b-eq0
-offset_bounds-raised-b-then-raised-b-eq0 c = omega (arith, byte c.loop-i.i c.loop-i-test.true)
-
-pub bounds-raised-b-then-raised-b-eq0 : goal.bounds-raised-b-then-raised-b-eq0
-bounds-raised-b-then-raised-b-eq0 c = byte c.loop-i.i c.loop-i-test.true
-
 pub returns : goal.returns
-returns c = done c.loop-i.invariant c.loop-i-test.false
+returns c = done c.loop-b.invariant c.loop-b-test.false

@@ -1,10 +1,7 @@
 -- `stopper::code::border_of` meets its contract: `Borders`, length by length.
-use mathlib.Core.Path.{◌≡◌}
-use mathlib.Core.Logic.{◌⊎◌, inl, inr}
-use Prim.Native.Nat.{ℕ, ◌+◌, ◌-◌, ◌*◌, ◌/◌, ◌≤◌, ◌<◌}
-use native.Mathlib.Nat.{mul-pos, mul-le-mul, div-le_self, div-mul-le_self}
-use native.Mathlib.Decide.{dec_le}
-use native.Mathlib.Omega.{arith}
+use Rattle.std.proofs.Common.{◌≡◌, ◌⊎◌, inl, inr, ℕ, ◌+◌, ◌-◌, ◌*◌, ◌/◌, ◌≤◌, ◌<◌, arith}
+use Rattle.std.proofs.Math.Nat.{mul-pos, mul-le-mul, div-le_self, div-mul-le_self}
+use Rattle.std.proofs.Math.Decide.{dec_le}
 use Rattle.stopper.proofs.Borders.{start, first, next, within, lengths, wide}
 use Rattle.stopper.proofs.code.border_of.Goals as goal
 
@@ -38,7 +35,7 @@ sixth x =
     passed x.requires.3 (a.one * a.c * a.c * a.c * a.c) {r = a.rank} (omega arith) x.requires.5
 
 abbrev seven : goal.Else-rank-to_six → ℕ
-seven x = let a = x.before.before.before.before.before.before.args in a.one * a.c * a.c * a.c * a.c * a.c * a.c
+seven x = let a = x.args in a.one * a.c * a.c * a.c * a.c * a.c * a.c
 
 seventh : (x : goal.Else-rank-to_six) → (0 < seven x) × (seven x ≤ 4096)
 seventh x =
@@ -50,17 +47,17 @@ seventh x =
 
 -- ---- the lengths behind the six borders
 
-abbrev to-six : goal.Else-rank-to_six → ℕ
-to-six x = let a = x.before.before.before.before.before.before.args in a.one + a.one * a.c + a.one * a.c * a.c + a.one * a.c * a.c * a.c + a.one * a.c * a.c * a.c * a.c + a.one * a.c * a.c * a.c * a.c * a.c
+abbrev to_six : goal.Else-rank-to_six → ℕ
+to_six x = let a = x.args in a.one + a.one * a.c + a.one * a.c * a.c + a.one * a.c * a.c * a.c + a.one * a.c * a.c * a.c * a.c + a.one * a.c * a.c * a.c * a.c * a.c
 
 -- the last border passed is at most the rank
-below : (x : goal.Else-rank-to_six) → let r = x.args.rank in ((r - to-six x) / seven x ≤ r) × (to-six x + (r - to-six x) / seven x * seven x ≤ r)
+below : (x : goal.Else-rank-to_six) → let r = x.args.rank in ((r - to_six x) / seven x ≤ r) × (to_six x + (r - to_six x) / seven x * seven x ≤ r)
 below x =
     let r = x.args.rank in
-    (omega (arith, div-le_self (r - to-six x) (seven x)), omega (arith, div-mul-le_self (r - to-six x) (seven x)))
+    (omega (arith, div-le_self (r - to_six x) (seven x)), omega (arith, div-mul-le_self (r - to_six x) (seven x)))
 
 -- all have as many, or at most one is passed
-rest : (x : goal.Else-rank-to_six) → let a = x.args in (a.c ≡ 1) ⊎ (a.rank < to-six x + (seven x + seven x))
+rest : (x : goal.Else-rank-to_six) → let a = x.args in (a.c ≡ 1) ⊎ (a.rank < to_six x + (seven x + seven x))
 rest x =
     elim (dec_le 2 x.args.c) [
       | yes h ↦ inr (omega (arith, wide x.requires.0 h x.requires.4))

@@ -1,9 +1,6 @@
 -- `stopper::code::place_of` meets its contract: the place with the property (`Within`) is the only one.
-use mathlib.Core.Path.{◌≡◌, sym, ap, ap₂, ◌∙◌}
-use Prim.Native.Nat.{ℕ, zero, suc, ◌+◌, ◌-◌, ◌*◌, ◌≤◌, ◌<◌}
-use native.Mathlib.Nat.{zero-add, one-mul, mul-pos, mul-le-mul, le_refl}
-use native.Mathlib.Omega.{arith}
-use lib.Dec.{T}
+use Rattle.std.proofs.Common.{◌≡◌, sym, ap, ap₂, ◌∙◌, ℕ, zero, suc, ◌+◌, ◌-◌, ◌*◌, ◌≤◌, ◌<◌, T, arith, le_refl}
+use Rattle.std.proofs.Math.Nat.{zero-add, one-mul, mul-pos, mul-le-mul}
 use Rattle.stopper.specs.Paper.Code.{Good, Within, opens, shorter, place}
 use Rattle.stopper.specs.Paper.Table.{base, stoppers, good_code}
 use Rattle.stopper.specs.Helpers.Answers.{place_of}
@@ -14,13 +11,6 @@ use Rattle.stopper.specs.declared.code.Code.{Code}
 use Rattle.stopper.specs.declared.code.Place.{Place}
 use Rattle.stopper.proofs.Borders.{place_le, shorter_later, within_later}
 use Rattle.stopper.proofs.code.place_of.Goals as goal
-use Rattle.stopper.proofs.code.place_of.Lts as Places
-use Rattle.stopper.proofs.code.place_of.Reads as Clauses
-use Rattle.stopper.proofs.code.place_of.Tie as tie
-
--- what is known at these places
-abbrev After-stoppers_at-later : Type 0
-After-stoppers_at-later = Places.After-stoppers_at3 tie.the-claims Clauses.Pre Clauses.Post
 
 -- what was asked of the code: the number of base symbols, and the stoppers of the first place, the second and all later ones
 record Asked (code : Code) (m a b u : ℕ) : Type 0 where
@@ -119,68 +109,71 @@ module _ {code : Code} {m a b u : ℕ} (k : Asked code m a b u) where
         rest : (x : ℕ) → x ≤ r - a → r ≡ a + x + (r - a - x)
         rest x h = omega arith
 
-asked : (x : After-stoppers_at-later) → Asked x.args.code x.base_of-m.result x.stoppers_at-first.result
-    x.stoppers_at-second.result x.stoppers_at-later.result
-asked x = record {
-  good = x.requires.0;
-  symbols = x.base_of-m.ensures;
-  first = x.stoppers_at-first.ensures;
-  second = x.stoppers_at-second.ensures;
-  later = x.stoppers_at-later.ensures;
-}
+asked : (code : Code) {m a b u : ℕ} → T (good_code code) → m ≡ base code → a ≡ stoppers code 0 → b ≡ stoppers code 1 → u ≡ stoppers code 2 → Asked code m a b u
+asked code g m a b u = record { good = g; symbols = m; first = a; second = b; later = u }
+
+-- all places alike
+known : (c : goal.Then-second-later) → Asked c.args.code c.base_of-m.result c.stoppers_at-first.result c.stoppers_at-second.result c.stoppers_at-later.result
+known c = asked c.args.code c.requires.0 c.base_of-m.ensures c.stoppers_at-first.ensures c.stoppers_at-second.ensures c.stoppers_at-later.ensures
+
+pub overflow_sub-m : goal.overflow_sub-m
+overflow_sub-m c = let s = sizes (known c) in omega arith
 
 pub border_of-b-requires : goal.border_of-b-requires
 border_of-b-requires c =
-    let s = sizes (asked c.before.before) in
+    let s = sizes (known c) in
     (omega arith, omega arith, omega arith, omega arith, omega arith, c.requires.1)
 
 pub returns-then-second-later : goal.returns-then-second-later
-returns-then-second-later c =
-    let b = c.border_of-b in
-    from_first (asked c.before.before.before.before) c.if-first-later.true c.if-second-later.true b.ensures
+returns-then-second-later c = from_first (asked c.args.code c.requires.0 c.base_of-m.ensures c.stoppers_at-first.ensures c.stoppers_at-second.ensures c.stoppers_at-later.ensures) c.if-first-later.true c.if-second-later.true c.border_of-b.ensures
 
+-- the first place
 pub returns-then-rank-first : goal.returns-then-rank-first
-returns-then-rank-first c = in_first (asked c.before.before) c.if-rank-first.true
+returns-then-rank-first c = in_first (asked c.args.code c.requires.0 c.base_of-m.ensures c.stoppers_at-first.ensures c.stoppers_at-second.ensures c.stoppers_at-later.ensures) c.if-rank-first.true
+
+-- the second place
+known_second : (c : goal.Else-rank-first) → Asked c.args.code c.base_of-m.result c.stoppers_at-first.result c.stoppers_at-second.result c.stoppers_at-later.result
+known_second c = asked c.args.code c.requires.0 c.base_of-m.ensures c.stoppers_at-first.ensures c.stoppers_at-second.ensures c.stoppers_at-later.ensures
+
+pub overflow_sub-two : goal.overflow_sub-two
+overflow_sub-two c = let s = sizes (known_second c) in omega arith
+
+pub overflow_mul-two : goal.overflow_mul-two
+overflow_mul-two c = omega (arith, two_few (known_second c))
 
 pub returns-then-rest-two : goal.returns-then-rest-two
-returns-then-rest-two c = in_second (asked c.before.before.before) c.if-rank-first.false c.if-rest-two.true
+returns-then-rest-two c = in_second (asked c.args.code c.requires.0 c.base_of-m.ensures c.stoppers_at-first.ensures c.stoppers_at-second.ensures c.stoppers_at-later.ensures) c.if-rank-first.false c.if-rest-two.true
+
+-- a later place
+known_later : (c : goal.Else-rest-two) → Asked c.args.code c.base_of-m.result c.stoppers_at-first.result c.stoppers_at-second.result c.stoppers_at-later.result
+known_later c = asked c.args.code c.requires.0 c.base_of-m.ensures c.stoppers_at-first.ensures c.stoppers_at-second.ensures c.stoppers_at-later.ensures
+
+pub overflow_sub-m-2 : goal.overflow_sub-m-2
+overflow_sub-m-2 c = let s = sizes (known_later c) in omega arith
+
+pub overflow_sub-m-3 : goal.overflow_sub-m-3
+overflow_sub-m-3 c = let s = sizes (known_later c) in omega arith
+
+pub overflow_sub-m-4 : goal.overflow_sub-m-4
+overflow_sub-m-4 c = let s = sizes (known_later c) in omega arith
+
+pub overflow_mul-m : goal.overflow_mul-m
+overflow_mul-m c = omega (arith, rows_few (known_later c))
+
+pub overflow_mul-m-2 : goal.overflow_mul-m-2
+overflow_mul-m-2 c = omega (arith, three_few (known_later c))
 
 pub border_of-b-requires-2 : goal.border_of-b-requires-2
 border_of-b-requires-2 c =
-    let k = asked c.before.before.before in
+    let k = known_later c in
     let s = sizes k in
     (mul-pos (rows_pos k) (omega arith), three_few k, omega arith, omega arith, omega (arith, three_some k), omega arith)
 
 pub overflow_add-result : goal.overflow_add-result
 overflow_add-result c =
-    let k = asked c.before.before.before.before.before in
+    let k = asked c.args.code c.requires.0 c.base_of-m.ensures c.stoppers_at-first.ensures c.stoppers_at-second.ensures c.stoppers_at-later.ensures in
     let s = sizes k in
     omega (arith, place_le (mul-pos (rows_pos k) (omega arith)) (omega arith) c.border_of-b-2.ensures.0)
 
 pub returns : goal.returns
-returns c =
-    from_third (asked c.before.before.before.before.before.before) c.if-rank-first.false c.if-rest-two.false c.border_of-b-2.ensures
-
-pub overflow_sub-m : goal.overflow_sub-m
-overflow_sub-m c = let s = sizes (asked c.before.before) in omega arith
-
-pub overflow_sub-two : goal.overflow_sub-two
-overflow_sub-two c = let s = sizes (asked c.before.before) in omega arith
-
-pub overflow_mul-two : goal.overflow_mul-two
-overflow_mul-two c = omega (arith, two_few (asked c.before.before))
-
-pub overflow_sub-m-2 : goal.overflow_sub-m-2
-overflow_sub-m-2 c = let s = sizes (asked c.before.before.before) in omega arith
-
-pub overflow_sub-m-3 : goal.overflow_sub-m-3
-overflow_sub-m-3 c = let s = sizes (asked c.before.before.before) in omega arith
-
-pub overflow_mul-m : goal.overflow_mul-m
-overflow_mul-m c = omega (arith, rows_few (asked c.before.before.before))
-
-pub overflow_mul-m-2 : goal.overflow_mul-m-2
-overflow_mul-m-2 c = omega (arith, three_few (asked c.before.before.before))
-
-pub overflow_sub-m-4 : goal.overflow_sub-m-4
-overflow_sub-m-4 c = let s = sizes (asked c.before.before.before) in omega arith
+returns c = from_third (asked c.args.code c.requires.0 c.base_of-m.ensures c.stoppers_at-first.ensures c.stoppers_at-second.ensures c.stoppers_at-later.ensures) c.if-rank-first.false c.if-rest-two.false c.border_of-b-2.ensures

@@ -1,12 +1,7 @@
 -- `stopper::table::ranks_of` meets its contract: the ranks are those among the characters from place i on, and i more.
-use mathlib.Core.Path.{◌≡◌, sym, ap, subst, ◌∙◌}
-use mathlib.Core.List.{List}
-use Prim.Native.Nat.{ℕ, zero, suc, ◌+◌, ◌≤◌, ◌<◌}
-use native.Mathlib.Nat.{add-zero, zero-add}
-use native.Mathlib.Omega.{arith}
-use borrow.Author.Rules.{rules}
-use lib.ListN.{length, take, drop, get_or, set, replicate, length-replicate, get_or-replicate}
-use lib.Seq.{length-take-le, get_or-take}
+use Rattle.std.proofs.Common.{◌≡◌, sym, ap, ◌∙◌, ℕ, zero, suc, ◌+◌, ◌-◌, ◌≤◌, ◌<◌, List, length, take, drop, get_or, set, replicate, arith, rules, add-zero, length-take-le, get_or-take, subst}
+use Rattle.std.proofs.Math.Nat.{zero-add}
+use Rattle.std.proofs.lemmas.List.{length-replicate, get_or-replicate}
 use Rattle.ground.specs.Laws.Rows.{length_tab, tab_at, tab_ext, tab_set}
 use Rattle.stopper.specs.Paper.Table.{rank_in}
 use Rattle.stopper.specs.Helpers.Answers.{ranks_of}
@@ -46,19 +41,14 @@ unfolding ranks_of
 whole {places} {n} {i = zero} s h = s.row ∙ tab_ext (rank_in (take n places)) 256 _ (length_tab _ 0 256) (λ b k. tab_at _ 256 b k ∙ zero-add _)
 whole {i = suc i} s h = absurd (omega arith)
 
-pub loop-i-preserved : goal.loop-i-preserved
-loop-i-preserved c =
-    let a = c.args in
-    down (subst (Filled a.places a.sigma c.loop-i.ranks) (omega arith) c.loop-i.invariant) c.wide-b.ensures.0 c.wide-b.ensures.1
-
 pub loop-i-init : goal.loop-i-init
 loop-i-init c = start c.args.places c.args.sigma (search rules) c.requires
 
-pub offset_bounds-ranks-b : goal.offset_bounds-ranks-b
-offset_bounds-ranks-b c = omega (arith, c.wide-b.ensures.1)
-
-pub bounds-ranks-b : goal.bounds-ranks-b
-bounds-ranks-b c = c.wide-b.ensures.1
+pub loop-i-preserved : goal.loop-i-preserved
+loop-i-preserved c =
+    let a = c.args in
+    let e : c.from-in-loop-i.result ≡ get_or a.places (c.loop-i.i - 1) 0 = c.from-in-loop-i.ensures ∙ ap (λ (x : ℕ). get_or a.places x 0) c.from.ensures in
+    down (subst (Filled a.places a.sigma c.loop-i.ranks) (omega arith) c.loop-i.invariant) e (search rules)
 
 pub returns : goal.returns
 returns c = whole c.loop-i.invariant c.loop-i-test.false

@@ -1,7 +1,4 @@
-use mathlib.Core.Path.{◌≡◌}
-use mathlib.Core.List.{List}
-use Prim.Native.Nat.{ℕ, ◌+◌, ◌≤◌}
-use lib.ListN.{length, take, drop}
+use Rattle.std.proofs.Common.{◌≡◌, ◌+◌, ◌≤◌, ℕ, List, length, take, drop}
 use Rattle.ground.specs.Paper.Rows.{tab}
 use Rattle.stopper.specs.Paper.Table.{rank_in}
 use Rattle.stopper.proofs.table.ranks_of.Given as goal
@@ -18,6 +15,3 @@ pub record Filled (places : List ℕ) (n : ℕ) (ranks : List ℕ) (i : ℕ) : T
 
 abbrev pub invariant-loop-i : goal.invariant-loop-i
 invariant-loop-i l = Filled l.places l.sigma l.ranks l.i
-
-abbrev pub decreases-loop-i : goal.decreases-loop-i
-decreases-loop-i l = l.i
