@@ -1,7 +1,10 @@
 // The places of a sound roll where a pattern stands.
-ghost use Rattle.std.specs.Prelude.{◌≡◌, ◌*◌, ◌≤◌, T, length, take};
+ghost use Rattle.std.specs.Prelude.{◌≡◌, ◌*◌, ◌≤◌, T, length, take, drop};
 ghost use Rattle.stopper.specs.Paper.Table.{good_code, longest};
-ghost use Rattle.texts.specs.Paper.Hits.{hits, good_pattern, listed, most_pattern};
+ghost use Rattle.symbols.specs.Paper.Symbols.{symbols_of};
+ghost use Rattle.symbols.specs.Helpers.Widths.{Width};
+ghost use Rattle.texts.specs.Paper.Hits.{hits, good_pattern, listed, most_pattern, stands};
+ghost use Rattle.reading.specs.Paper.Reading.{row_upto};
 ghost use Rattle.sound.specs.Paper.Roll.{text_of, Sound};
 ghost use Rattle.find.specs.Helpers.Finding.{pattern_row, word_hits};
 
@@ -27,17 +30,27 @@ pub fn spell_pattern(
 {
     let ranks = ranks_of(sigma, places);
     let mut p: usize = 0;
-    let mut i = 0;
-    while i < pattern.len() {
-        let rank = ranks[pattern[i] as usize];
+    for b in pattern {
+        let rank = ranks[usize::from(*b)];
         if sigma <= rank {
             return 0;
         }
-        let end = p + LONGEST;
-        p += spell_word(code, rank as u32, &mut symbols[p..end]);
-        i += 1;
+        p += spell_word(code, u32::from(rank), &mut symbols[p..p + LONGEST]);
     }
     p
+}
+
+// Whether the symbols stand at symbol p of the first h.
+fn stand_at(code: Code, buf: &[u8], h: usize, symbols: &[u8], p: usize) -> bool
+    requires { (Width code.k) × (p ≤ h) × (h ≤ length (symbols_of code.k buf.now)) }
+    ensures { result ≡ stands symbols.now (drop p (row_upto code h buf.now)) }
+{
+    for (j, symbol) in symbols.iter().enumerate() {
+        if p + j == h || get(code.k, buf, p + j) != *symbol {
+            return false;
+        }
+    }
+    true
 }
 
 // From codeword to codeword: the total of those at whose start the symbols stand; the first of them are listed as far as the slice goes.
@@ -46,37 +59,17 @@ pub fn list_hits(roll: Roll, buf: &[u8], symbols: &[u8], slice: &mut [u32]) -> u
     ensures total { result ≡ length (word_hits roll buf.now symbols.now) }
     ensures list { slice.new ≡ listed (word_hits roll buf.now symbols.now) slice.old }
 {
-    let table = roll.table;
-    let code = table.code;
-    let k = code.k;
-    let n = roll.n;
-    let h = roll.h as usize;
+    let code = roll.table.code;
     let mut total: u32 = 0;
     let mut p: usize = 0;
-    let mut i: u32 = 0;
-    while i < n {
-        let next = end_at(code, buf, p);
-        let mut j: usize = 0;
-        let same = loop {
-            if j == symbols.len() {
-                break true;
-            }
-            if p + j == h {
-                break false;
-            }
-            if get(k, buf, p + j) != symbols[j] {
-                break false;
-            }
-            j += 1;
-        };
-        if same {
+    for i in 0..roll.n {
+        if stand_at(code, buf, roll.h as usize, symbols, p) {
             if (total as usize) < slice.len() {
                 slice[total as usize] = i;
             }
             total += 1;
         }
-        p = next;
-        i += 1;
+        p = end_at(code, buf, p);
     }
     total
 }
@@ -88,11 +81,8 @@ pub fn search_sound(roll: Roll, buf: &[u8], pattern: &[u8], slice: &mut [u32]) -
     ensures list { slice.new ≡ listed (hits pattern.now (text_of roll buf.now)) slice.old }
 {
     let table = roll.table;
-    let code = table.code;
-    let sigma = table.sigma;
-    let places = table.places;
     let mut symbols = [0u8; MOST_PATTERN * LONGEST];
-    let long = spell_pattern(code, sigma, places, pattern, &mut symbols);
+    let long = spell_pattern(table.code, table.sigma, table.places, pattern, &mut symbols);
     if long == 0 {
         return 0;
     }

@@ -1,5 +1,5 @@
 // Where codewords end, by their stoppers alone: enough in a sound roll.
-ghost use Rattle.std.specs.Prelude.{◌≡◌, cond, [], ◌∷◌, ◌*◌, ◌/◌, ◌≤◌, ◌<◌, T};
+ghost use Rattle.std.specs.Prelude.{◌≡◌, [], ◌∷◌, ◌*◌, ◌/◌, ◌≤◌, ◌<◌, T};
 ghost use Rattle.ground.specs.Paper.Rows.{tab};
 ghost use Rattle.stopper.specs.Paper.Table.{stoppers, good_code};
 ghost use Rattle.symbols.specs.Paper.Symbols.{per, symbols_of};
@@ -15,20 +15,14 @@ pub fn end_at(code: Code, buf: &[u8], p: usize) -> usize
     requires { Ending code buf.now p 1 }
     ensures { result ≡ end_from code buf.now p 1 }
 {
-    let k = code.k;
     let mut place: u32 = 0;
     let mut q = p;
-    while stoppers_at(code, place) <= get(k, buf, q) as u32 {
+    // A while: how many symbols are passed comes from the text.
+    while stoppers_at(code, place) <= u32::from(get(code.k, buf, q)) {
         place = next_place(place);
         q += 1;
     }
     q + 1
-}
-
-fn flag(b: bool) -> u8
-    ensures { (result ≡ cond b 1 0) × (result ≤ 1) }
-{
-    if b { 1 } else { 0 }
 }
 
 // How many of the two symbols of a byte are stoppers, each of four bits, by no branch: a loop over bytes counts many at once.
@@ -37,7 +31,7 @@ pub fn stops_of_four(code: Code, b: u8) -> u8
     ensures { (result ≡ stops (stoppers code) 0 (symbols_of code.k (b ∷ []))) × (result ≤ 2) }
 {
     let s = stoppers_at(code, 0) as u8;
-    flag(b < 16 * s) + flag(b % 16 < s)
+    u8::from(b < 16 * s) + u8::from(b % 16 < s)
 }
 
 // How many of the four symbols of byte b are below s, each of two bits, at 256 * (s - 1) + b, for s of 1, 2 and 3.
@@ -80,13 +74,9 @@ fn stops_listed(s: u8) -> [u8; 256]
     ensures { result ≡ tab (λ b. stops (λ _. s) 0 (symbols_of 2 (b ∷ []))) 0 256 }
 {
     let table = stops_of_two();
-    let first = 256 * (s as usize - 1);
+    let first = 256 * (usize::from(s) - 1);
     let mut row = [0u8; 256];
-    let mut b: usize = 0;
-    while b < 256 {
-        row[b] = table[first + b];
-        b += 1;
-    }
+    row.copy_from_slice(&table[first..first + 256]);
     row
 }
 
@@ -96,10 +86,8 @@ fn stops_counted(code: Code) -> [u8; 256]
     ensures { result ≡ stops_by_byte code }
 {
     let mut row = [0u8; 256];
-    let mut b: usize = 0;
-    while b < 256 {
-        row[b] = stops_of_four(code, b as u8);
-        b += 1;
+    for (b, stops) in row.iter_mut().enumerate() {
+        *stops = stops_of_four(code, b as u8);
     }
     row
 }
@@ -123,11 +111,9 @@ fn from_byte(code: Code, buf: &[u8], p: usize, count: usize) -> usize
 {
     let s = stoppers_at(code, 0);
     let first = p - place_in_byte(code.k, p);
-    let mut q = p;
     let mut left = count;
-    while first < q {
-        q -= 1;
-        if (get(code.k, buf, q) as u32) < s {
+    for q in (first..p).rev() {
+        if u32::from(get(code.k, buf, q)) < s {
             left += 1;
         }
     }
@@ -142,8 +128,9 @@ fn pass_symbols(code: Code, buf: &[u8], p: usize, count: usize) -> usize
     let s = stoppers_at(code, 0);
     let mut q = p;
     let mut left = count;
+    // A while: how many symbols are passed comes from the text.
     while 0 < left {
-        if (get(code.k, buf, q) as u32) < s {
+        if u32::from(get(code.k, buf, q)) < s {
             left -= 1;
         }
         q += 1;
@@ -161,8 +148,9 @@ pub fn pass_ends(code: Code, stops: &[u8], buf: &[u8], p: usize, count: usize) -
     }
     let mut j = byte_of(code.k, p);
     let mut left = from_byte(code, buf, p, count);
+    // A loop: how many bytes are passed comes from the text.
     loop {
-        let ended = stops[buf[j] as usize] as usize;
+        let ended = usize::from(stops[usize::from(buf[j])]);
         if left <= ended {
             break;
         }

@@ -13,14 +13,12 @@ pub fn first_wrong(roll: Roll, buf: &[u8], dir: &[u32]) -> usize
     requires { Sound roll buf.now }
     ensures { result ≡ first_wrong (directory_of (lengths_of roll buf.now)) dir.now }
 {
-    let table = roll.table;
-    let code = table.code;
+    let code = roll.table.code;
     let stops = stops_by_byte(code);
     let last = entries_for(roll.n);
     let mut p: usize = 0;
     let mut j: usize = 0;
-    let mut e: usize = 0;
-    while e < last {
+    for e in 0..last {
         if dir.len() <= e {
             return e;
         }
@@ -29,7 +27,6 @@ pub fn first_wrong(roll: Roll, buf: &[u8], dir: &[u32]) -> usize
         if dir[e] as usize != p {
             return e;
         }
-        e += 1;
     }
     last
 }
@@ -42,13 +39,9 @@ pub fn start_of(roll: Roll, buf: &[u8], dir: &[u32], j: usize) -> usize
     if roll.n as usize <= j {
         return roll.h as usize;
     }
-    let table = roll.table;
-    let code = table.code;
     let mut at = dir[j / 32] as usize;
-    let mut i = j / 32 * 32;
-    while i < j {
-        at = end_at(code, buf, at);
-        i += 1;
+    for _ in j / 32 * 32..j {
+        at = end_at(roll.table.code, buf, at);
     }
     at
 }

@@ -1,11 +1,6 @@
 -- The codewords of a text's first characters gathered: what is known before character i.
-use mathlib.Core.Path.{◌≡◌, refl, sym, ap, ap₂, ◌∙◌}
-use mathlib.Core.List.{List, ◌++◌, append-nil, append_assoc}
-use Prim.Native.Nat.{ℕ, ◌+◌, ◌*◌, ◌^◌, ◌≤◌, ◌<◌}
-use native.Mathlib.Numerals.{add-one}
-use native.Mathlib.Omega.{arith}
-use lib.ListN.{length, take, drop, get_or, length-append}
-use lib.Seq.{take_all, drop-drop}
+use Rattle.std.proofs.Common.{◌≡◌, refl, sym, ap, ap₂, ◌∙◌, ℕ, ◌+◌, ◌*◌, ◌^◌, ◌≤◌, ◌<◌, List, ◌++◌, append-nil, append_assoc, length, take, drop, get_or, length-append, drop-drop, add-one, arith}
+use lib.Seq.{take_all}
 use Rattle.ground.specs.Helpers.Moved.{laid_from}
 use Rattle.symbols.specs.Paper.Symbols.{per, symbols_of}
 use Rattle.symbols.specs.Helpers.Gathered.{gathered, up_to, Waiting, Added}
@@ -17,7 +12,6 @@ use Rattle.store.specs.Laws.Words.{row_more, row_split}
 
 -- nothing behind the gathered symbols has changed
 pub record Written (k : ℕ) (lengths words text old : List ℕ) (first : ℕ) (buf : List ℕ) (g : Gather) (i : ℕ) : Type 0 where
-  pub inside : i ≤ length text
   pub even : length buf ≡ length old
   pub few : g.count < 4 * per k
   pub small : g.bits < 2 ^ (k * g.count)
@@ -30,7 +24,6 @@ module _ {k : ℕ} {lengths words text old : List ℕ} {first : ℕ} (a : Laid k
       → gathered k g old ≡ take first (symbols_of k old) → Written k lengths words text old first old g 0
   unfolding row_of
   start few small upto symbols = record {
-    inside = omega arith;
     even = refl;
     few = few;
     small = small;
@@ -48,20 +41,22 @@ module _ {k : ℕ} {lengths words text old : List ℕ} {first : ℕ} (a : Laid k
       counts = omega (arith, a.counts);
     }
 
-    module _ (h : i < length text) {b : ℕ} (e : b ≡ get_or text i 0) where
+    module _ (h : i < length text) where
+      abbrev b : ℕ
+      b = get_or text i 0
+
       pub ends : up_to k g + length (word_at lengths words b) ≤ first + length (row_of lengths words text)
-      ends = rw e (omega (arith, s.upto, simp length-append at (ap length (row_split lengths words text i h))))
+      ends = omega (arith, s.upto, simp length-append at (ap length (row_split lengths words text i h)))
 
       pub more : {after : List ℕ} {r : Gather} → length after ≡ length buf → Added k g buf (word_at lengths words b) r after
           → Written k lengths words text old first after r (i + 1)
       more {after} {r} even d =
           let w = word_at lengths words b in
-          let m : row_of lengths words (take (i + 1) text) ≡ row_of lengths words (take i text) ++ w = rw (add-one i, e) (row_more lengths words text i h) in
+          let m : row_of lengths words (take (i + 1) text) ≡ row_of lengths words (take i text) ++ w = rw (add-one i) (row_more lengths words text i h) in
           let past : drop (up_to k r) (symbols_of k buf) ≡ drop (up_to k r) (symbols_of k old)
           = rw d.upto
           (sym (drop-drop (length w) (up_to k g) (symbols_of k buf)) ∙ ap (drop (length w)) s.rest ∙ drop-drop (length w) (up_to k g) (symbols_of k old)) in
           record {
-            inside = omega arith;
             even = even ∙ s.even;
             few = d.few;
             small = d.small;

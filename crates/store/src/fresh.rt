@@ -24,8 +24,7 @@ pub fn store_text(
     ensures record { result ≡ record_of table text.now }
     ensures bytes { buf.new ≡ packed_into table.code.k (symbols_for table text.now) buf.old }
 {
-    let code = table.code;
-    let k = code.k;
+    let k = table.code.k;
     write_text(k, lengths, words, text, buf, 0);
     clear_unused(k, buf, taken);
     Roll {

@@ -13,18 +13,14 @@ fn mend_entries(roll: Roll, buf: &[u8], dir: &mut [u32], from: usize, upto: usiz
     requires { Sound roll buf.now × (from ≤ upto) × (upto ≤ roll.n) × (entries upto ≤ length dir.old) × (first ≡ start_at (lengths_of roll buf.now) from) }
     ensures { dir.new ≡ over dir.old (entries from) (run (directory_of (lengths_of roll buf.now)) (entries from) (entries upto)) (entries upto) }
 {
-    let table = roll.table;
-    let code = table.code;
+    let code = roll.table.code;
     let stops = stops_by_byte(code);
-    let last = entries_for(upto as u32);
     let mut p = first;
     let mut j = from;
-    let mut e = entries_for(from as u32);
-    while e < last {
+    for e in entries_for(from as u32)..entries_for(upto as u32) {
         p = pass_ends(code, &stops, buf, p, e * 32 - j);
         j = e * 32;
         dir[e] = p as u32;
-        e += 1;
     }
 }
 

@@ -30,22 +30,18 @@ pub fn first_over(roll: Roll, buf: &[u8], from: usize, first: usize, room: usize
     requires { Sound roll buf.now × (from ≤ roll.n) × (first ≡ start_at (lengths_of roll buf.now) from) }
     ensures { result ≡ from + first_over roll.table.code (characters roll.table) room (drop from (text_of roll buf.now)) }
 {
-    let table = roll.table;
-    let code = table.code;
     let n = roll.n as usize;
     let mut left = room;
     let mut p = first;
-    let mut j = from;
-    while j < n {
-        let next = end_at(code, buf, p);
+    for j in from..n {
+        let next = end_at(roll.table.code, buf, p);
         if left < next - p {
             return j;
         }
         left -= next - p;
         p = next;
-        j += 1;
     }
-    j
+    n
 }
 
 // The new symbols are more than the old: the tail goes up, and the rest of the last byte is cleared.
@@ -143,15 +139,11 @@ pub fn replace(
     ensures bytes { buf.new ≡ bytes_after roll (edited (text_of roll buf.old) run.start run.end text.now) buf.old }
     ensures directory { dir.new ≡ directory_after roll (edited (text_of roll buf.old) run.start run.end text.now) dir.old }
 {
-    let table = roll.table;
-    let code = table.code;
-    let k = code.k;
     let h = roll.h as usize;
-    let n = roll.n as usize;
-    replace_symbols(k, lengths, words, text, taken, buf, h, run);
-    let count = run.start + text.len() + (n - run.end);
+    replace_symbols(roll.table.code.k, lengths, words, text, taken, buf, h, run);
+    let count = run.start + text.len() + (roll.n as usize - run.end);
     let after = Roll {
-        table,
+        table: roll.table,
         n: count as u32,
         h: (run.first + taken + (h - run.last)) as u32,
     };

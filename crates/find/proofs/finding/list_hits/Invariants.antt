@@ -1,11 +1,7 @@
-use mathlib.Core.Path.{◌≡◌}
-use mathlib.Core.List.{List}
-use Prim.Native.Nat.{ℕ, ◌+◌, ◌-◌, ◌≤◌}
-use lib.ListN.{length, drop}
+use Rattle.std.proofs.Common.{◌≡◌, ℕ, ◌≤◌, List, length}
 use Rattle.stopper.specs.declared.code.Code.{Code}
-use Rattle.texts.specs.Paper.Hits.{stands, listed}
+use Rattle.texts.specs.Paper.Hits.{listed}
 use Rattle.texts.specs.Helpers.Passing.{passing}
-use Rattle.reading.specs.Paper.Reading.{row_upto}
 use Rattle.sound.specs.Helpers.Ends.{end_from}
 use Rattle.find.specs.Helpers.Finding.{stands_behind}
 use Rattle.find.proofs.finding.list_hits.Given as goal
@@ -14,21 +10,12 @@ use Rattle.find.proofs.finding.list_hits.Given as goal
 abbrev pub found : Code → List ℕ → ℕ → List ℕ → ℕ → List ℕ
 found code buf h symbols i = passing (stands_behind code buf h symbols) i
 
-abbrev pub invariant-loop-j : goal.invariant-loop-j
-invariant-loop-j l =
-    (l.j ≤ length l.symbols) × (l.p + l.j ≤ l.h) × (stands l.symbols (drop l.p (row_upto l.code l.h l.buf)) ≡ stands (drop l.j l.symbols) (drop (l.p + l.j) (row_upto l.code l.h l.buf)))
-
-abbrev pub decreases-loop-j : goal.decreases-loop-j
-decreases-loop-j l = length l.symbols - l.j
+-- codeword i starts at symbol p, and the hits before it are counted and listed
+pub record Before (code : Code) (buf : List ℕ) (h : ℕ) (symbols old : List ℕ) (i p total : ℕ) (slice : List ℕ) : Type 0 where
+  pub starts : p ≡ end_from code buf 0 i
+  pub few : total ≤ i
+  pub count : total ≡ length (found code buf h symbols i)
+  pub list : slice ≡ listed (found code buf h symbols i) old
 
 abbrev pub invariant-loop-i : goal.invariant-loop-i
-invariant-loop-i l =
-    (l.i ≤ l.n)
-    × (l.p ≡ end_from l.code l.buf 0 l.i)
-    × (l.total ≡ length (found l.code l.buf l.h l.symbols l.i))
-    × (l.slice ≡ listed (found l.code l.buf l.h l.symbols l.i) l.initial.slice)
-    × (l.total ≤ l.i)
-    × (length l.slice ≡ length l.initial.slice)
-
-abbrev pub decreases-loop-i : goal.decreases-loop-i
-decreases-loop-i l = l.n - l.i
+invariant-loop-i l = Before l.roll.table.code l.buf l.roll.h l.symbols l.initial.slice l.i l.p l.total l.slice

@@ -1,18 +1,18 @@
 -- `sound::ends::pass_symbols` meets its contract: from symbol q on so many codewords are left.
-use native.Mathlib.Omega.{arith}
+use Rattle.std.proofs.Common.{◌∙◌, arith}
 use Rattle.stopper.specs.Laws.Table.{code_width}
 use Rattle.sound.specs.Laws.Stops.{passing_first, passing_last, passing_upto, passing_inside, passing_stopper, passing_continuer}
 use Rattle.sound.proofs.ends.pass_symbols.Goals as goal
-use Rattle.sound.proofs.ends.pass_symbols.Goals.{then-get-s, else-get-s}
+use Rattle.sound.proofs.ends.pass_symbols.Goals.{then-from-s, else-from-s}
 
 -- one symbol
 pub loop-left-preserved : goal.loop-left-preserved
 loop-left-preserved c =
-    let e = c.get.ensures in
-    let f = c.stoppers_at-s.ensures in
-    elim c.if-get-s.branch [
-      | then-get-s w ↦ rw w.left-is (passing_stopper c.loop-left.invariant c.loop-left-test.true (omega (arith, w.if-get-s.true, e, f)))
-      | else-get-s w ↦ rw w.left-is (passing_continuer c.loop-left.invariant c.loop-left-test.true (omega (arith, w.if-get-s.false, e, f)))
+    let y = c.from.ensures ∙ c.get.ensures in
+    let s = c.stoppers_at-s.ensures in
+    elim c.if-from-s.branch [
+      | then-from-s w ↦ rw w.left-is (passing_stopper c.loop-left.invariant c.loop-left-test.true (omega (arith, w.if-from-s.true)))
+      | else-from-s w ↦ rw w.left-is (passing_continuer c.loop-left.invariant c.loop-left-test.true (omega (arith, w.if-from-s.false)))
     ]
 
 pub get-requires : goal.get-requires

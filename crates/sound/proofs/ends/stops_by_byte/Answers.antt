@@ -1,34 +1,33 @@
 -- `sound::ends::stops_by_byte` meets its contract: as the table has them, or counted.
-use mathlib.Core.Path.{◌≡◌, sym, ap, ◌∙◌}
+use Rattle.std.proofs.Common.{◌≡◌, sym, ap, ◌∙◌, ℕ, ◌^◌, ◌<◌, [], ◌∷◌, T, arith}
 use mathlib.Core.Logic.{⊎_elim}
-use mathlib.Core.List.{[], ◌∷◌}
-use Prim.Native.Nat.{ℕ, ◌^◌, ◌<◌}
-use native.Mathlib.Omega.{arith}
 use Rattle.ground.specs.Paper.Rows.{tab}
+use Rattle.stopper.specs.Paper.Table.{stoppers, good_code}
 use Rattle.stopper.specs.Laws.Table.{code_width, code_good}
+use Rattle.stopper.specs.declared.code.Code.{Code}
 use Rattle.symbols.specs.Paper.Symbols.{symbols_of}
 use Rattle.sound.specs.Helpers.Ends.{stops, stops_by_byte}
 use Rattle.sound.specs.Laws.Stops.{stops_table}
 use Rattle.sound.proofs.ends.stops_by_byte.Goals as goal
 
--- s is a stopper count of width 2
-bounds : (c : goal.After-stoppers_at) → (0 < c.stoppers_at.result) × (c.stoppers_at.result < 4)
-bounds c =
-    let g = code_good c.args.code c.requires in
-    (omega (arith, c.stoppers_at.ensures, g.low 0), omega (arith, c.stoppers_at.ensures, g.high 0, ap (λ (k : ℕ). 2 ^ k) c.if-code-eq2.true))
+-- s, the stoppers of a code of width 2
+module _ (code : Code) (good : T (good_code code)) (two : code.k ≡ 2) {s : ℕ} (is : s ≡ stoppers code 0) where
+  bounds : (0 < s) × (s < 4)
+  bounds =
+      let g = code_good code good in
+      (omega (arith, g.low 0), omega (arith, g.high 0, ap (λ (k : ℕ). 2 ^ k) two))
 
-pub returns-then-code-eq2 : goal.returns-then-code-eq2
-returns-then-code-eq2 c =
-    let code = c.args.code in
-    let e : tab (λ b. stops (λ _. c.stoppers_at.result) 0 (symbols_of 2 (b ∷ []))) 0 256 ≡ stops_by_byte code
-    = rw (sym c.if-code-eq2.true, c.stoppers_at.ensures) (stops_table code) in
-    c.stops_listed.ensures ∙ e
+  listed : tab (λ b. stops (λ _. s) 0 (symbols_of 2 (b ∷ []))) 0 256 ≡ stops_by_byte code
+  listed = rw (sym two, is) (stops_table code)
 
 pub overflow_cast-stoppers_at : goal.overflow_cast-stoppers_at
-overflow_cast-stoppers_at c = omega (arith, bounds c)
+overflow_cast-stoppers_at c = omega (arith, bounds c.args.code c.requires c.if-code-eq2.true c.stoppers_at.ensures)
 
 pub stops_listed-requires : goal.stops_listed-requires
-stops_listed-requires c = bounds c
+stops_listed-requires c = bounds c.args.code c.requires c.if-code-eq2.true c.stoppers_at.ensures
+
+pub returns-then-code-eq2 : goal.returns-then-code-eq2
+returns-then-code-eq2 c = c.stops_listed.ensures ∙ listed c.args.code c.requires c.if-code-eq2.true c.stoppers_at.ensures
 
 pub stops_counted-requires : goal.stops_counted-requires
 stops_counted-requires c = (c.requires, ⊎_elim (λ e. absurd (c.if-code-eq2.false e)) (λ e. e) (code_width c.args.code c.requires))

@@ -1,33 +1,24 @@
--- `sound::ends::stops_listed` meets its contract: the bytes below b are copied.
-use mathlib.Core.Path.{ap, ◌∙◌}
-use mathlib.Core.List.{List}
-use Prim.Native.Nat.{ℕ, ◌+◌, ◌-◌, ◌*◌}
-use native.Mathlib.Omega.{arith}
-use lib.ListN.{get_or, set}
-use Rattle.ground.specs.Paper.Rows.{zeros}
-use Rattle.sound.specs.Laws.Stops.{listed_at, filled_none, filled_more, filled_all}
-use Rattle.sound.proofs.ends.stops_listed.Invariants.{entry}
+-- `sound::ends::stops_listed` meets its contract: the part of the table for s is copied.
+use Rattle.std.proofs.Common.{◌≡◌, ℕ, ◌+◌, ◌-◌, ◌*◌, ◌<◌, List, [], ◌∷◌, length, get_or, take, drop, ap, ◌∙◌, arith}
+use lib.Seq.{get_or-take, get_or-drop}
+use Rattle.ground.specs.Paper.Rows.{tab}
+use Rattle.ground.specs.Laws.Rows.{tab_ext}
+use Rattle.symbols.specs.Paper.Symbols.{symbols_of}
+use Rattle.sound.specs.Helpers.Ends.{stops, stops_of_two}
+use Rattle.sound.specs.Laws.Stops.{listed_at}
 use Rattle.sound.proofs.ends.stops_listed.Goals as goal
 
-pub loop-b-init : goal.loop-b-init
-unfolding zeros
-loop-b-init c = (omega arith, filled_none (entry c.args.s) 256)
-
-pub loop-b-preserved : goal.loop-b-preserved
-loop-b-preserved c =
-    let s = c.args.s in
-    let b = c.loop-b.b in
-    let v = get_or c.stops_of_two-table.result (256 * (s - 1) + b) 0 in (
-      omega arith,
-      ap (λ (r : List ℕ). set r b v) c.loop-b.invariant.1
-          ∙ filled_more (entry s) 256 b v c.loop-b-test.true
-          (ap (λ (r : List ℕ). get_or r (256 * (s - 1) + b) 0) c.stops_of_two-table.ensures
-          ∙ listed_at s b c.loop-b-test.true c.requires.0 c.requires.1),
-    )
+part : (s n : ℕ) (row : List ℕ) → 0 < s → s < 4 → n ≡ 256 → length row ≡ 256 → row ≡ take n (drop (256 * (s - 1)) stops_of_two)
+    → row ≡ tab (λ b. stops (λ _. s) 0 (symbols_of 2 (b ∷ []))) 0 256
+part s n row low high e long is =
+    tab_ext (λ b. stops (λ _. s) 0 (symbols_of 2 (b ∷ []))) 256 row long
+    (λ b h.
+    ap (λ (l : List ℕ). get_or l b 0) is
+    ∙ get_or-take n (drop (256 * (s - 1)) stops_of_two) b 0 (omega arith)
+    ∙ get_or-drop (256 * (s - 1)) stops_of_two b 0
+    ∙ listed_at s b h low high)
 
 pub returns : goal.returns
 returns c =
-    c.loop-b.invariant.1 ∙ filled_all (entry c.args.s) 256 c.loop-b.b c.loop-b-test.false
-
-pub stops_of_two-table-requires : goal.stops_of_two-table-requires
-stops_of_two-table-requires c = tt
+    part c.args.s (256 * (c.from.result - 1) + 256 - 256 * (c.from.result - 1)) c.copy_from_slice.new.self c.requires.0 c.requires.1 (omega arith) c.copy_from_slice.ensures.len
+    (rw (← c.from.ensures, ← c.stops_of_two-table.ensures) c.copy_from_slice.ensures.after)

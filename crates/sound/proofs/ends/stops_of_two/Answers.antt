@@ -1,5 +1,5 @@
 -- `sound::ends::stops_of_two` meets its contract: all its numbers are computed.
-use mathlib.Core.Path.{refl}
+use Rattle.std.proofs.Common.{refl}
 use Rattle.ground.specs.Paper.Rows.{tab}
 use Rattle.symbols.specs.Paper.Symbols.{per, shift, symbol_at, symbols_of}
 use Rattle.sound.specs.Helpers.Ends.{stops, stops_of_two}

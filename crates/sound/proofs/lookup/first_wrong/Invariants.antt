@@ -1,16 +1,14 @@
-use mathlib.Core.Path.{◌≡◌}
-use Prim.Native.Nat.{◌-◌, ◌*◌, ◌≤◌}
-use lib.ListN.{take}
+use Rattle.std.proofs.Common.{◌≡◌, ◌*◌, ◌≤◌, ℕ, List, take}
+use Rattle.stopper.specs.declared.code.Code.{Code}
 use Rattle.sound.specs.Helpers.Ends.{end_from}
 use Rattle.sound.specs.Laws.Directory.{by_stops}
 use Rattle.sound.proofs.lookup.first_wrong.Given as goal
 
-abbrev pub invariant-loop-e : goal.invariant-loop-e
-invariant-loop-e l =
-    (l.e ≤ l.last)
-    × (l.j ≤ l.e * 32)
-    × (l.p ≡ end_from l.code l.buf 0 l.j)
-    × (take l.e l.dir ≡ take l.e (by_stops l.code l.buf l.last))
+-- before entry e: character j starts at symbol p, and the entries so far are right
+pub record Before (code : Code) (buf dir : List ℕ) (last e j p : ℕ) : Type 0 where
+  pub ordered : j ≤ e * 32
+  pub starts : p ≡ end_from code buf 0 j
+  pub agree : take e dir ≡ take e (by_stops code buf last)
 
-abbrev pub decreases-loop-e : goal.decreases-loop-e
-decreases-loop-e l = l.last - l.e
+abbrev pub invariant-loop-e : goal.invariant-loop-e
+invariant-loop-e l = Before l.code l.buf l.dir l.last l.e l.j l.p

@@ -1,6 +1,5 @@
 -- `store::mending::make_sound` meets its contract.
-use mathlib.Core.Path.{refl, ◌∙◌}
-use native.Mathlib.Omega.{arith}
+use Rattle.std.proofs.Common.{refl, ◌∙◌, arith}
 use Rattle.ground.specs.Laws.Runs.{laid_whole}
 use Rattle.texts.specs.Paper.Directory.{entries, sum, start_at, directory_of}
 use Rattle.sound.specs.Paper.Lengths.{lengths_of}

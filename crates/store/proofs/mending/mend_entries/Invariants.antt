@@ -1,18 +1,16 @@
-use mathlib.Core.Path.{◌≡◌}
-use Prim.Native.Nat.{◌-◌, ◌*◌, ◌≤◌}
+use Rattle.std.proofs.Common.{◌≡◌, ◌*◌, ◌≤◌, ℕ, List}
 use Rattle.ground.specs.Helpers.Moved.{laid}
+use Rattle.stopper.specs.declared.code.Code.{Code}
 use Rattle.texts.specs.Paper.Directory.{entries}
 use Rattle.sound.specs.Helpers.Ends.{end_from}
 use Rattle.sound.specs.Laws.Directory.{by_stops}
 use Rattle.store.proofs.mending.mend_entries.Given as goal
 
-abbrev pub invariant-loop-e : goal.invariant-loop-e
-invariant-loop-e l =
-    (entries l.from ≤ l.e)
-    × (l.e ≤ l.last)
-    × (l.j ≤ l.e * 32)
-    × (l.p ≡ end_from l.code l.buf 0 l.j)
-    × (l.dir ≡ laid l.initial.dir (by_stops l.code l.buf l.last) (entries l.from) l.e)
+-- before entry e: character j starts at symbol p, and the entries from that of `from` up to e are written
+pub record Before (code : Code) (buf old : List ℕ) (from upto e j p : ℕ) (dir : List ℕ) : Type 0 where
+  pub ordered : j ≤ e * 32
+  pub starts : p ≡ end_from code buf 0 j
+  pub written : dir ≡ laid old (by_stops code buf (entries upto)) (entries from) e
 
-abbrev pub decreases-loop-e : goal.decreases-loop-e
-decreases-loop-e l = l.last - l.e
+abbrev pub invariant-loop-e : goal.invariant-loop-e
+invariant-loop-e l = Before l.code l.buf l.initial.dir l.from l.upto l.e l.j l.p l.dir

@@ -1,5 +1,5 @@
 -- `store::replace::changed_upto` meets its contract.
-use borrow.Author.Tests.{eq-eqb, ne_eqb}
+use Rattle.std.proofs.Common.{eq-eqb, ne_eqb}
 use Rattle.store.specs.Helpers.Replacing.{changed_upto}
 use Rattle.store.proofs.replace.changed_upto.Goals as goal
 

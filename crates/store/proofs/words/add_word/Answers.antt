@@ -1,40 +1,51 @@
 -- `store::words::add_word` meets its contract.
-use mathlib.Core.Path.{◌≡◌, sym, ◌∙◌}
-use Prim.Native.Nat.{◌*◌, ◌^◌, ◌<◌}
-use native.Mathlib.Omega.{arith}
-use lib.ListN.{length, get_or}
+use Rattle.std.proofs.Common.{◌≡◌, sym, ap, ◌∙◌, ℕ, ◌+◌, ◌-◌, ◌*◌, ◌^◌, ◌≤◌, ◌<◌, List, length, take, drop, get_or, arith}
+use Rattle.ground.specs.Laws.Rows.{get_or_below}
+use Rattle.stopper.specs.Paper.Table.{longest}
 use Rattle.symbols.specs.Helpers.Gathered.{digits}
-use Rattle.store.specs.Helpers.Words.{word_at}
-use Rattle.store.specs.Laws.Words.{word_length}
+use Rattle.store.specs.Helpers.Words.{word_at, WordsLaid, Numbers}
+use Rattle.store.specs.Laws.Words.{lent, word_length}
 use Rattle.store.proofs.words.add_word.Goals as goal
-use Rattle.store.proofs.words.add_word.Lts as Places
-use Rattle.store.proofs.words.add_word.Reads as Clauses
-use Rattle.store.proofs.words.add_word.Tie as tie
 
--- what is known at these places
-abbrev After-wide-long : Type 0
-After-wide-long = Places.After-wide tie.the-claims Clauses.Pre Clauses.Post
+-- the length of character x, read at index b
+module _ {k : ℕ} {lengths words : List ℕ} (laid : WordsLaid k lengths words) {x b long : ℕ} (small : x < 256) (at : b ≡ x) (is : long ≡ get_or lengths b 0) where
+  length_is : length (word_at lengths words x) ≡ long
+  length_is = word_length laid x small ∙ sym (is ∙ ap (λ (i : ℕ). get_or lengths i 0) at)
 
-abbrev Then-long-lt-JOINED : Type 0
-Then-long-lt-JOINED = Places.Then1 tie.the-claims Clauses.Pre Clauses.Post
+  -- a number's digits are the codeword
+  number_small : {numbers : List ℕ} → Numbers k lengths words numbers → long < 9 → get_or numbers b 0 < 2 ^ (k * long)
+  number_small p few = rw at (rw length_is at (p.joins x small (omega (arith, word_length laid x small, length_is))).small)
 
--- the length read is the codeword's
-long : (c : After-wide-long) → length (word_at c.args.lengths.now c.args.words.now c.args.b) ≡ c.wide-long.result
-long c = word_length c.requires.0 c.args.b c.requires.2 ∙ sym c.wide-long.ensures.0
+  number_is : {numbers : List ℕ} → Numbers k lengths words numbers → long < 9 → digits (2 ^ k) long (get_or numbers b 0) ≡ word_at lengths words x
+  number_is p few = rw at (rw length_is at (p.joins x small (omega (arith, word_length laid x small, length_is))).symbols)
 
--- a number's digits are the codeword
-spelt : (c : Then-long-lt-JOINED)
-    → (get_or c.args.numbers.now c.args.b 0 < 2 ^ (c.args.k * c.wide-long.result))
-    × (digits (2 ^ c.args.k) c.wide-long.result (get_or c.args.numbers.now c.args.b 0)
-    ≡ word_at c.args.lengths.now c.args.words.now c.args.b)
-spelt c =
-    let j = c.requires.1.joins c.args.b c.requires.2 (omega (arith, c.wide-long.ensures.0)) in
-    (rw (long c.before) at j.small, rw (long c.before) at j.symbols)
+  inside : b * longest + long ≤ length words
+  inside = omega (arith, get_or_below laid.few (omega arith) b, laid.places)
+
+  lent_is : take (b * longest + long - b * longest) (drop (b * longest) words) ≡ word_at lengths words x
+  lent_is = lent lengths words b is ∙ ap (word_at lengths words) at
 
 pub add-requires : goal.add-requires
 add-requires c =
-    (c.requires.0.width, rw (long c.before.before.before.before) at c.requires.3, omega (arith, c.if-long-lt-JOINED.true), (spelt c.before.before.before).0)
+    let laid = c.requires.0 in (
+      laid.width,
+      rw (length_is laid c.ranges.b.fits c.from-b.ensures c.from-long.ensures) at c.requires.2,
+      omega arith,
+      number_small laid c.ranges.b.fits c.from-b.ensures c.from-long.ensures (rw c.in-Some.is at c.requires.1) c.if-long-lt-JOINED.true,
+    )
 
-pub returns-then-long-lt-JOINED : goal.returns-then-long-lt-JOINED
-returns-then-long-lt-JOINED c =
-    rw (spelt c.before.before.before.before.before.before).1 at c.add.ensures
+pub returns-in-Some : goal.returns-in-Some
+returns-in-Some c =
+    rw (number_is c.requires.0 c.ranges.b.fits c.from-b.ensures c.from-long.ensures (rw c.in-Some.is at c.requires.1) c.if-long-lt-JOINED.true) at c.add.ensures
+
+pub slice_bounds-add_each-end : goal.slice_bounds-add_each-end
+slice_bounds-add_each-end c = omega (arith, inside c.requires.0 c.ranges.b.fits c.from-b.ensures c.from-long.ensures)
+
+pub add_each-requires : goal.add_each-requires
+add_each-requires c =
+    rw (lent_is c.requires.0 c.ranges.b.fits c.from-b.ensures c.from-long.ensures)
+    (c.requires.0.width, c.requires.2, c.requires.0.symbols c.args.b c.ranges.b.fits)
+
+pub returns-in_default : goal.returns-in_default
+returns-in_default c =
+    rw (lent_is c.requires.0 c.ranges.b.fits c.from-b.ensures c.from-long.ensures) at c.add_each.ensures

@@ -1,33 +1,52 @@
--- `store::words::first_foreign` meets its contract.
-use mathlib.Core.Path.{◌≡◌, refl, ap}
-use mathlib.Core.Logic.{◌≢◌}
-use Prim.Native.Nat.{ℕ}
-use native.Mathlib.Numerals.{add-one}
-use native.Mathlib.Omega.{arith}
-use borrow.Author.Tests.{eq-eqb, ne_eqb}
-use lib.ListN.{length, drop, get_or}
+-- `store::words::first_foreign` meets its contract: the position in the rest of the text, or the rest's length.
+use Rattle.std.proofs.Common.{◌≡◌, sym, ap, ◌∙◌, ℕ, ◌+◌, ◌-◌, List, Bool, cond, ltb, length, take, drop, length-drop, one-add, lt-ltb, le-ltb, None, Some, arith, rules, tests}
+use Rattle.std.proofs.Math.Decide.{dec_lt}
+use Rattle.std.proofs.lemmas.Iterator.{YieldsList-from_slice}
+use Rattle.std.proofs.lemmas.Iterator.Search.{position_from_yields_List}
+use Rattle.std.proofs.lemmas.List.Recursion.{is_position_or_len}
+use Rattle.std.specs.List.{position}
+use lib.Seq.{take_all}
 use Rattle.ground.specs.Paper.Rows.{first_where}
-use Rattle.ground.specs.Laws.Rows.{first_at, first_past, first_end}
+use Rattle.ground.specs.Laws.Rows.{first_none, first_within}
 use Rattle.store.specs.Helpers.Words.{absent}
 use Rattle.store.proofs.words.first_foreign.Goals as goal
 
-pub returns-then-lengths-wide-eq0 : goal.returns-then-lengths-wide-eq0
-returns-then-lengths-wide-eq0 c =
-    let a = c.args in
-    let h : get_or a.lengths.now (get_or a.text.now c.loop-i.i 0) 0 ≡ 0 = rw (← c.wide.ensures.0) c.if-lengths-wide-eq0.true in
-    omega (arith, first_at (absent a.lengths.now) a.text.now c.loop-i.i (omega arith) (eq-eqb _ _ h), c.loop-i.invariant.1)
+rest : (n : ℕ) (row : List ℕ) → take (length row - n) (drop n row) ≡ drop n row
+rest n row = take_all (length row - n) (drop n row) (omega (arith, length-drop n row))
 
-pub loop-i-preserved : goal.loop-i-preserved
-loop-i-preserved c =
-    let a = c.args in
-    let n : get_or a.lengths.now (get_or a.text.now c.loop-i.i 0) 0 ≢ 0 = rw (← c.wide.ensures.0) c.if-lengths-wide-eq0.false in
-    rw (add-one c.loop-i.i) (omega arith, omega (arith, first_past (absent a.lengths.now) a.text.now c.loop-i.i (omega arith) (ne_eqb _ _ n), c.loop-i.invariant.1))
+module _ (picks : ℕ → Bool) (row : List ℕ) where
+  by_place : position picks row ≡ cond (ltb (first_where picks row) (length row)) (Some (first_where picks row)) None
+  unfolding first_where
+  by_place =
+      ap (λ (i : ℕ). cond (ltb i (length row)) (Some i) None)
+      (sym (is_position_or_len (first_where picks) picks (first_none picks) (λ x xs. ap (cond (picks x) 0) (sym (one-add (first_where picks xs)))) row))
 
-pub returns : goal.returns
-returns c =
-    let a = c.args in
-    let e : c.loop-i.i ≡ length a.text.now = omega arith in
-    omega (arith, ap (λ (i : ℕ). first_where (absent a.lengths.now) (drop i a.text.now)) e, first_end (absent a.lengths.now) a.text.now, c.loop-i.invariant.1)
+  place_some : {i : ℕ} → position picks row ≡ Some i → i ≡ first_where picks row
+  place_some {i} is =
+      elim (dec_lt (first_where picks row) (length row)) [
+        | yes h ↦ let e : Some i ≡ Some (first_where picks row) = sym is ∙ by_place ∙ rw (lt-ltb (first_where picks row) (length row) h) in cc
+        | no h ↦ let e : Some i ≡ None = sym is ∙ by_place ∙ rw (le-ltb (first_where picks row) (length row) (omega arith)) in cc
+      ]
 
-pub loop-i-init : goal.loop-i-init
-loop-i-init c = (omega arith, refl)
+  place_none : position picks row ≡ None → length row ≡ first_where picks row
+  place_none is =
+      elim (dec_lt (first_where picks row) (length row)) [
+        | yes h ↦ let e : None ≡ Some (first_where picks row) = sym is ∙ by_place ∙ rw (lt-ltb (first_where picks row) (length row) h) in cc
+        | no h ↦ omega (arith, first_within picks row)
+      ]
+
+pub returns-in-Some : goal.returns-in-Some
+returns-in-Some c =
+    let picks : ℕ → Bool = absent c.args.lengths.now in
+    let e : c.position.result ≡ position picks (drop c.args.from c.args.text.now)
+    = position_from_yields_List picks _ _ c.position.result c.position.ensures.ran (YieldsList-from_slice _ c.iter.ensures.rest) (λ x b q k. search (rules, tests))
+    ∙ ap (position picks) (rest c.args.from c.args.text.now) in
+    ap (λ (i : ℕ). c.args.from + i) (place_some picks (drop c.args.from c.args.text.now) (sym e ∙ c.in-Some.is))
+
+pub returns-in-None : goal.returns-in-None
+returns-in-None c =
+    let picks : ℕ → Bool = absent c.args.lengths.now in
+    let e : c.position.result ≡ position picks (drop c.args.from c.args.text.now)
+    = position_from_yields_List picks _ _ c.position.result c.position.ensures.ran (YieldsList-from_slice _ c.iter.ensures.rest) (λ x b q k. search (rules, tests))
+    ∙ ap (position picks) (rest c.args.from c.args.text.now) in
+    omega (arith, c.requires.1, length-drop c.args.from c.args.text.now, place_none picks (drop c.args.from c.args.text.now) (sym e ∙ c.in-None.is))

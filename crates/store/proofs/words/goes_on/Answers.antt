@@ -1,5 +1,5 @@
 -- `store::words::goes_on` meets its contract.
-use borrow.Author.Tests.{lt-ltb, le-ltb}
+use Rattle.std.proofs.Common.{lt-ltb, le-ltb}
 use Rattle.store.specs.Helpers.Words.{goes_on}
 use Rattle.store.proofs.words.goes_on.Goals as goal
 

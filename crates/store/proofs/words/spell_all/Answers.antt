@@ -1,18 +1,8 @@
--- `store::words::spell_all` meets its contract: the lengths and words are those of the characters from place i on.
-use mathlib.Core.Path.{◌≡◌, refl, sym, ap, subst, ◌∙◌}
-use mathlib.Core.Logic.{◌≢◌}
-use mathlib.Core.Bool.{true, false}
-use mathlib.Core.List.{List, ◌++◌, append_assoc}
-use Prim.Native.Nat.{ℕ, zero, suc, ◌+◌, ◌-◌, ◌*◌, ◌≤◌, ◌<◌}
-use native.Mathlib.Nat.{zero-add, add-zero}
-use native.Mathlib.Decide.{ℕ_discrete, dec_lt}
-use native.Mathlib.Omega.{arith}
-use borrow.Author.Rules.{rules}
+-- `store::words::spell_all` meets its contract: the characters from place i on are spelled.
+use Rattle.std.proofs.Common.{◌≡◌, ◌≢◌, refl, sym, ap, subst, ◌∙◌, true, false, ℕ, zero, suc, ◌+◌, ◌-◌, ◌*◌, ◌≤◌, ◌<◌, List, ◌++◌, T, append_assoc, length, take, drop, get_or, set, length-drop, get_or-take, zero-add, add-zero, eq-eqb, ne_eqb, ltb-true, arith, rules}
+use Rattle.std.proofs.Math.Decide.{ℕ_discrete, dec_lt}
 use borrow.Rule.Slice.PartMut.{mid_len, Post-is}
-use borrow.Author.Tests.{eq-eqb, ne_eqb, ltb-true}
-use lib.Dec.{T}
-use lib.ListN.{length, take, drop, get_or, set, length-drop}
-use lib.Seq.{length-take-le, get_or-take, take_at}
+use lib.Seq.{length-take-le, take_at}
 use Rattle.ground.specs.Paper.Rows.{zeros}
 use Rattle.ground.specs.Paper.Runs.{over}
 use Rattle.ground.specs.Laws.Rows.{length_zeros, length_tab, tab_at, tab_ext, tab_set, tab_zeros}
@@ -24,16 +14,6 @@ use Rattle.stopper.specs.declared.code.Code.{Code}
 use Rattle.store.specs.Helpers.Words.{length_for, Spelt}
 use Rattle.store.proofs.words.spell_all.Invariants.{rank_from, length_from, From}
 use Rattle.store.proofs.words.spell_all.Goals as goal
-use Rattle.store.proofs.words.spell_all.Lts as Places
-use Rattle.store.proofs.words.spell_all.Reads as Clauses
-use Rattle.store.proofs.words.spell_all.Tie as tie
-
--- what is known at these places
-abbrev Start : Type 0
-Start = Places.Start tie.the-claims Clauses.Pre Clauses.Post goal.the-invariant-loop-i goal.the-decreases-loop-i tie.handed_clauses
-
-abbrev After-wide-b : Type 0
-After-wide-b = Places.After-wide tie.the-claims Clauses.Pre Clauses.Post goal.the-invariant-loop-i goal.the-decreases-loop-i tie.handed_clauses
 
 start : (c : Code) (places lengths words : List ℕ) (n : ℕ) → length places ≡ 256 → n ≤ 256 → lengths ≡ zeros 256 → length words ≡ 256 * longest
     → From c (take n places) n lengths words
@@ -121,55 +101,40 @@ module _ {c : Code} (g : T (good_code c)) {l : List ℕ} {j : ℕ} {lengths word
           let f : has x (drop (suc j) l) ≡ true = sym (has_other x q) ∙ e in
           rw (rank_other x q) (word_other x q f ∙ s.word x k f)
 
-places_long : (s : Start) → length s.args.places ≡ 256
-places_long s = search rules
-
-row_long : (s : Start) → length (take s.args.sigma s.args.places) ≡ s.args.sigma
-row_long s = length-take-le s.args.sigma s.args.places (omega (arith, places_long s))
+-- the part of words that is lent for character b
+part_long : (b : ℕ) (words : List ℕ) → b < 256 → length words ≡ 256 * longest → length (take (b * longest + longest - b * longest) (drop (b * longest) words)) ≡ longest
+part_long b words h long = mid_len (b * longest) (b * longest + longest) words (omega arith) ∙ omega arith
 
 pub loop-i-init : goal.loop-i-init
 loop-i-init c =
-    start c.args.code c.args.places _ _ c.args.sigma (places_long c.before.before.before) c.requires.1 c.requires.2 c.requires.3
-
--- the part of the character in hand
-part_long : (w : After-wide-b) → let at : ℕ = w.wide-b.result * longest in length (take (at + longest - at) (drop at w.loop-i.words)) ≡ longest
-part_long w =
-    let at : ℕ = w.wide-b.result * longest in
-    mid_len at (at + longest) w.loop-i.words (omega arith) ∙ omega arith
+    rw c.from-i.ensures (start c.args.code c.args.places _ _ c.args.sigma (search rules) c.requires.1 c.requires.2 c.requires.3)
 
 pub spell_word-long-requires : goal.spell_word-long-requires
 spell_word-long-requires c =
-    (c.requires.0, omega arith, omega (arith, part_long c.before, length_small c.args.code c.requires.0 (c.loop-i.i - 1) (omega arith)))
+    let h : c.from-b.result < 256 = omega (arith, c.from-b.ensures) in
+    (c.requires.0, omega arith, omega (arith, part_long c.from-b.result c.loop-i.words h c.loop-i.invariant.long, length_small c.args.code c.requires.0 (c.loop-i.i - 1) (omega arith)))
 
 pub overflow_cast-lengths : goal.overflow_cast-lengths
 overflow_cast-lengths c =
     omega (arith, c.spell_word-long.ensures.length, length_small c.args.code c.requires.0 (c.loop-i.i - 1) (omega arith))
 
 pub bounds-lengths-b : goal.bounds-lengths-b
-bounds-lengths-b c =
-    omega (arith, c.wide-b.ensures.1, ap length c.loop-i.invariant.sizes ∙ length_tab _ 0 256)
+bounds-lengths-b c = omega (arith, c.from-b.ensures, ap length c.requires.2, length_zeros 256)
 
 pub loop-i-preserved : goal.loop-i-preserved
 loop-i-preserved c =
-    let a = c.args in
-    let at : ℕ = c.wide-b.result * longest in
-    let row = take a.sigma a.places in
+    let b = c.from-b.result in
+    let at : ℕ = b * longest in
+    let h : b < 256 = omega (arith, c.from-b.ensures) in
     down c.requires.0
-    (subst (λ (i : ℕ). From a.code row i c.loop-i.lengths c.loop-i.words) {y = suc (c.loop-i.i - 1)} (omega arith) c.loop-i.invariant)
-    (get_or-take a.sigma a.places (c.loop-i.i - 1) 0 (omega (arith, row_long c.before.before.before.before.before.before.before.before.before.before)) ∙ sym c.wide-b.ensures.0)
-    c.wide-b.ensures.1
+    (subst (λ (i : ℕ). From c.args.code (take c.args.sigma c.args.places) i c.loop-i.lengths c.loop-i.words) {y = suc (c.loop-i.i - 1)} (omega arith) c.loop-i.invariant)
+    (get_or-take c.args.sigma c.args.places (c.loop-i.i - 1) 0 (omega (arith, c.from-i.ensures)) ∙ sym c.from-b.ensures)
+    h
     c.spell_word-long.ensures.length
     _
     (ap (λ (r : List ℕ). take at c.loop-i.words ++ (c.spell_word-long.new.out ++ r)) (Post-is at (at + longest) c.loop-i.words (omega arith)))
-    (c.spell_word-long.auto.out ∙ part_long c.before.before.before.before.before)
+    (c.spell_word-long.auto.out ∙ part_long b c.loop-i.words h c.loop-i.invariant.long)
     c.spell_word-long.ensures.symbols
-
-pub shape_of-lengths : goal.shape_of-lengths
-shape_of-lengths c =
-    ap length c.loop-i.invariant.sizes ∙ length_tab _ 0 256 ∙ sym (ap length c.requires.2 ∙ length_zeros 256)
-
-pub shape_of-words : goal.shape_of-words
-shape_of-words c = c.loop-i.invariant.long ∙ sym c.requires.3
 
 pub returns : goal.returns
 returns c = whole c.loop-i.invariant c.loop-i-test.false

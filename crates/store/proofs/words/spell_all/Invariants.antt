@@ -1,8 +1,4 @@
-use mathlib.Core.Path.{◌≡◌}
-use mathlib.Core.Bool.{true, cond}
-use mathlib.Core.List.{List}
-use Prim.Native.Nat.{ℕ, ◌+◌, ◌*◌, ◌≤◌, ◌<◌}
-use lib.ListN.{length, take, drop}
+use Rattle.std.proofs.Common.{◌≡◌, true, cond, ℕ, ◌+◌, ◌*◌, ◌≤◌, ◌<◌, List, length, take, drop}
 use Rattle.ground.specs.Paper.Rows.{tab}
 use Rattle.stopper.specs.Paper.Table.{has, rank_in, word_of, length_of, longest}
 use Rattle.stopper.specs.declared.code.Code.{Code}
@@ -24,6 +20,3 @@ pub record From (c : Code) (l : List ℕ) (i : ℕ) (lengths words : List ℕ) :
 
 abbrev pub invariant-loop-i : goal.invariant-loop-i
 invariant-loop-i l = From l.code (take l.sigma l.places) l.i l.lengths l.words
-
-abbrev pub decreases-loop-i : goal.decreases-loop-i
-decreases-loop-i l = l.i
