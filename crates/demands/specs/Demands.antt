@@ -12,7 +12,7 @@ use Rattle.ground.specs.Paper.Rows.{zeros}
 use Rattle.ground.specs.Paper.Runs.{run}
 use Rattle.ground.specs.Helpers.Below.{Below}
 use Rattle.ground.specs.Paper.Answers.{number_of, value_of}
-use Rattle.ground.specs.Laws.Answers.{says_as, says_one, accepted_ok, ok_accepted, err_refused}
+use Rattle.ground.specs.Laws.Answers.{says_one, accepted_ok, ok_accepted, err_refused}
 use Rattle.ground.specs.Laws.Refusals.{refused_keeps, accepted_leaves, accepted_none, accepted_parts, Refuses, refused_row}
 use Rattle.ground.specs.Laws.Rows.{tab_at}
 use Rattle.ground.specs.Laws.Tests.{true_yes}

@@ -1,6 +1,6 @@
 -- What an accepted edit leaves, by the operations.
 use Rattle.std.specs.Prelude.{◌≡◌, refl, List, ◌++◌, ℕ, ◌≤◌, T, length, take, drop, Result, Ok}
-use Rattle.std.proofs.Common.{sym, ap, ap₂, subst, ◌∙◌}
+use Rattle.std.proofs.Common.{sym, ap, subst, ◌∙◌}
 use Rattle.ground.specs.Paper.Refusals.{accepted}
 use Rattle.ground.specs.Paper.Answers.{outcome_of}
 use Rattle.ground.specs.Laws.Answers.{says_one, accepted_ok, ok_accepted}
