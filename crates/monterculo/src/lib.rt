@@ -7,27 +7,71 @@
 
 pub mod taken;
 
-ghost use Rattle.std.specs.Prelude.{◌≡◌, length};
+ghost use Rattle.std.specs.Prelude.{◌≡◌, [], length};
 ghost use Rattle.ground.specs.Paper.Refusals.{accepted, ◌then◌};
-ghost use Rattle.stopper.specs.Paper.Operations.{codeword_says, codeword_given, character_says};
-ghost use Rattle.choosing.specs.Paper.Operations.{count_says, count_leaves, choose_says, choose_table, choose_total};
+ghost use Rattle.stopper.specs.Paper.Operations.{codeword_for, codeword_says, codeword_given, character_says};
+ghost use Rattle.choosing.specs.Paper.Operations.{count_says, count_leaves, no_table, choose_says, choose_table, choose_total};
 ghost use Rattle.roll.specs.Paper.Operations.{pack_says, pack_roll, pack_leaves, check_says, unpack_says, unpack_leaves, make_says, make_leaves, read_says, search_says, search_leaves, edit_says, edit_roll, edit_leaves, edit_directory};
-ghost use Rattle.radio.specs.Paper.Operations.{start_says, start_searcher, feed_says, feed_hits, feed_searcher, feed_leaves, finish_says};
-ghost use Rattle.frames.specs.Paper.Operations.{write_says, write_leaves, first_says, first_roll, later_says, later_leaves, frames_says, frames_roll, frames_leaves};
+ghost use Rattle.radio.specs.Paper.Operations.{searcher_for, start_says, start_searcher, feed_says, feed_hits, feed_searcher, feed_leaves, finish_says};
+ghost use Rattle.frames.specs.Paper.Operations.{write_says, write_leaves, no_record, first_says, first_roll, later_says, later_leaves, frames_says, frames_roll, frames_leaves};
 ghost use Rattle.monterculo.specs.Paper.Taken.{told};
 
+use judge::judging::judge_of;
 use radio::records::Searcher;
 use sound::records::Roll;
+use stopper::code::{LONGEST, even_code};
 use stopper::codeword_of::Codeword;
 use stopper::table::Table;
-use taken::{Chosen, Coded, Fed, Rolled, Started, Told, done, read, totalled};
+use taken::{Chosen, Coded, Fed, Rolled, Started, Told};
+use texts::pattern::MOST_PATTERN;
+
+// What stands beside a refusal where a table, a codeword, a record or a searcher is answered.
+fn no_table(k: u8) -> Table
+    ensures { result ≡ no_table k }
+{
+    Table {
+        code: even_code(k, 0),
+        sigma: 0,
+        places: [0; 256],
+    }
+}
+
+fn no_word() -> Codeword
+    ensures { result ≡ codeword_for [] }
+{
+    Codeword {
+        length: 0,
+        symbols: [0; LONGEST],
+    }
+}
+
+fn no_record() -> Roll
+    ensures { result ≡ no_record }
+{
+    Roll {
+        table: no_table(0),
+        n: 0,
+        h: 0,
+    }
+}
+
+fn no_searcher(roll: Roll) -> Searcher
+    ensures { result ≡ searcher_for roll [] }
+{
+    Searcher {
+        judge: judge_of(roll),
+        pattern: [0; MOST_PATTERN],
+        length: 0,
+        ends: 0,
+    }
+}
 
 pub fn monterculo_count(text: &[u8], counts: &mut [u32]) -> Told
     ensures told { result ≡ told (count_says text.now counts.old then accepted 0) }
     ensures counts { counts.new ≡ count_leaves text.now counts.old }
 {
-    let answer = choosing::count::count(text, counts);
-    done(answer, 0)
+    let counted = choosing::count::count(text, counts);
+    Told::from(counted.map(|()| 0))
 }
 
 // Its value is the total.
@@ -35,12 +79,10 @@ pub fn monterculo_choose(k: u8, counts: &[u32]) -> Chosen
     ensures told { result.answer ≡ told (choose_says k counts.now then accepted (choose_total k counts.now)) }
     ensures table { result.table ≡ choose_table k counts.now }
 {
-    let choice = choosing::choose::choose(k, counts);
-    let table = choice.table;
-    let answer = choice.answer;
+    let chosen = choosing::choose::choose(k, counts);
     Chosen {
-        answer: done(answer, choice.total),
-        table,
+        answer: Told::from(chosen.map(|choice| choice.total)),
+        table: chosen.map_or(no_table(k), |choice| choice.table),
     }
 }
 
@@ -49,11 +91,9 @@ pub fn monterculo_codeword_of(table: Table, character: u8) -> Coded
     ensures word { result.word ≡ codeword_given table character }
 {
     let coded = stopper::codeword_of::codeword_of(table, character);
-    let word = coded.word;
-    let answer = coded.answer;
     Coded {
-        answer: done(answer, 0),
-        word,
+        answer: Told::from(coded.map(|_| 0)),
+        word: coded.unwrap_or(no_word()),
     }
 }
 
@@ -61,8 +101,8 @@ pub fn monterculo_codeword_of(table: Table, character: u8) -> Coded
 pub fn monterculo_character_of(table: Table, word: Codeword) -> Told
     ensures { result ≡ told (character_says table word) }
 {
-    let answer = stopper::character_of::character_of(table, word);
-    read(answer)
+    let read = stopper::character_of::character_of(table, word);
+    Told::from(read.map(u64::from))
 }
 
 pub fn monterculo_pack(table: Table, text: &[u8], buf: &mut [u8]) -> Rolled
@@ -71,43 +111,41 @@ pub fn monterculo_pack(table: Table, text: &[u8], buf: &mut [u8]) -> Rolled
     ensures buf { buf.new ≡ pack_leaves table text.now buf.old }
 {
     let packed = roll::pack::pack(table, text, buf);
-    let roll = packed.roll;
-    let answer = packed.answer;
     Rolled {
-        answer: done(answer, 0),
-        roll,
+        answer: Told::from(packed.map(|_| 0)),
+        roll: packed.unwrap_or(Roll { table, n: 0, h: 0 }),
     }
 }
 
 pub fn monterculo_check(roll: Roll, buf: &[u8]) -> Told
     ensures { result ≡ told (check_says roll buf.now then accepted 0) }
 {
-    let answer = roll::check::check(roll, buf);
-    done(answer, 0)
+    let checked = roll::check::check(roll, buf);
+    Told::from(checked.map(|()| 0))
 }
 
 pub fn monterculo_unpack(roll: Roll, buf: &[u8], start: usize, end: usize, out: &mut [u8]) -> Told
     ensures told { result ≡ told (unpack_says roll buf.now start end out.old then accepted 0) }
     ensures out { out.new ≡ unpack_leaves roll buf.now start end out.old }
 {
-    let answer = roll::unpack::unpack(roll, buf, start, end, out);
-    done(answer, 0)
+    let unpacked = roll::unpack::unpack(roll, buf, start, end, out);
+    Told::from(unpacked.map(|()| 0))
 }
 
 pub fn monterculo_make_directory(roll: Roll, buf: &[u8], dir: &mut [u32]) -> Told
     ensures told { result ≡ told (make_says roll buf.now dir.old then accepted 0) }
     ensures dir { dir.new ≡ make_leaves roll buf.now dir.old }
 {
-    let answer = roll::make_directory::make_directory(roll, buf, dir);
-    done(answer, 0)
+    let made = roll::make_directory::make_directory(roll, buf, dir);
+    Told::from(made.map(|()| 0))
 }
 
 // Its value is the character.
 pub fn monterculo_read_one(roll: Roll, buf: &[u8], dir: &[u32], place: usize) -> Told
     ensures { result ≡ told (read_says roll buf.now dir.now place) }
 {
-    let answer = roll::read_one::read_one(roll, buf, dir, place);
-    read(answer)
+    let read = roll::read_one::read_one(roll, buf, dir, place);
+    Told::from(read.map(u64::from))
 }
 
 // Its value is the total.
@@ -115,8 +153,8 @@ pub fn monterculo_search(roll: Roll, buf: &[u8], pattern: &[u8], slice: &mut [u3
     ensures told { result ≡ told (search_says roll buf.now pattern.now) }
     ensures slice { slice.new ≡ search_leaves roll buf.now pattern.now slice.old }
 {
-    let answer = roll::search::search(roll, buf, pattern, slice);
-    totalled(answer)
+    let found = roll::search::search(roll, buf, pattern, slice);
+    Told::from(found.map(u64::from))
 }
 
 // Its value is the total. What it answers and writes is what `monterculo_search` does.
@@ -124,8 +162,8 @@ pub fn monterculo_search_jumping(roll: Roll, buf: &[u8], pattern: &[u8], slice: 
     ensures told { result ≡ told (search_says roll buf.now pattern.now) }
     ensures slice { slice.new ≡ search_leaves roll buf.now pattern.now slice.old }
 {
-    let answer = jump::search_jumping::search_jumping(roll, buf, pattern, slice);
-    totalled(answer)
+    let found = jump::search_jumping::search_jumping(roll, buf, pattern, slice);
+    Told::from(found.map(u64::from))
 }
 
 // A refused edit answers the roll that came in.
@@ -143,11 +181,9 @@ pub fn monterculo_edit(
     ensures dir { dir.new ≡ edit_directory roll buf.old dir.old start end text.now }
 {
     let edited = roll::edit::edit(roll, buf, dir, start, end, text);
-    let roll = edited.roll;
-    let answer = edited.answer;
     Rolled {
-        answer: done(answer, 0),
-        roll,
+        answer: Told::from(edited.map(|_| 0)),
+        roll: edited.unwrap_or(roll),
     }
 }
 
@@ -156,8 +192,8 @@ pub fn monterculo_write_frames(roll: Roll, buf: &[u8], out: &mut [u8]) -> Told
     ensures told { result ≡ told (write_says roll buf.now out.old) }
     ensures out { out.new ≡ write_leaves roll buf.now out.old }
 {
-    let answer = frames::write_frames::write_frames(roll, buf, out);
-    totalled(answer)
+    let written = frames::write_frames::write_frames(roll, buf, out);
+    Told::from(written.map(u64::from))
 }
 
 // A refused text answers a record that is all 0.
@@ -167,11 +203,9 @@ pub fn monterculo_read_frames(text: &[u8], buf: &mut [u8]) -> Rolled
     ensures buf { buf.new ≡ frames_leaves text.now buf.old }
 {
     let came = frames::read_frames::read_frames(text, buf);
-    let roll = came.roll;
-    let answer = came.answer;
     Rolled {
-        answer: done(answer, 0),
-        roll,
+        answer: Told::from(came.map(|_| 0)),
+        roll: came.unwrap_or(no_record()),
     }
 }
 
@@ -181,11 +215,9 @@ pub fn monterculo_read_first(line: &[u8]) -> Rolled
     ensures roll { result.roll ≡ first_roll line.now }
 {
     let came = frames::read_first::read_first(line);
-    let roll = came.roll;
-    let answer = came.answer;
     Rolled {
-        answer: done(answer, 0),
-        roll,
+        answer: Told::from(came.map(|_| 0)),
+        roll: came.unwrap_or(no_record()),
     }
 }
 
@@ -194,8 +226,8 @@ pub fn monterculo_read_frame(line: &[u8], out: &mut [u8]) -> Told
     ensures told { result ≡ told (later_says line.now out.old) }
     ensures out { out.new ≡ later_leaves line.now out.old }
 {
-    let answer = frames::read_frame::read_frame(line, out);
-    totalled(answer)
+    let came = frames::read_frame::read_frame(line, out);
+    Told::from(came.map(u64::from))
 }
 
 // A refused start answers a searcher of an empty pattern, which is refused in its turn.
@@ -204,11 +236,9 @@ pub fn monterculo_start(roll: Roll, pattern: &[u8]) -> Started
     ensures searcher { result.searcher ≡ start_searcher roll pattern.now }
 {
     let started = radio::start::start(roll, pattern);
-    let searcher = started.searcher;
-    let answer = started.answer;
     Started {
-        answer: done(answer, 0),
-        searcher,
+        answer: Told::from(started.map(|_| 0)),
+        searcher: started.unwrap_or(no_searcher(roll)),
     }
 }
 
@@ -220,19 +250,16 @@ pub fn monterculo_feed(searcher: Searcher, piece: &[u8], slice: &mut [u32]) -> F
     ensures slice { slice.new ≡ feed_leaves searcher piece.now slice.old }
 {
     let fed = radio::feed::feed(searcher, piece, slice);
-    let on = fed.searcher;
-    let answer = fed.answer;
-    let hits = fed.hits;
     Fed {
-        answer: done(answer, hits as u64),
-        hits,
-        searcher: on,
+        answer: Told::from(fed.answer.map(|()| fed.hits as u64)),
+        hits: fed.hits,
+        searcher: fed.searcher,
     }
 }
 
 pub fn monterculo_finish(searcher: Searcher) -> Told
     ensures { result ≡ told (finish_says searcher then accepted 0) }
 {
-    let answer = radio::finish::finish(searcher);
-    done(answer, 0)
+    let finished = radio::finish::finish(searcher);
+    Told::from(finished.map(|()| 0))
 }

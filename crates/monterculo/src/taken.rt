@@ -1,10 +1,7 @@
 // Answers as C takes them: numbers beside each other, an enum being none.
-ghost use Rattle.std.specs.Prelude.{◌≡◌};
-ghost use Rattle.ground.specs.Paper.Refusals.{accepted, ◌then◌};
-ghost use Rattle.ground.specs.Paper.Answers.{done_says, answer_says, total_says};
-ghost use Rattle.monterculo.specs.Paper.Taken.{told};
+ghost use Rattle.monterculo.specs.Paper.Taken.{in_numbers};
 
-use ground::answers::{Answer, Done, Total};
+use ground::refusal::Refusal;
 use radio::records::Searcher;
 use sound::records::Roll;
 use stopper::codeword_of::Codeword;
@@ -55,47 +52,20 @@ pub struct Fed {
     pub searcher: Searcher,
 }
 
-pub fn done(answer: Done, answered: u64) -> Told
-    ensures { result ≡ told (done_says answer then accepted answered) }
-{
-    match answer {
-        Done::Yes => Told {
-            number: 0,
-            value: answered,
-        },
-        Done::Refused(number, value) => Told {
-            number: number as u32,
-            value,
-        },
-    }
-}
+impl From<Result<u64, Refusal>> for Told {
+    ghost from_gives = { in_numbers };
 
-pub fn read(answer: Answer) -> Told
-    ensures { result ≡ told (answer_says answer) }
-{
-    match answer {
-        Answer::Read(character) => Told {
-            number: 0,
-            value: character as u64,
-        },
-        Answer::Refused(number, value) => Told {
-            number: number as u32,
-            value,
-        },
-    }
-}
-
-pub fn totalled(answer: Total) -> Told
-    ensures { result ≡ told (total_says answer) }
-{
-    match answer {
-        Total::Of(total) => Told {
-            number: 0,
-            value: total as u64,
-        },
-        Total::Refused(number, value) => Told {
-            number: number as u32,
-            value,
-        },
+    // 0 and what is answered, or a refusal's number and value.
+    fn from(outcome: Result<u64, Refusal>) -> Told {
+        match outcome {
+            Ok(answered) => Told {
+                number: 0,
+                value: answered,
+            },
+            Err(refusal) => Told {
+                number: u32::from(refusal.number()),
+                value: refusal.value(),
+            },
+        }
     }
 }

@@ -1,8 +1,0 @@
--- `monterculo::taken::read` meets its contract.
-use Rattle.monterculo.proofs.taken.read.Goals as goal
-
-pub returns-in-Read : goal.returns-in-Read
-returns-in-Read c = rw c.in-Read.is
-
-pub returns-in-Refused : goal.returns-in-Refused
-returns-in-Refused c = rw c.in-Refused.is
