@@ -29,15 +29,16 @@ fn refused_out(out: &mut [u8], number: u8, value: u64) -> usize
 }
 
 // best S symbols T, the bytes, the hits, hits N
+#[tactic(auto, using(crate::proofs::Long::lines_long))]
 fn lines_out(out: &mut [u8], s: u8, h: u32, bytes: &[u8], hits: &[u32]) -> usize
     requires { length (lines_of s h bytes.now hits.now) ≤ length out.old }
     ensures length { result ≡ length (lines_of s h bytes.now hits.now) }
     ensures out { out.new ≡ lines_of s h bytes.now hits.now ++ drop (length (lines_of s h bytes.now hits.now)) out.old }
 {
     let mut p = text_out(out, 0, b"best ");
-    p = decimal_out(out, p, s as u64);
+    p = decimal_out(out, p, u64::from(s));
     p = text_out(out, p, b" symbols ");
-    p = decimal_out(out, p, h as u64);
+    p = decimal_out(out, p, u64::from(h));
     p = text_out(out, p, b"\n");
     p = hex_out(out, p, bytes);
     p = numbers_out(out, p, hits);
