@@ -1,8 +1,9 @@
 // What is printed of an outcome.
 ghost use Rattle.std.specs.Prelude.{◌<◌, ◌≤◌, length};
 
-use ground::answers::{Answer, Done};
+use ground::refusal::Refusal;
 use sound::records::Roll;
+use std::fmt::Display;
 use std::io::{self, Write};
 use stopper::table::Table;
 
@@ -10,21 +11,30 @@ pub fn end(printer: &mut impl Write) -> io::Result<()> {
     printer.write_all(b"\n")
 }
 
-pub fn refused(printer: &mut impl Write, number: u8, value: u64) -> io::Result<()> {
-    write!(printer, " refused {number} {value}")
-}
-
-pub fn done(printer: &mut impl Write, answer: Done) -> io::Result<()> {
+// That the work is accepted, or the refusal.
+pub fn done(printer: &mut impl Write, answer: Result<(), Refusal>) -> io::Result<()> {
     match answer {
-        Done::Yes => printer.write_all(b" yes"),
-        Done::Refused(number, value) => refused(printer, number, value),
+        Ok(()) => printer.write_all(b" yes"),
+        Err(refusal) => write!(printer, " {refusal}"),
     }
 }
 
-pub fn character(printer: &mut impl Write, answer: Answer) -> io::Result<()> {
+// The same of an answer in numbers.
+pub fn told(printer: &mut impl Write, number: u32, value: u64) -> io::Result<()> {
+    match number {
+        0 => printer.write_all(b" yes"),
+        _ => write!(printer, " refused {number} {value}"),
+    }
+}
+
+// What is answered, or the refusal.
+pub fn answered<T: Copy + Display>(
+    printer: &mut impl Write,
+    answer: Result<T, Refusal>,
+) -> io::Result<()> {
     match answer {
-        Answer::Read(character) => write!(printer, " {character}"),
-        Answer::Refused(number, value) => refused(printer, number, value),
+        Ok(x) => write!(printer, " {x}"),
+        Err(refusal) => write!(printer, " {refusal}"),
     }
 }
 

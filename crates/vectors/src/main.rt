@@ -1,4 +1,5 @@
-// Runs worked cases through the public operations and prints what they answer and what they leave in lent memory.
+// Runs worked cases through the public operations and prints what they answer and what they leave in lent memory. Where a value stands beside a refusal
+// too, it is the C door's.
 //
 // Standard input is cases as `casebook` has them: each is the number of an operation and its arguments; 0 ends. They come in parts of 262,144
 // bytes, and no case goes over the end of a part: a comment fills it up.
@@ -6,9 +7,11 @@
 #![tactic(auto)]
 
 use casebook::given::{Cases, read_full};
-use casebook::printed::{character, done, end, list, refused, rises, roll_out, runs, table_out};
+use casebook::printed::{answered, done, end, list, rises, roll_out, runs, table_out, told};
 use casebook::rooms::{buffer, text_room};
-use ground::answers::Total;
+use monterculo::{
+    monterculo_choose, monterculo_codeword_of, monterculo_edit, monterculo_pack,
+};
 use sound::records::Roll;
 use std::io::{self, Write};
 use stopper::code::LONGEST;
@@ -138,8 +141,8 @@ fn pack_case(printer: &mut impl Write, cases: &mut Cases) -> io::Result<()> {
     let mut space = buffer();
     let buf = cases.bytes(&mut space);
     printer.write_all(b"pack")?;
-    let outcome = roll::pack::pack(table, text, buf);
-    done(printer, outcome.answer)?;
+    let outcome = monterculo_pack(table, text, buf);
+    told(printer, outcome.answer.number, outcome.answer.value)?;
     roll_out(printer, outcome.roll)?;
     runs(printer, buf)?;
     end(printer)
@@ -193,7 +196,7 @@ fn read(
     place: usize,
 ) -> io::Result<()> {
     printer.write_all(b"read")?;
-    character(printer, roll::read_one::read_one(roll, buf, dir, place))?;
+    answered(printer, roll::read_one::read_one(roll, buf, dir, place))?;
     end(printer)
 }
 
@@ -210,23 +213,16 @@ fn search_case(printer: &mut impl Write, cases: &mut Cases) -> io::Result<()> {
     let mut places = [0; GIVEN];
     let hits = cases.numbers(&mut places);
     printer.write_all(b"search")?;
-    total(printer, roll::search::search(roll, buf, pattern, hits))?;
+    answered(printer, roll::search::search(roll, buf, pattern, hits))?;
     list(printer, hits)?;
     end(printer)?;
     printer.write_all(b"jumping")?;
-    total(
+    answered(
         printer,
         jump::search_jumping::search_jumping(roll, buf, pattern, again),
     )?;
     list(printer, again)?;
     end(printer)
-}
-
-fn total(printer: &mut impl Write, answer: Total) -> io::Result<()> {
-    match answer {
-        Total::Of(total) => write!(printer, " {total}"),
-        Total::Refused(number, value) => refused(printer, number, value),
-    }
 }
 
 // A roll, a buffer, a directory, start, end, a text.
@@ -253,8 +249,8 @@ fn edited(
     text: &[u8],
 ) -> io::Result<()> {
     printer.write_all(b"edit")?;
-    let outcome = roll::edit::edit(roll, buf, dir, start, stop, text);
-    done(printer, outcome.answer)?;
+    let outcome = monterculo_edit(roll, buf, dir, start, stop, text);
+    told(printer, outcome.answer.number, outcome.answer.value)?;
     roll_out(printer, outcome.roll)?;
     runs(printer, buf)?;
     entries_out(printer, dir)?;
@@ -304,10 +300,16 @@ fn choose_case(printer: &mut impl Write, cases: &mut Cases) -> io::Result<()> {
     let mut row = [0; 300];
     let counts = cases.numbers(&mut row);
     printer.write_all(b"choose")?;
-    let choice = choosing::choose::choose(k, counts);
-    done(printer, choice.answer)?;
-    write!(printer, " total {}", choice.total)?;
-    table_out(printer, choice.table)?;
+    let outcome = monterculo_choose(k, counts);
+    let answer = outcome.answer;
+    told(printer, answer.number, answer.value)?;
+    let total = if answer.number == 0 {
+        answer.value
+    } else {
+        0
+    };
+    write!(printer, " total {total}")?;
+    table_out(printer, outcome.table)?;
     end(printer)
 }
 
@@ -316,8 +318,8 @@ fn codeword_case(printer: &mut impl Write, cases: &mut Cases) -> io::Result<()> 
     let table = cases.table();
     let wanted = cases.byte();
     printer.write_all(b"codeword")?;
-    let outcome = stopper::codeword_of::codeword_of(table, wanted);
-    done(printer, outcome.answer)?;
+    let outcome = monterculo_codeword_of(table, wanted);
+    told(printer, outcome.answer.number, outcome.answer.value)?;
     write!(printer, " length {}", outcome.word.length)?;
     runs(printer, &outcome.word.symbols)?;
     end(printer)
@@ -331,6 +333,6 @@ fn character_case(printer: &mut impl Write, cases: &mut Cases) -> io::Result<()>
     cases.bytes(&mut symbols);
     let word = Codeword { length, symbols };
     printer.write_all(b"character")?;
-    character(printer, stopper::character_of::character_of(table, word))?;
+    answered(printer, stopper::character_of::character_of(table, word))?;
     end(printer)
 }

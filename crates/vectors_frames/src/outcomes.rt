@@ -1,15 +1,8 @@
-// What each operation answers and leaves.
-use casebook::printed::{done, end, refused, roll_out, runs};
-use ground::answers::Total;
+// What each operation answers and leaves. The record that stands beside a refusal too is the C door's.
+use casebook::printed::{answered, end, roll_out, runs, told};
+use monterculo::{monterculo_read_first, monterculo_read_frames};
 use sound::records::Roll;
 use std::io::{self, Write};
-
-fn total(printer: &mut impl Write, answer: Total) -> io::Result<()> {
-    match answer {
-        Total::Of(total) => write!(printer, " {total}"),
-        Total::Refused(number, value) => refused(printer, number, value),
-    }
-}
 
 // Written, and the whole output read.
 pub fn written(
@@ -20,7 +13,7 @@ pub fn written(
     other: &mut [u8],
 ) -> io::Result<()> {
     printer.write_all(b"write")?;
-    total(printer, frames::write_frames::write_frames(roll, buf, out))?;
+    answered(printer, frames::write_frames::write_frames(roll, buf, out))?;
     runs(printer, out)?;
     end(printer)?;
     frames_read(printer, out, other)
@@ -28,8 +21,8 @@ pub fn written(
 
 pub fn frames_read(printer: &mut impl Write, text: &[u8], buf: &mut [u8]) -> io::Result<()> {
     printer.write_all(b"frames")?;
-    let outcome = frames::read_frames::read_frames(text, buf);
-    done(printer, outcome.answer)?;
+    let outcome = monterculo_read_frames(text, buf);
+    told(printer, outcome.answer.number, outcome.answer.value)?;
     roll_out(printer, outcome.roll)?;
     runs(printer, buf)?;
     end(printer)
@@ -37,15 +30,15 @@ pub fn frames_read(printer: &mut impl Write, text: &[u8], buf: &mut [u8]) -> io:
 
 pub fn first_read(printer: &mut impl Write, line: &[u8]) -> io::Result<()> {
     printer.write_all(b"first")?;
-    let outcome = frames::read_first::read_first(line);
-    done(printer, outcome.answer)?;
+    let outcome = monterculo_read_first(line);
+    told(printer, outcome.answer.number, outcome.answer.value)?;
     roll_out(printer, outcome.roll)?;
     end(printer)
 }
 
 pub fn frame_read(printer: &mut impl Write, line: &[u8], out: &mut [u8]) -> io::Result<()> {
     printer.write_all(b"frame")?;
-    total(printer, frames::read_frame::read_frame(line, out))?;
+    answered(printer, frames::read_frame::read_frame(line, out))?;
     runs(printer, out)?;
     end(printer)
 }

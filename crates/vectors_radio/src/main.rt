@@ -10,7 +10,8 @@ mod pieces;
 mod searchers;
 
 use casebook::given::{Cases, read_full};
-use casebook::printed::{done, end};
+use casebook::printed::{done, end, told};
+use monterculo::monterculo_start;
 use pieces::all_pieces;
 use radio::records::Searcher;
 use searchers::searcher;
@@ -65,8 +66,9 @@ fn start_case(printer: &mut impl Write, cases: &mut Cases) -> io::Result<()> {
     let mut letters = [0; 128];
     let pattern = cases.bytes(&mut letters);
     printer.write_all(b"start")?;
-    let outcome = radio::start::start(roll, pattern);
-    done(printer, outcome.answer)?;
+    // The C door answers a searcher beside a refusal too.
+    let outcome = monterculo_start(roll, pattern);
+    told(printer, outcome.answer.number, outcome.answer.value)?;
     finished(printer, outcome.searcher)?;
     all_pieces(printer, cases, outcome.searcher)
 }
