@@ -136,6 +136,8 @@ fn write_words(
 }
 
 // The codewords of a text stored from symbol first on; no numbers are made for a short one.
+// Not inlined: the numbers would stand in the caller's frame.
+#[inline(never)]
 pub fn write_text(k: u8, lengths: &[u8], words: &[u8], text: &[u8], buf: &mut [u8], first: usize)
     requires { Laid k lengths.now words.now text.now buf.old first }
     ensures { symbols_of k buf.new ≡ laid_from (symbols_of k buf.old) first (row_of lengths.now words.now text.now) }
