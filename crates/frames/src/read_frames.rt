@@ -24,6 +24,7 @@ fn check_lines(rest: &[u8], bytes: usize) -> Done
     let mut p: usize = 0;
     let mut left = bytes;
     let mut number: u64 = 1;
+    // A while: how long the next line is follows from the bytes that are left.
     while 0 < left {
         let next = bytes_next(left);
         let long = 2 * next + 3;
@@ -52,6 +53,7 @@ fn judge_lines(roll: Roll, rest: &[u8], bytes: usize) -> Done
     let mut piece = [0u8; MOST_BYTES];
     let mut p: usize = 0;
     let mut left = bytes;
+    // A while: how long the next line is follows from the bytes that are left.
     while 0 < left {
         let next = bytes_next(left);
         let to = p + 2 * next + 3;
@@ -70,6 +72,7 @@ fn store_lines(rest: &[u8], bytes: usize, buf: &mut [u8])
 {
     let mut p: usize = 0;
     let mut at: usize = 0;
+    // A while: how long the next line is follows from the bytes that are left.
     while at < bytes {
         let next = bytes_next(bytes - at);
         let to = p + 2 * next + 3;

@@ -79,26 +79,20 @@ fn line_end(input: &[u8]) -> usize
     ensures within { result ≤ length input.now }
     ensures pattern { result ≡ length (given_pattern input.now) }
 {
-    let mut i = 0;
-    while i < input.len() {
-        if input[i] == 10 {
-            return i;
-        }
-        i += 1;
+    match input.iter().position(|b| *b == b'\n') {
+        Some(i) => i,
+        None => input.len(),
     }
-    i
 }
 
 // The place after it, or the end.
+#[tactic(auto, unfolding(crate::specs::Helpers::Answers::start_of_text))]
 fn text_start(input: &[u8], end: usize) -> usize
     requires { end ≤ length input.now }
     ensures within { result ≤ length input.now }
     ensures next { result ≡ start_of_text end (length input.now) }
 {
-    if end < input.len() {
-        return end + 1;
-    }
-    end
+    if end < input.len() { end + 1 } else { end }
 }
 
 pub fn report(input: &[u8], out: &mut [u8; 147456]) -> usize

@@ -1,19 +1,23 @@
--- `frames::lines::line_end` meets its contract: no byte passed ends the line.
-use native.Mathlib.Omega.{arith}
-use Rattle.frames.specs.Laws.Lines.{ends_later, ends_here, ends_none}
+-- `frames::lines::line_end` meets its contract: no byte before the first byte 10 ends the line.
+use Rattle.std.proofs.Common.{rules, ◌≢◌, ℕ, zero, suc, ◌<◌, ◌≤◌, List, length, get_or, add-one, arith}
+use Rattle.frames.specs.Laws.Lines.{EndsFrom, ends_later, ends_here, ends_none}
 use Rattle.frames.proofs.lines.line_end.Goals as goal
 
-pub loop-i-init : goal.loop-i-init
-loop-i-init c = (omega arith, omega arith)
+passed : (text : List ℕ) (i : ℕ) → i ≤ length text → ((k : ℕ) → k < i → get_or text k 0 ≢ 10) → EndsFrom text i
+passed text zero h other = omega arith
+passed text (suc i) h other =
+    rw (← add-one i) (ends_later text i (passed text i (omega arith) (λ k l. other k (omega arith))) h (other i (omega arith)))
 
-pub returns-then-text-i-eq10 : goal.returns-then-text-i-eq10
-returns-then-text-i-eq10 c =
-    ends_here c.args.text.now c.loop-i.i c.loop-i.invariant.1 (omega arith) c.if-text-i-eq10.true
+pub returns-in-Some : goal.returns-in-Some
+returns-in-Some c =
+    let text = c.args.text.now in
+    let i = c.in-Some.i in
+    let other : (k : ℕ) → k < i → get_or text k 0 ≢ 10 = search rules in
+    let inside : i < length text = search rules in
+    ends_here text i (passed text i (omega arith) other) inside (search rules)
 
-pub loop-i-preserved : goal.loop-i-preserved
-loop-i-preserved c =
-    (omega arith, ends_later c.args.text.now c.loop-i.i c.loop-i.invariant.1 (omega arith) c.if-text-i-eq10.false)
-
-pub returns : goal.returns
-returns c =
-    ends_none c.args.text.now c.loop-i.i c.loop-i.invariant.1 (omega (arith, c.loop-i.invariant.0, c.loop-i-test.false))
+pub returns-in-None : goal.returns-in-None
+returns-in-None c =
+    let text = c.args.text.now in
+    let other : (k : ℕ) → k < length text → get_or text k 0 ≢ 10 = search rules in
+    ends_none text (length text) (passed text (length text) (omega arith) other) (search rules)

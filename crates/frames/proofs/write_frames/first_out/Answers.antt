@@ -1,79 +1,75 @@
 -- `frames::write_frames::first_out` meets its contract: the head, the characters and byte 10 are put one after the other.
-use mathlib.Core.Path.{◌≡◌, sym, ap, subst, ◌∙◌}
-use mathlib.Core.List.{List, [], ◌∷◌, ◌++◌}
-use Prim.Native.Nat.{ℕ, ◌+◌, ◌≤◌}
-use native.Mathlib.Omega.{arith}
-use borrow.Author.Rules.{rules}
-use lib.ListN.{length, length-set}
-use lib.Seq.{length-take-le}
+use Rattle.std.proofs.Common.{◌≡◌, sym, List, [], ◌∷◌, ◌++◌, ℕ, ◌+◌, ◌≤◌, length, take, length-set, length-take-le, arith, rules}
 use Rattle.ground.specs.Paper.Runs.{over}
 use Rattle.stopper.specs.Paper.Table.{characters}
+use Rattle.sound.specs.declared.records.Roll.{Roll}
 use Rattle.writing.specs.Paper.Written.{hex_row}
 use Rattle.writing.specs.Laws.Written.{Going, going_none, going_as, going_room, going_next, going_more, going_byte, going_all}
 use Rattle.frames.specs.Paper.Frames.{frame, head_bytes, first_bytes}
 use Rattle.frames.specs.Laws.Writing.{head_frame}
 use Rattle.frames.proofs.write_frames.first_out.Goals as goal
-use Rattle.frames.proofs.write_frames.first_out.Lts as Places
-use Rattle.frames.proofs.write_frames.first_out.Reads as Clauses
-use Rattle.frames.proofs.write_frames.first_out.Tie as tie
 
--- what is known at these places
-abbrev Start : Type 0
-Start = Places.Start tie.the-claims Clauses.Pre Clauses.Post tie.handed_clauses
+module _ (r : Roll) (out : List ℕ) (room : 0 + length (frame (first_bytes r)) ≤ length out) where
+  abbrev text : List ℕ
+  text = frame (first_bytes r)
 
-abbrev After-row_out-p : Type 0
-After-row_out-p = Places.After-row_out tie.the-claims Clauses.Pre Clauses.Post tie.handed_clauses
+  abbrev head : List ℕ
+  head = hex_row (head_bytes r)
 
-abbrev After-row_out-p-2 : Type 0
-After-row_out-p-2 = Places.After-row_out2 tie.the-claims Clauses.Pre Clauses.Post tie.handed_clauses
+  abbrev after : List ℕ
+  after = hex_row (characters r.table)
 
-places_long : (s : Start) → s.args.roll.table.sigma ≤ length s.args.roll.table.places
-places_long s = let e : length s.args.roll.table.places ≡ 256 = search rules in omega (arith, s.requires.0)
+  begun : Going text out 0 out 0 (head ++ (after ++ (10 ∷ [])))
+  begun = going_as (head_frame r) (going_none text out 0)
 
-begun : (s : Start) → let a = s.args in
-    Going (frame (first_bytes a.roll)) a.out.now 0 a.out.now 0 (hex_row (head_bytes a.roll) ++ (hex_row (characters a.roll.table) ++ (10 ∷ [])))
-begun s = let a = s.args in going_as (head_frame a.roll) (going_none (frame (first_bytes a.roll)) a.out.now 0)
+  head_fits : {bytes : List ℕ} → bytes ≡ head_bytes r → 0 + length (hex_row bytes) ≤ length out
+  head_fits e = rw e (going_next room head (after ++ (10 ∷ [])) begun)
 
-headed : (c : After-row_out-p) → let a = c.args in
-    Going (frame (first_bytes a.roll)) a.out.now 0 c.row_out-p.new.out c.row_out-p.result (hex_row (characters a.roll.table) ++ (10 ∷ []))
-headed c =
-    let e = c.head_of-head.ensures in
-    going_more c.requires.1 (hex_row (head_bytes c.args.roll)) (begun c.before.before.before.before.before.before.before.before)
-    (c.row_out-p.ensures.out ∙ ap (λ (l : List ℕ). over c.args.out.now 0 (hex_row l) (0 + length (hex_row l))) e)
-    (c.row_out-p.ensures.next ∙ ap (λ (l : List ℕ). 0 + length (hex_row l)) e)
+  module _ {bytes row : List ℕ} {p : ℕ} (e : bytes ≡ head_bytes r) (o : row ≡ over out 0 (hex_row bytes) (0 + length (hex_row bytes))) (n : p ≡ 0 + length (hex_row bytes)) where
+    headed : Going text out 0 row p (after ++ (10 ∷ []))
+    headed = going_more room head begun (rw e at o) (rw e at n)
 
-filled : (c : After-row_out-p-2) → let a = c.args in
-    Going (frame (first_bytes a.roll)) a.out.now 0 c.row_out-p-2.new.out c.row_out-p-2.result (10 ∷ [])
-filled c =
-    going_more c.requires.1 (hex_row (characters c.args.roll.table)) (headed c.before.before.before.before.before) c.row_out-p-2.ensures.out c.row_out-p-2.ensures.next
+    module _ {sigma : ℕ} (z : sigma ≡ r.table.sigma) where
+      after_fits : p + length (hex_row (take sigma r.table.places)) ≤ length row
+      after_fits = rw z (going_next room after (10 ∷ []) headed)
+
+      filled : {row' : List ℕ} {q : ℕ} → row' ≡ over row p (hex_row (take sigma r.table.places)) (p + length (hex_row (take sigma r.table.places)))
+          → q ≡ p + length (hex_row (take sigma r.table.places)) → Going text out 0 row' q (10 ∷ [])
+      filled x y = going_more room after headed (rw z at x) (rw z at y)
 
 pub row_out-p-requires : goal.row_out-p-requires
-row_out-p-requires c =
-    let room : 0 + length (hex_row (head_bytes c.args.roll)) ≤ length c.args.out.now
-    = going_next c.requires.1 (hex_row (head_bytes c.args.roll)) (hex_row (characters c.args.roll.table) ++ (10 ∷ [])) (begun c.before.before.before.before.before.before.before) in
-    subst (λ (l : List ℕ). 0 + length (hex_row l) ≤ length c.args.out.now) (sym c.head_of-head.ensures) room
+row_out-p-requires c = head_fits c.args.roll c.args.out.now c.requires.1 c.head_of-head.ensures
 
 pub row_out-p-requires-2 : goal.row_out-p-requires-2
 row_out-p-requires-2 c =
-    going_next c.requires.1 (hex_row (characters c.args.roll.table)) (10 ∷ []) (headed c.before.before.before.before)
+    let o = c.row_out-p.ensures in
+    after_fits c.args.roll c.args.out.now c.requires.1 c.head_of-head.ensures o.out o.next c.from.ensures
 
+-- the room for byte 10
 pub bounds-out-p : goal.bounds-out-p
-bounds-out-p c = omega (arith, going_room c.requires.1 (filled c.before.before))
-
-pub overflow_add-result : goal.overflow_add-result
-overflow_add-result c = omega (arith, going_room c.requires.1 (filled c.before.before))
+bounds-out-p c =
+    let o = c.row_out-p.ensures in
+    let t = c.row_out-p-2.ensures in
+    let g = filled c.args.roll c.args.out.now c.requires.1 c.head_of-head.ensures o.out o.next c.from.ensures t.out t.next in
+    omega (arith, going_room c.requires.1 g)
 
 pub shape_of-out : goal.shape_of-out
-shape_of-out c = simp length-set (going_room c.requires.1 (filled c.before.before)).1
+shape_of-out c =
+    let o = c.row_out-p.ensures in
+    let t = c.row_out-p-2.ensures in
+    let g = filled c.args.roll c.args.out.now c.requires.1 c.head_of-head.ensures o.out o.next c.from.ensures t.out t.next in
+    simp length-set (going_room c.requires.1 g).1
 
 pub returns : goal.returns
 returns c =
-    let h = c.requires.1 in
-    let all = going_all h (going_byte h (filled c.before.before)) in
+    let o = c.row_out-p.ensures in
+    let t = c.row_out-p-2.ensures in
+    let g = filled c.args.roll c.args.out.now c.requires.1 c.head_of-head.ensures o.out o.next c.from.ensures t.out t.next in
+    let all = going_all c.requires.1 (going_byte c.requires.1 g) in
     record { next = all.0; out = all.1 }
 
-pub slice_bounds-places-end : goal.slice_bounds-places-end
-slice_bounds-places-end c = places_long c.before.before.before.before.before.before.before.before.before.before.before
-
 pub slice_bounds-row_out-end-2 : goal.slice_bounds-row_out-end-2
-slice_bounds-row_out-end-2 c = sym (length-take-le _ _ (places_long c.before.before.before.before.before.before.before.before.before.before.before.before))
+slice_bounds-row_out-end-2 c =
+    let places = c.args.roll.table.places in
+    let e : length places ≡ 256 = search rules in
+    sym (length-take-le c.from.result places (omega (arith, c.from.ensures, c.requires.0)))

@@ -1,77 +1,57 @@
--- `frames::write_frames::frames_out` meets its contract: the frames of the bytes before byte i are put.
-use mathlib.Core.Path.{◌≡◌, sym, ap, subst, ◌∙◌}
-use mathlib.Core.List.{List, ◌∷◌, ◌++◌}
-use Prim.Native.Nat.{ℕ, ◌+◌, ◌-◌, ◌≤◌}
-use native.Mathlib.Nat.{sub-zero}
-use native.Mathlib.Omega.{arith}
-use lib.ListN.{length, take, drop}
-use Rattle.writing.specs.Laws.Written.{Going, going_none, going_as, going_room, going_next, going_more, going_all}
-use Rattle.frames.specs.Paper.Frames.{frame, later_for, later_frames}
-use Rattle.frames.specs.Laws.Later.{next_some}
-use Rattle.frames.specs.Laws.Writing.{frames_none, frames_more}
-use Rattle.frames.proofs.write_frames.frames_out.Invariants.{frames_from}
+-- `frames::write_frames::frames_out` meets its contract: the frames of the bytes that have come are put.
+use Rattle.std.proofs.Common.{◌≡◌, refl, sym, ◌∙◌, ap, List, [], ◌∷◌, ◌++◌, ℕ, ◌-◌, ◌<◌, min, length, take, drop, length-append, arith}
+use Rattle.std.proofs.lemmas.List.{take_min, drop_min}
+use Rattle.std.proofs.Math.Seq.{take_at, drop_at}
+use Rattle.std.specs.Slice.Iter.{chunks_rest, chunks_size}
+use Rattle.writing.specs.Laws.Written.{Going, going_none, going_as, going_next, going_more, going_all}
+use Rattle.frames.specs.Paper.Frames.{frame, later_frames, most_bytes}
+use Rattle.frames.specs.Laws.Later.{later_suc}
+use Rattle.frames.specs.Laws.Writing.{frames_none}
+use Rattle.frames.proofs.write_frames.frames_out.Invariants.{later}
 use Rattle.frames.proofs.write_frames.frames_out.Goals as goal
-use Rattle.frames.proofs.write_frames.frames_out.Lts as Places
-use Rattle.frames.proofs.write_frames.frames_out.Reads as Clauses
-use Rattle.frames.proofs.write_frames.frames_out.Tie as tie
 
--- what is known at these places
-abbrev After-bytes_next : Type 0
-After-bytes_next = Places.After-bytes_next tie.the-claims Clauses.Pre Clauses.Post goal.the-invariant-loop-i goal.the-decreases-loop-i tie.handed_clauses
+-- the first 32 bytes, or all, and those after them
+later_more : (bytes packed rest : List ℕ) → bytes ≡ packed ++ rest → length packed ≡ min most_bytes (length bytes) → 0 < length bytes → later bytes ≡ frame (2 ∷ packed) ++ later rest
+unfolding later_frames
+later_more bytes packed rest e n h =
+    let front : take most_bytes bytes ≡ packed = sym (take_min most_bytes bytes) ∙ rw (← n, e) (take_at packed rest (length packed) refl) in
+    let back : drop most_bytes bytes ≡ rest = sym (drop_min most_bytes bytes) ∙ rw (← n, e) (drop_at packed rest (length packed) refl) in
+    let left : length bytes - most_bytes ≡ length rest = omega (arith, ap length e, length-append packed rest) in
+    rw (later_suc (length bytes) h, front, back, left)
 
-pub loop-i-init : goal.loop-i-init
-loop-i-init c = let a = c.args in (omega arith, going_as (rw sub-zero) (going_none (later_frames (later_for (length a.bytes.now)) a.bytes.now) a.out.now a.at))
+later_all : (bytes : List ℕ) → length bytes ≡ 0 → later bytes ≡ []
+later_all bytes e = rw e (frames_none bytes)
 
--- the next frame takes some of the bytes that are left
-some : (b : After-bytes_next) → (1 ≤ b.bytes_next.result) × (b.loop-i.i + b.bytes_next.result ≤ length b.args.bytes.now)
-some b =
-    let h = b.loop-i-test.true in
-    let (x, y, z, w) = next_some (length b.args.bytes.now - b.loop-i.i) (omega (arith, h)) in
-    let e = b.bytes_next.ensures in
-    (omega arith, omega (arith, h))
+pub loop-packed-init : goal.loop-packed-init
+loop-packed-init c =
+    let a = c.args in
+    let it = c.into_iter-packed-iterator.ensures.into_iter_gives in
+    let rest : chunks_rest c.into_iter-packed-iterator.result ≡ a.bytes.now = ap chunks_rest it ∙ c.chunks-packed-items.ensures.rest in
+    let size : chunks_size c.into_iter-packed-iterator.result ≡ most_bytes = ap chunks_size it ∙ c.chunks-packed-items.ensures.size in
+    (omega arith, tt, size, rw rest (going_none (later a.bytes.now) a.out.now a.at))
 
--- its bytes
-abbrev part : (b : After-bytes_next) → ℕ → List ℕ
-part b next = take (b.loop-i.i + next - b.loop-i.i) (drop b.loop-i.i b.args.bytes.now)
-
-left : (b : After-bytes_next) → let a = b.args in
-    Going (later_frames (later_for (length a.bytes.now)) a.bytes.now) a.out.now a.at b.loop-i.out b.loop-i.p
-    (frame (2 ∷ part b b.bytes_next.result) ++ frames_from a.bytes.now (b.loop-i.i + b.bytes_next.result))
-left b =
-    let a = b.args in
-    let bytes = a.bytes.now in
-    let all = later_frames (later_for (length bytes)) bytes in
-    subst (λ (next : ℕ). Going all a.out.now a.at b.loop-i.out b.loop-i.p (frame (2 ∷ part b next) ++ frames_from bytes (b.loop-i.i + next))) (sym b.bytes_next.ensures)
-    (going_as (frames_more bytes b.loop-i.i (omega (arith, b.loop-i-test.true))) b.loop-i.invariant.1)
+-- the next frame, and those after it
+next : {whole bytes out row : List ℕ} {at p size : ℕ} (packed rest : List ℕ) → size ≡ most_bytes → Going whole out at row p (later bytes)
+    → (bytes ≡ packed ++ rest) × (length packed ≡ min size (length bytes)) × (0 < length bytes) → Going whole out at row p (frame (2 ∷ packed) ++ later rest)
+next {bytes = bytes} packed rest n g s = going_as (later_more bytes packed rest s.0 (omega (arith, s.1)) s.2) g
 
 pub later_out-p-requires : goal.later_out-p-requires
 later_out-p-requires c =
-    going_next c.requires (frame (2 ∷ part c.before.before.before c.bytes_next.result)) (frames_from c.args.bytes.now (c.loop-i.i + c.bytes_next.result)) (left c.before.before.before)
+    let i = c.loop-packed.invariant in
+    going_next c.requires (frame (2 ∷ c.in-Some.packed.now)) (later (chunks_rest c.next.new.self)) (next _ _ i.2 i.3 c.in-Some.ensures.steps.1)
 
-pub loop-i-preserved : goal.loop-i-preserved
-loop-i-preserved c =
-    ((some c.before.before.before.before.before.before).1, going_more c.requires (frame (2 ∷ part c.before.before.before.before.before.before c.bytes_next.result)) (left c.before.before.before.before.before.before) c.later_out-p.ensures.out c.later_out-p.ensures.next)
+pub loop-packed-preserved : goal.loop-packed-preserved
+loop-packed-preserved c =
+    let i = c.loop-packed.invariant in
+    let s = c.in-Some.ensures.steps in
+    let size : chunks_size c.next.new.self ≡ most_bytes = s.0 ∙ i.2 in (
+      omega arith,
+      tt,
+      size,
+      going_more c.requires (frame (2 ∷ c.in-Some.packed.now)) (next _ _ i.2 i.3 s.1) c.later_out-p.ensures.out c.later_out-p.ensures.next,
+    )
 
 pub returns : goal.returns
 returns c =
-    let bytes = c.args.bytes.now in
-    let none : length bytes - c.loop-i.i ≡ 0 = omega (arith, c.loop-i-test.false) in
-    (going_all c.requires (going_as (ap (λ (n : ℕ). later_frames (later_for n) (drop c.loop-i.i bytes)) none ∙ frames_none (drop c.loop-i.i bytes)) c.loop-i.invariant.1)).1
-
-pub bytes_next-requires : goal.bytes_next-requires
-bytes_next-requires c = tt
-
-pub overflow_add-to : goal.overflow_add-to
-overflow_add-to c = omega (arith, some c.before)
-
-pub slice_bounds-later_out-start : goal.slice_bounds-later_out-start
-slice_bounds-later_out-start c = omega (arith, some c.before.before)
-
-pub slice_bounds-later_out-end : goal.slice_bounds-later_out-end
-slice_bounds-later_out-end c = omega (arith, some c.before.before)
-
-pub loop-i-smaller : goal.loop-i-smaller
-loop-i-smaller c = omega (arith, some c.before.before.before.before.before.before, c.loop-i-test.true)
-
-pub shape_of-out : goal.shape_of-out
-shape_of-out c = (going_room c.requires c.loop-i.invariant.1).1
+    let i = c.loop-packed.invariant in
+    (going_all c.requires (going_as (later_all _ c.in-None.ensures.steps.1.0) i.3)).1

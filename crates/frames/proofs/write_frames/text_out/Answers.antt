@@ -1,44 +1,39 @@
 -- `frames::write_frames::text_out` meets its contract: the first frame and the later ones are put one after the other.
-use mathlib.Core.Path.{refl, sym}
-use mathlib.Core.List.{List, [], ◌++◌, append-nil}
-use Prim.Native.Nat.{ℕ}
-use lib.ListN.{length}
+use Rattle.std.proofs.Common.{◌≡◌, refl, sym, List, [], ◌++◌, append-nil, ℕ, ◌+◌, ◌≤◌, length}
+use Rattle.ground.specs.Paper.Runs.{over}
+use Rattle.sound.specs.declared.records.Roll.{Roll}
 use Rattle.writing.specs.Laws.Written.{Going, going_none, going_as, going_next, going_more, going_whole}
 use Rattle.frames.specs.Paper.Frames.{frame, first_bytes, later_for, later_frames}
 use Rattle.frames.specs.Helpers.Sizes.{frames_of}
 use Rattle.frames.proofs.write_frames.text_out.Goals as goal
-use Rattle.frames.proofs.write_frames.text_out.Lts as Places
-use Rattle.frames.proofs.write_frames.text_out.Reads as Clauses
-use Rattle.frames.proofs.write_frames.text_out.Tie as tie
 
--- what is known at these places
-abbrev Start : Type 0
-Start = Places.Start tie.the-claims Clauses.Pre Clauses.Post tie.handed_clauses
+module _ (r : Roll) (bytes out : List ℕ) (room : 0 + length (frames_of r bytes) ≤ length out) where
+  abbrev later : List ℕ
+  later = later_frames (later_for (length bytes)) bytes
 
-abbrev After-first_out-p : Type 0
-After-first_out-p = Places.After-first_out tie.the-claims Clauses.Pre Clauses.Post tie.handed_clauses
+  begun : Going (frames_of r bytes) out 0 out 0 (frame (first_bytes r) ++ later)
+  unfolding frames_of
+  begun = going_none (frames_of r bytes) out 0
 
-abbrev later : List ℕ → List ℕ
-later bytes = later_frames (later_for (length bytes)) bytes
+  first_fits : 0 + length (frame (first_bytes r)) ≤ length out
+  first_fits = going_next room (frame (first_bytes r)) later begun
 
-begun : (s : Start) → let a = s.args in Going (frames_of a.roll a.bytes.now) a.out.now 0 a.out.now 0 (frame (first_bytes a.roll) ++ later a.bytes.now)
-unfolding frames_of
-begun s = let a = s.args in going_none (frames_of a.roll a.bytes.now) a.out.now 0
-
-first : (c : After-first_out-p) → let a = c.args in
-    Going (frames_of a.roll a.bytes.now) a.out.now 0 c.first_out-p.new.out c.first_out-p.result (later a.bytes.now ++ [])
-first c =
-    going_as (sym (append-nil (later c.args.bytes.now)))
-    (going_more c.requires.1 (frame (first_bytes c.args.roll)) (begun c.before.before.before.before) c.first_out-p.ensures.out c.first_out-p.ensures.next)
+  first : {row : List ℕ} {p : ℕ} → row ≡ over out 0 (frame (first_bytes r)) (0 + length (frame (first_bytes r))) → p ≡ 0 + length (frame (first_bytes r))
+      → Going (frames_of r bytes) out 0 row p (later ++ [])
+  first o n = going_as (sym (append-nil later)) (going_more room (frame (first_bytes r)) begun o n)
 
 pub first_out-p-requires : goal.first_out-p-requires
-first_out-p-requires c =
-    (c.requires.0, going_next c.requires.1 (frame (first_bytes c.args.roll)) (later c.args.bytes.now) (begun c.before.before.before.before))
+first_out-p-requires c = (c.requires.0, first_fits c.args.roll c.args.bytes.now c.args.out.now c.requires.1)
 
 pub frames_out-requires : goal.frames_out-requires
 frames_out-requires c =
-    going_next c.requires.1 (later c.args.bytes.now) [] (first c.before.before.before.before)
+    let bytes = c.args.bytes.now in
+    let o = c.first_out-p.ensures in
+    going_next c.requires.1 (later_frames (later_for (length bytes)) bytes) [] (first c.args.roll bytes c.args.out.now c.requires.1 o.out o.next)
 
 pub returns : goal.returns
 returns c =
-    (going_whole c.requires.1 (going_more c.requires.1 (later c.args.bytes.now) (first c.before.before.before.before.before.before.before) c.frames_out.ensures refl)).1
+    let bytes = c.args.bytes.now in
+    let o = c.first_out-p.ensures in
+    let begun = first c.args.roll bytes c.args.out.now c.requires.1 o.out o.next in
+    (going_whole c.requires.1 (going_more c.requires.1 (later_frames (later_for (length bytes)) bytes) begun c.frames_out.ensures refl)).1
