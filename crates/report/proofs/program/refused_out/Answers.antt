@@ -1,86 +1,82 @@
 -- `report::program::refused_out` meets its contract: the line is put part by part.
-use contract.Lifetimes.{Lfts}
-use mathlib.Core.List.{List, [], ◌∷◌, ◌++◌}
-use Prim.Native.Nat.{ℕ, ◌+◌, ◌≤◌}
-use native.Mathlib.Omega.{arith}
-use lib.ListN.{length}
+use Rattle.std.proofs.Common.{◌≡◌, List, [], ◌∷◌, ◌++◌, ℕ, ◌+◌, ◌≤◌, length, arith}
+use Rattle.ground.specs.Paper.Answers.{number_of, value_of}
+use Rattle.ground.specs.Paper.Runs.{over}
+use Rattle.ground.specs.declared.refusal.Refusal.{Refusal}
 use Rattle.writing.specs.Paper.Written.{decimal}
 use Rattle.writing.specs.Laws.Written.{Going, going_none, going_as, going_next, going_more, going_whole}
-use Rattle.report.specs.Paper.Report.{refused_word, refused_line}
+use Rattle.report.specs.Paper.Report.{refused_word}
+use Rattle.report.specs.Helpers.Answers.{line_for}
 use Rattle.report.specs.Laws.Written.{refused_few, refused_parts}
 use Rattle.report.proofs.program.refused_out.Goals as goal
-use Rattle.report.proofs.program.refused_out.Lts as Places
-use Rattle.report.proofs.program.refused_out.Reads as Clauses
-use Rattle.report.proofs.program.refused_out.Tie as tie
 
--- what is known at these places
-abbrev Args : Lfts 1 → Type 0
-Args = Places.Args tie.the-claims Clauses.Pre Clauses.Post tie.handed_clauses
+-- a part is put over a row, from place p to place q
+abbrev Put : List ℕ → ℕ → List ℕ → List ℕ → ℕ → Type 0
+Put row p part row' q = (row' ≡ over row p part (p + length part)) × (q ≡ p + length part)
 
-abbrev Start : Type 0
-Start = Places.Start tie.the-claims Clauses.Pre Clauses.Post tie.handed_clauses
+module _ (e : Refusal) (out : List ℕ) (room : 64 ≤ length out) where
+  fits : 0 + length (line_for e) ≤ length out
+  fits = omega (arith, refused_few (number_of e) (value_of e))
 
-abbrev After-text_out-p : Type 0
-After-text_out-p = Places.After-text_out tie.the-claims Clauses.Pre Clauses.Post tie.handed_clauses
+  module _ {row1 : List ℕ} {p1 : ℕ} (s1 : Put out 0 refused_word row1 p1) where
+    going1 : Going (line_for e) out 0 row1 p1 (decimal (number_of e) ++ (32 ∷ (decimal (value_of e) ++ (10 ∷ []))))
+    going1 = going_more fits refused_word (going_as (refused_parts (number_of e) (value_of e)) (going_none (line_for e) out 0)) s1.0 s1.1
 
-abbrev After-decimal_out-p : Type 0
-After-decimal_out-p = Places.After-decimal_out tie.the-claims Clauses.Pre Clauses.Post tie.handed_clauses
+    module _ {row2 : List ℕ} {p2 : ℕ} (s2 : Put row1 p1 (decimal (number_of e)) row2 p2) where
+      going2 : Going (line_for e) out 0 row2 p2 (32 ∷ (decimal (value_of e) ++ (10 ∷ [])))
+      going2 = going_more fits (decimal (number_of e)) going1 s2.0 s2.1
 
-abbrev After-text_out-p-2 : Type 0
-After-text_out-p-2 = Places.After-text_out2 tie.the-claims Clauses.Pre Clauses.Post tie.handed_clauses
+      module _ {row3 : List ℕ} {p3 : ℕ} (s3 : Put row2 p2 (32 ∷ []) row3 p3) where
+        going3 : Going (line_for e) out 0 row3 p3 (decimal (value_of e) ++ (10 ∷ []))
+        going3 = going_more fits (32 ∷ []) going2 s3.0 s3.1
 
-abbrev After-decimal_out-p-2 : Type 0
-After-decimal_out-p-2 = Places.After-decimal_out2 tie.the-claims Clauses.Pre Clauses.Post tie.handed_clauses
-
-abbrev After-text_out : Type 0
-After-text_out = Places.After-text_out3 tie.the-claims Clauses.Pre Clauses.Post tie.handed_clauses
-
-abbrev line : {κs : Lfts 1} → Args κs → List ℕ
-line s = refused_line s.number s.value
-
-room : (s : Start) → 0 + length (line s.args) ≤ length s.args.out.now
-room s = omega (arith, s.requires, refused_few s.args.number s.args.value)
-
--- what is put at a place
-abbrev Put : {κs : Lfts 1} → Args κs → List ℕ → ℕ → List ℕ → Type 0
-Put s out p rest = Going (line s) s.out.now 0 out p rest
-
--- ---- behind each call: the function's start, and what is put
-
-put1 : (c : After-text_out-p)
-    → let a = c.args in Put c.args c.text_out-p.new.out c.text_out-p.result (decimal a.number ++ (32 ∷ (decimal a.value ++ (10 ∷ []))))
-unfolding refused_word
-put1 c =
-    let g = going_as (refused_parts c.args.number c.args.value) (going_none (line c.args) c.args.out.now 0) in
-    going_more (room c.before.before.before.before.before) refused_word g c.text_out-p.ensures.out c.text_out-p.ensures.next
-
-put2 : (c : After-decimal_out-p) → Put c.args c.decimal_out-p.new.out c.decimal_out-p.result (32 ∷ (decimal c.args.value ++ (10 ∷ [])))
-put2 c = going_more (room c.before.before.before.before.before.before.before.before.before) (decimal c.args.number) (put1 c.before.before.before.before) c.decimal_out-p.ensures.out c.decimal_out-p.ensures.next
-
-put3 : (c : After-text_out-p-2) → Put c.args c.text_out-p-2.new.out c.text_out-p-2.result (decimal c.args.value ++ (10 ∷ []))
-put3 c = going_more (room c.before.before.before.before.before.before.before.before.before.before.before.before.before.before.before) (32 ∷ []) (put2 c.before.before.before.before.before.before) c.text_out-p-2.ensures.out c.text_out-p-2.ensures.next
-
-put4 : (c : After-decimal_out-p-2) → Put c.args c.decimal_out-p-2.new.out c.decimal_out-p-2.result (10 ∷ [])
-put4 c = going_more (room c.before.before.before.before.before.before.before.before.before.before.before.before.before.before.before.before.before.before.before) (decimal c.args.value) (put3 c.before.before.before.before) c.decimal_out-p-2.ensures.out c.decimal_out-p-2.ensures.next
-
-put5 : (c : After-text_out) → Put c.args c.text_out.new.out c.text_out.result []
-put5 c = going_more (room c.before.before.before.before.before.before.before.before.before.before.before.before.before.before.before.before.before.before.before.before.before.before.before.before.before) (10 ∷ []) (put4 c.before.before.before.before.before.before) c.text_out.ensures.out c.text_out.ensures.next
-
--- ---- what is left
+        going4 : {row4 : List ℕ} {p4 : ℕ} → Put row3 p3 (decimal (value_of e)) row4 p4 → Going (line_for e) out 0 row4 p4 (10 ∷ [])
+        going4 s4 = going_more fits (decimal (value_of e)) going3 s4.0 s4.1
 
 pub decimal_out-p-requires : goal.decimal_out-p-requires
-decimal_out-p-requires c = going_next (room c.before.before.before.before.before.before.before.before) (decimal c.args.number) _ (put1 c.before.before.before)
+unfolding refused_word
+decimal_out-p-requires c =
+    let e = c.args.refusal in
+    let t = c.text_out-p.ensures in
+    rw (c.from.ensures, c.number.ensures) (going_next (fits e c.args.out.now c.requires) (decimal (number_of e)) _ (going1 e c.args.out.now c.requires (t.out, t.next)))
 
 pub text_out-p-requires-2 : goal.text_out-p-requires-2
-text_out-p-requires-2 c = going_next (room c.before.before.before.before.before.before.before.before.before.before.before.before.before.before) (32 ∷ []) _ (put2 c.before.before.before.before.before)
+unfolding refused_word
+text_out-p-requires-2 c =
+    let e = c.args.refusal in
+    let t = c.text_out-p.ensures in
+    let n = rw (c.from.ensures, c.number.ensures) at c.decimal_out-p.ensures in
+    going_next (fits e c.args.out.now c.requires) (32 ∷ []) _ (going2 e c.args.out.now c.requires (t.out, t.next) (n.out, n.next))
 
 pub decimal_out-p-requires-2 : goal.decimal_out-p-requires-2
-decimal_out-p-requires-2 c = going_next (room c.before.before.before.before.before.before.before.before.before.before.before.before.before.before.before.before.before.before) (decimal c.args.value) _ (put3 c.before.before.before)
+unfolding refused_word
+decimal_out-p-requires-2 c =
+    let e = c.args.refusal in
+    let t = c.text_out-p.ensures in
+    let n = rw (c.from.ensures, c.number.ensures) at c.decimal_out-p.ensures in
+    let b = c.text_out-p-2.ensures in
+    rw c.value.ensures (going_next (fits e c.args.out.now c.requires) (decimal (value_of e)) _ (going3 e c.args.out.now c.requires (t.out, t.next) (n.out, n.next) (b.out, b.next)))
 
 pub text_out-requires : goal.text_out-requires
-text_out-requires c = going_next (room c.before.before.before.before.before.before.before.before.before.before.before.before.before.before.before.before.before.before.before.before.before.before.before.before) (10 ∷ []) _ (put4 c.before.before.before.before.before)
+unfolding refused_word
+text_out-requires c =
+    let e = c.args.refusal in
+    let t = c.text_out-p.ensures in
+    let n = rw (c.from.ensures, c.number.ensures) at c.decimal_out-p.ensures in
+    let b = c.text_out-p-2.ensures in
+    let v = rw c.value.ensures at c.decimal_out-p-2.ensures in
+    going_next (fits e c.args.out.now c.requires) (10 ∷ []) _ (going4 e c.args.out.now c.requires (t.out, t.next) (n.out, n.next) (b.out, b.next) (v.out, v.next))
 
 pub returns : goal.returns
+unfolding refused_word
 returns c =
-    let w = going_whole (room c.before.before.before.before.before.before.before.before.before.before.before.before.before.before.before.before.before.before.before.before.before.before.before.before.before.before.before.before) (put5 c.before.before.before) in
-    record { length = w.0; out = w.1 }
+    let e = c.args.refusal in
+    let t = c.text_out-p.ensures in
+    let n = rw (c.from.ensures, c.number.ensures) at c.decimal_out-p.ensures in
+    let b = c.text_out-p-2.ensures in
+    let v = rw c.value.ensures at c.decimal_out-p-2.ensures in
+    let w = c.text_out.ensures in
+    let g = going4 e c.args.out.now c.requires (t.out, t.next) (n.out, n.next) (b.out, b.next) (v.out, v.next) in
+    let h = fits e c.args.out.now c.requires in
+    let all = going_whole h (going_more h (10 ∷ []) g w.out w.next) in
+    record { length = all.0; out = all.1 }
