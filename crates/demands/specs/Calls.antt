@@ -1,14 +1,13 @@
 -- The text of a roll and its right directory, by the operations alone.
-use Rattle.std.specs.Prelude.{◌≡◌, refl, List, [], ◌++◌, ℕ, ◌+◌, ◌-◌, ◌≤◌, length, take, drop}
+use Rattle.std.specs.Prelude.{◌≡◌, refl, List, [], ◌++◌, ℕ, ◌+◌, ◌-◌, ◌≤◌, length, take, drop, Result, Ok}
 use Rattle.std.proofs.Common.{sym, ap, subst, ◌∙◌, append-nil, le_refl, le_of_eq, arith, length-take, take-append-drop, take_all, take_at, drop_at, drop-drop}
 use Rattle.std.proofs.Math.Nat.{sub-zero}
 use Rattle.std.proofs.Math.Seq.{drop-length}
 use Rattle.ground.specs.Paper.Rows.{zeros}
 use Rattle.ground.specs.Laws.Rows.{length_zeros}
 use Rattle.ground.specs.Paper.Runs.{run}
-use Rattle.ground.specs.Laws.Answers.{done_one}
-use Rattle.ground.specs.declared.answers.Done.{Done}
-use Rattle.ground.specs.declared.answers.Done.TheVariants.{Yes}
+use Rattle.ground.specs.Laws.Answers.{says_one}
+use Rattle.ground.specs.declared.refusal.Refusal.{Refusal}
 use Rattle.stopper.specs.declared.table.Table.{Table}
 use Rattle.texts.specs.Paper.Directory.{entries}
 use Rattle.texts.specs.Paper.Edited.{edited}
@@ -21,17 +20,16 @@ use Rattle.sound.specs.declared.records.Roll.{Roll}
 use Rattle.roll.specs.Paper.Operations.{Packing, Checking, Unpacking, Making}
 use Rattle.roll.specs.Laws.Accepting.{sound_accepted, unpacks_is}
 use Rattle.roll.specs.Laws.Operations.{unpack_yes, make_yes}
-use Rattle.roll.specs.declared.pack.Packed.{Packed}
 use Rattle.demands.specs.Meaning.{unpacks_range, unpacks_text, packing_sound}
 use Rattle.demands.specs.Made.{made_right}
 
 -- unpacking the whole roll gives this text
 abbrev pub TextIs : Roll → List ℕ → List ℕ → Type 0
-TextIs r buf text = Unpacking r buf 0 r.n (zeros r.n) Yes text
+TextIs r buf text = Unpacking r buf 0 r.n (zeros r.n) (Ok tt) text
 
 -- making the directory again changes nothing in it
 abbrev pub DirectoryIs : Roll → List ℕ → List ℕ → Type 0
-DirectoryIs r buf dir = Making r buf dir Yes dir
+DirectoryIs r buf dir = Making r buf dir (Ok tt) dir
 
 -- a text that fills what is lent
 filled : (text : List ℕ) (n : ℕ) → text ++ drop n (zeros n) ≡ text
@@ -69,20 +67,19 @@ pub text_one : {r : Roll} {buf a b : List ℕ} → TextIs r buf a → TextIs r b
 text_one p q = text_is p ∙ sym (text_is q)
 
 -- it passes the check, and a range of it is unpacked
-pub text_checked : {r : Roll} {buf text : List ℕ} {answer : Done} → TextIs r buf text → Checking r buf answer → answer ≡ Yes
-text_checked {answer = answer} t p = done_one answer Yes (p.says ∙ sound_accepted (text_sound t))
+pub text_checked : {r : Roll} {buf text : List ℕ} {answer : Result (Unit {0}) Refusal} → TextIs r buf text → Checking r buf answer → answer ≡ Ok tt
+text_checked {answer = answer} t p = says_one answer (Ok tt) (p.says ∙ sound_accepted (text_sound t))
 
-pub text_unpacked : {r : Roll} {buf text out now : List ℕ} {start end : ℕ} {answer : Done} → TextIs r buf text → start ≤ end → end ≤ r.n → end - start ≤ length out
-    → Unpacking r buf start end out answer now → (answer ≡ Yes) × (now ≡ run text start end ++ drop (end - start) out)
+pub text_unpacked : {r : Roll} {buf text out now : List ℕ} {start end : ℕ} {answer : Result (Unit {0}) Refusal} → TextIs r buf text → start ≤ end → end ≤ r.n → end - start ≤ length out
+    → Unpacking r buf start end out answer now → (answer ≡ Ok tt) × (now ≡ run text start end ++ drop (end - start) out)
 text_unpacked {r} {buf} {text} {out} {now} {start} {end} t a b fits p =
     rw (text_is t) (unpacks_range r buf start end out p (record { sound = text_sound t; ordered = a; inside = b; fits = fits }))
 
 -- a packed text
-pub packed_text : {t : Table} {text buf after : List ℕ} {p : Packed} → Packing t text buf p after → p.answer ≡ Yes
-    → TextIs p.roll after text × (p.roll.table ≡ t) × (p.roll.n ≡ length text)
-packed_text {p = p} q y =
-    let (is, sound, text_is) = packing_sound q y in
-    (subst (TextIs p.roll _) text_is (sound_text sound), ap (λ (x : Roll). x.table) is, ap (λ (x : Roll). x.n) is)
+pub packed_text : {t : Table} {text buf after : List ℕ} {q : Roll} → Packing t text buf (Ok q) after → TextIs q after text × (q.table ≡ t) × (q.n ≡ length text)
+packed_text {q = q} p =
+    let (is, sound, text_is) = packing_sound p in
+    (subst (TextIs q _) text_is (sound_text sound), ap (λ (x : Roll). x.table) is, ap (λ (x : Roll). x.n) is)
 
 -- rows that agree past the greater of two places agree past both
 pub drop_past_both : (a b : List ℕ) {old now m : ℕ} → old ≤ m → now ≤ m → drop (now + (old - now)) a ≡ drop (now + (old - now)) b → drop m a ≡ drop m b

@@ -1,13 +1,12 @@
 -- The value of 6: the first symbol of the first bad codeword.
-use Rattle.std.specs.Prelude.{◌≡◌, refl, ◌⊎◌, true, List, [], ◌∷◌, ◌++◌, ℕ, ◌≤◌, ◌<◌, length, take, drop, get_or}
+use Rattle.std.specs.Prelude.{◌≡◌, refl, ◌⊎◌, true, List, [], ◌∷◌, ◌++◌, ℕ, ◌≤◌, ◌<◌, length, take, drop, get_or, Err}
 use Rattle.std.proofs.Common.{sym, ap, ◌∙◌, inl, inr, ⊎_elim, append-nil, zero-add, arith, length-append, take_at, drop_at}
 use Rattle.ground.specs.Paper.Refusals.{Row, refused, judged, ◌then◌}
-use Rattle.ground.specs.Laws.Answers.{says_as}
+use Rattle.ground.specs.Laws.Answers.{err_refused}
 use Rattle.ground.specs.Helpers.Below.{Below}
 use Rattle.ground.specs.Laws.Refusals.{Accepted, Refuses, refused_row, refused_parts}
 use Rattle.ground.specs.Laws.Rows.{below_take, below_drop}
-use Rattle.ground.specs.declared.answers.Done.TheVariants.{Refused}
-use Rattle.ground.specs.declared.answers.Total.TheVariants.{Refused as total_refused}
+use Rattle.ground.specs.declared.refusal.Refusal.TheVariants.{BadCodeword as bad_codeword}
 use Rattle.stopper.specs.Paper.Code.{Good}
 use Rattle.stopper.specs.Paper.Reading.{Reading, done, bad, Fault, unfinished, beyond, read_from, write}
 use Rattle.stopper.specs.Paper.Table.{base, stoppers, word_of}
@@ -22,8 +21,7 @@ use Rattle.reading.specs.Paper.Reading.{row_upto, is_bad, first_bad}
 use Rattle.sound.specs.Paper.Roll.{text_of, reading_from, reading}
 use Rattle.sound.specs.Laws.Sound.{row_length}
 use Rattle.sound.specs.declared.records.Roll.{Roll}
-use Rattle.roll.specs.Paper.Operations.{fit_rows, fit_says, check_rows, check_says, Checking, unpack_rows, unpack_says, Unpacking, make_rows, make_says, Making, search_rows, search_says, Searching, directory_rows, directory_says, edit_rows, edit_says, Editing}
-use Rattle.roll.specs.declared.edit.Edited.{Edited}
+use Rattle.roll.specs.Paper.Operations.{fit_rows, fit_says, check_rows, check_says, Checking, unpack_rows, unpack_says, Unpacking, make_rows, make_says, Making, search_rows, search_says, Searching, directory_rows, directory_says, edit_rows, edit_says, edit_roll, Editing}
 use Rattle.roll.specs.Laws.Accepting.{fits_is}
 
 -- a row that starts with a bad codeword: one that does not end, or one of rank σ or more
@@ -71,7 +69,7 @@ longer : (rest : List ℕ) → (rest ≡ [] → ⊥) → 0 < length rest
 longer [] n = absurd (n refl)
 longer (x ∷ rest) n = omega arith
 
-pub fault_check : {r : Roll} {buf : List ℕ} {v : ℕ} → Checking r buf (Refused 6 v) → FaultAt r buf v
+pub fault_check : {r : Roll} {buf : List ℕ} {v : ℕ} → Checking r buf (Err (bad_codeword v)) → FaultAt r buf v
 unfolding reading_from
 fault_check {r} {buf} {v} p =
     let (fit, is, at) = refused_6 r buf (sym p.says) in
@@ -106,12 +104,12 @@ fault_check {r} {buf} {v} p =
 Others : List Row → Type 0
 Others rows = (v : ℕ) → Refuses rows 6 v → ⊥
 
-from_check : {A : Type 0} {r : Roll} {buf : List ℕ} {v : ℕ} (rows : List Row) (answer : A) → Others rows → (check_says r buf then judged rows answer) ≡ refused 6 v → Checking r buf (Refused 6 v)
+from_check : {A : Type 0} {r : Roll} {buf : List ℕ} {v : ℕ} (rows : List Row) (answer : A) → Others rows → (check_says r buf then judged rows answer) ≡ refused 6 v → Checking r buf (Err (bad_codeword v))
 unfolding Others
 from_check {r = r} {buf = buf} {v = v} rows answer n e =
     ⊎_elim (λ x. record { says = sym x }) (λ p. absurd (n v (refused_row rows answer p.1))) (refused_parts (check_says r buf) e)
 
-pub fault_unpack : {r : Roll} {buf out after : List ℕ} {start end v : ℕ} → Unpacking r buf start end out (Refused 6 v) after → FaultAt r buf v
+pub fault_unpack : {r : Roll} {buf out after : List ℕ} {start end v : ℕ} → Unpacking r buf start end out (Err (bad_codeword v)) after → FaultAt r buf v
 unfolding unpack_says Others
 fault_unpack {r} {buf} {out} {after} {start} {end} p =
     fault_check
@@ -119,21 +117,21 @@ fault_unpack {r} {buf} {out} {after} {start} {end} p =
     (λ v x. ⊎_elim (λ a. omega (arith, a.1)) (λ a. ⊎_elim (λ b. omega (arith, b.1)) (λ b. b.1) a.1) x)
     (sym p.says))
 
-pub fault_make : {r : Roll} {buf dir after : List ℕ} {v : ℕ} → Making r buf dir (Refused 6 v) after → FaultAt r buf v
+pub fault_make : {r : Roll} {buf dir after : List ℕ} {v : ℕ} → Making r buf dir (Err (bad_codeword v)) after → FaultAt r buf v
 unfolding make_says Others
 fault_make {r} {buf} {dir} p =
     fault_check (from_check (make_rows r dir) tt (λ v x. ⊎_elim (λ a. omega (arith, a.1)) (λ a. a.1) x) (sym p.says))
 
-pub fault_search : {r : Roll} {buf pattern slice after : List ℕ} {v : ℕ} → Searching r buf pattern slice (total_refused 6 v) after → FaultAt r buf v
+pub fault_search : {r : Roll} {buf pattern slice after : List ℕ} {v : ℕ} → Searching r buf pattern slice (Err (bad_codeword v)) after → FaultAt r buf v
 unfolding search_says Others
 fault_search {r} {buf} {pattern} p =
     fault_check
     (from_check (search_rows pattern) (length (hits pattern (text_of r buf))) (λ v x. ⊎_elim (λ a. omega (arith, a.1)) (λ a. a.1) x) (sym p.says))
 
-pub fault_edit : {r : Roll} {buf dir new after dir_after : List ℕ} {start end v : ℕ} {e : Edited} → Editing r buf dir start end new e after dir_after
-    → e.answer ≡ Refused 6 v → FaultAt r buf v
+pub fault_edit : {r : Roll} {buf dir new after dir_after : List ℕ} {start end v : ℕ}
+    → Editing r buf dir start end new (Err (bad_codeword v)) after dir_after → FaultAt r buf v
 unfolding edit_says directory_says Others
-fault_edit {r} {buf} {dir} {new} {after} {dir_after} {start} {end} {v} p y =
+fault_edit {r} {buf} {dir} {new} {after} {dir_after} {start} {end} {v} p =
     ⊎_elim
     (λ x. fault_check (from_check (directory_rows r buf dir) tt (λ v x. ⊎_elim (λ a. omega (arith, a.1)) (λ a. a.1) x) x))
     (λ q.
@@ -146,4 +144,4 @@ fault_edit {r} {buf} {dir} {new} {after} {dir_after} {start} {end} {v} p y =
     (λ b. ⊎_elim (λ c. omega (arith, c.1)) (λ c. ⊎_elim (λ d. omega (arith, d.1)) (λ d. d.1) c.1) b.1)
     a.1)
     (refused_row (edit_rows r buf dir start end new) tt q.1)))
-    (refused_parts (directory_says r buf dir) (says_as p.says y))
+    (refused_parts (directory_says r buf dir) (err_refused (edit_roll r buf dir start end new) p.says {e = bad_codeword v} refl))

@@ -1,13 +1,12 @@
 -- What a sound roll is: a text packed. Unpacking what was packed gives the text, and packing what was unpacked gives the roll.
-use Rattle.std.specs.Prelude.{◌≡◌, refl, ◌↔◌, List, ◌++◌, ℕ, ◌-◌, ◌≤◌, length, take, drop}
+use Rattle.std.specs.Prelude.{◌≡◌, refl, ◌↔◌, List, ◌++◌, ℕ, ◌-◌, ◌≤◌, length, take, drop, Result, Ok}
 use Rattle.std.proofs.Common.{sym, ap, ap₂, subst, ◌∙◌, le_refl, le_of_eq, arith, length-append, length-drop, take-append-drop, take_all, take_at}
 use Rattle.std.proofs.Math.Nat.{sub-zero}
 use Rattle.ground.specs.Paper.Runs.{run}
 use Rattle.ground.specs.Helpers.Below.{Below}
-use Rattle.ground.specs.Laws.Answers.{says_as, done_one}
+use Rattle.ground.specs.Laws.Answers.{says_one, ok_accepted}
 use Rattle.ground.specs.Laws.Refusals.{accepted_leaves, Accepted}
-use Rattle.ground.specs.declared.answers.Done.{Done}
-use Rattle.ground.specs.declared.answers.Done.TheVariants.{Yes}
+use Rattle.ground.specs.declared.refusal.Refusal.{Refusal}
 use Rattle.stopper.specs.Paper.Table.{characters}
 use Rattle.stopper.specs.Laws.Table.{code_width, table_code}
 use Rattle.stopper.specs.declared.table.Table.{Table}
@@ -22,9 +21,8 @@ use Rattle.sound.specs.Laws.Sound.{text_length}
 use Rattle.sound.specs.Laws.Holding.{width_of, Holds, holds_sound, holds_text, sound_known, sound_record, sound_h, sound_symbols, sound_bytes, sound_holds}
 use Rattle.sound.specs.declared.records.Roll.{Roll}
 use Rattle.store.specs.Paper.Stored.{packed_into}
-use Rattle.roll.specs.Paper.Operations.{pack_says, Packing, Unpacking}
+use Rattle.roll.specs.Paper.Operations.{pack_says, pack_roll, Packing, Unpacking}
 use Rattle.roll.specs.Laws.Accepting.{Packs, packs_accepted, accepted_packs, Unpacks, unpacks_accepted}
-use Rattle.roll.specs.declared.pack.Packed.{Packed}
 
 -- ---- a packed text
 
@@ -88,15 +86,15 @@ sound_packed r buf long bytes = (λ s. (text_of r buf, sound_holds (record { sou
 
 module _ (r : Roll) (buf : List ℕ) (start end : ℕ) (out : List ℕ) where
   -- unpack, where it accepts, gives the characters of the range
-  pub unpacks_range : {answer : Done} {after : List ℕ} → Unpacking r buf start end out answer after → Unpacks r buf start end out
-      → (answer ≡ Yes) × (after ≡ run (text_of r buf) start end ++ drop (end - start) out)
+  pub unpacks_range : {answer : Result (Unit {0}) Refusal} {after : List ℕ} → Unpacking r buf start end out answer after → Unpacks r buf start end out
+      → (answer ≡ Ok tt) × (after ≡ run (text_of r buf) start end ++ drop (end - start) out)
   unpacks_range {answer} {after} p u =
       let e = unpacks_accepted r buf start end out u in
-      (done_one answer Yes (p.says ∙ e), p.leaves ∙ accepted_leaves e _ _)
+      (says_one answer (Ok tt) (p.says ∙ e), p.leaves ∙ accepted_leaves e _ _)
 
 -- the whole text
-pub unpacks_text : {r : Roll} {buf : List ℕ} (out : List ℕ) → Sound r buf → r.n ≤ length out → {answer : Done} {after : List ℕ}
-    → Unpacking r buf 0 r.n out answer after → (answer ≡ Yes) × (after ≡ text_of r buf ++ drop r.n out)
+pub unpacks_text : {r : Roll} {buf : List ℕ} (out : List ℕ) → Sound r buf → r.n ≤ length out → {answer : Result (Unit {0}) Refusal} {after : List ℕ}
+    → Unpacking r buf 0 r.n out answer after → (answer ≡ Ok tt) × (after ≡ text_of r buf ++ drop r.n out)
 unpacks_text {r} {buf} out s h p =
     let q = unpacks_range r buf 0 r.n out p (record { sound = s; ordered = omega arith; inside = le_refl r.n; fits = omega arith }) in
     let e : r.n - 0 ≡ r.n = sub-zero r.n in
@@ -104,21 +102,20 @@ unpacks_text {r} {buf} out s h p =
     (q.0, q.1 ∙ ap (λ (n : ℕ). take n (text_of r buf) ++ drop n out) e ∙ ap (λ (l : List ℕ). l ++ drop r.n out) f)
 
 -- pack, if it accepts, leaves a sound roll with that text
-pub packing_sound : {t : Table} {text buf : List ℕ} {r : Packed} {after : List ℕ} → Packing t text buf r after → r.answer ≡ Yes
-    → (r.roll ≡ record_of t text) × Sound r.roll after × (text_of r.roll after ≡ text)
-packing_sound {t} {text} {buf} {r} {after} p y =
-    let e = says_as p.says y in
-    let q = accepted_packs t text buf e in
-    let a : r.roll ≡ record_of t text = p.roll ∙ accepted_leaves e _ _ in
+pub packing_sound : {t : Table} {text buf : List ℕ} {q : Roll} {after : List ℕ} → Packing t text buf (Ok q) after
+    → (q ≡ record_of t text) × Sound q after × (text_of q after ≡ text)
+packing_sound {t} {text} {buf} {q} {after} p =
+    let (e, roll) = ok_accepted (pack_roll t text buf) p.says refl in
+    let packs = accepted_packs t text buf e in
+    let a : q ≡ record_of t text = roll ∙ accepted_leaves e _ _ in
     let b : after ≡ packed_into t.code.k (symbols_for t text) buf = p.leaves ∙ accepted_leaves e _ _ in
-    (a, rw (a, b) (packed_sound t text buf q), rw (a, b) (unpack_pack t text buf q))
+    (a, rw (a, b) (packed_sound t text buf packs), rw (a, b) (unpack_pack t text buf packs))
 
 -- and unpack then gives that text
-pub packing_unpacking : {t : Table} {text buf : List ℕ} {r : Packed} {after : List ℕ} → Packing t text buf r after → r.answer ≡ Yes
-    → (out : List ℕ) → length text ≤ length out → {answer : Done} {now : List ℕ} → Unpacking r.roll after 0 (length text) out answer now
-    → (answer ≡ Yes) × (now ≡ text ++ drop (length text) out)
-packing_unpacking {t} {text} {buf} {r} {after} p y out h {answer} {now} u =
-    let (a, s, e) = packing_sound p y in
-    let n : r.roll.n ≡ length text = ap (λ (x : Roll). x.n) a in
-    let q = unpacks_text out s (rw n h) (subst (λ (m : ℕ). Unpacking r.roll after 0 m out answer now) (sym n) u) in
-    (q.0, q.1 ∙ ap₂ (λ (x : List ℕ) (m : ℕ). x ++ drop m out) e n)
+pub packing_unpacking : {t : Table} {text buf : List ℕ} {q : Roll} {after : List ℕ} → Packing t text buf (Ok q) after → (out : List ℕ) → length text ≤ length out
+    → {answer : Result (Unit {0}) Refusal} {now : List ℕ} → Unpacking q after 0 (length text) out answer now → (answer ≡ Ok tt) × (now ≡ text ++ drop (length text) out)
+packing_unpacking {t} {text} {buf} {q} {after} p out h {answer} {now} u =
+    let (a, s, e) = packing_sound p in
+    let n : q.n ≡ length text = ap (λ (x : Roll). x.n) a in
+    let x = unpacks_text out s (rw n h) (subst (λ (m : ℕ). Unpacking q after 0 m out answer now) (sym n) u) in
+    (x.0, x.1 ∙ ap₂ (λ (x : List ℕ) (m : ℕ). x ++ drop m out) e n)

@@ -1,6 +1,6 @@
 -- A roll that comes in pieces, by the operations alone: any cutting gives the same, the hits are those of the text read so far, and finishing says what check says.
 use Rattle.std.proofs.Math.Path.{◌≡◌, sym, ap, ap₂}
-use Rattle.std.specs.Prelude.{refl, ◌≢◌, ◌⊎◌, ◌↔◌, true, false, not, T, ltb, eqb, replicate}
+use Rattle.std.specs.Prelude.{refl, ◌≢◌, ◌⊎◌, ◌↔◌, true, false, not, T, ltb, eqb, replicate, Result, Ok, Err}
 use Rattle.std.proofs.Common.{subst, ◌∙◌, lt_of_not-le, arith, length-append}
 use Rattle.std.proofs.Math.Logic.{inl, inr, ⊎_elim}
 use mathlib.Core.List.{List, [], ◌∷◌, ◌++◌, flatten}
@@ -11,14 +11,12 @@ use Rattle.std.proofs.Math.ListN.{length, take, drop}
 use Rattle.std.proofs.Math.Seq.{take_at}
 use Rattle.ground.specs.Paper.Limit.{limit}
 use Rattle.ground.specs.Paper.Refusals.{accepted, refused, judged}
-use Rattle.ground.specs.Paper.Answers.{done_says}
-use Rattle.ground.specs.Laws.Answers.{says_as, done_one, total_one}
+use Rattle.ground.specs.Paper.Answers.{number_of, value_of, outcome_of}
+use Rattle.ground.specs.Laws.Answers.{says_as, says_one, accepted_ok, ok_accepted, err_refused}
 use Rattle.ground.specs.Laws.Refusals.{refused_keeps, accepted_leaves, accepted_none, accepted_parts, Refuses, refused_row, refused_parts}
 use Rattle.ground.specs.Laws.Tests.{neither, yes_true, true_yes}
-use Rattle.ground.specs.declared.answers.Done.{Done}
-use Rattle.ground.specs.declared.answers.Done.TheVariants.{Yes, Refused}
-use Rattle.ground.specs.declared.answers.Total.{Total}
-use Rattle.ground.specs.declared.answers.Total.TheVariants.{Of}
+use Rattle.ground.specs.declared.refusal.Refusal.{Refusal}
+use Rattle.ground.specs.declared.refusal.Refusal.TheVariants.{BadSymbolCount, BadCodeword, BadPattern, ShortHits}
 use Rattle.stopper.specs.Paper.Table.{good_code, good_table}
 use Rattle.stopper.specs.Laws.Characters.{◌∈◌}
 use Rattle.stopper.specs.Laws.Table.{table_code, code_width}
@@ -32,7 +30,7 @@ use Rattle.reading.specs.Paper.Reading.{is_bad, first_bad}
 use Rattle.sound.specs.Paper.Roll.{reading, text_of, Sound}
 use Rattle.sound.specs.declared.records.Roll.{Roll}
 use Rattle.judge.specs.Paper.Judge.{judge_for, judge_after, verdict_rows, verdict_says}
-use Rattle.radio.specs.Paper.Operations.{start_rows, start_says, searcher_for, Starting, code_in, kept_rows, kept_says, feed_rows, feed_reads, searcher_after, hits_named, bad_rows, feed_says, feed_hits, Feeding, finish_says, Finishing}
+use Rattle.radio.specs.Paper.Operations.{start_rows, start_says, searcher_for, start_searcher, Starting, code_in, kept_rows, kept_says, feed_rows, feed_reads, searcher_after, hits_named, bad_rows, feed_says, feed_hits, Feeding, finish_says, Finishing}
 use Rattle.judge.specs.Laws.Reading.{first_one}
 use Rattle.judge.specs.Laws.Judged.{judge_roll, judge_bad, judge_part, judge_whole, verdict_is}
 use Rattle.radio.specs.Laws.Joined.{after_roll, after_none, hits_none, after_bad, hits_bad, after_append, hits_append, hits_so_far}
@@ -41,7 +39,6 @@ use Rattle.radio.specs.Laws.Kept.{start_kept, kept_after, bytes_after_lem}
 use Rattle.judge.specs.declared.records.Progress.{Progress}
 use Rattle.judge.specs.declared.records.Judge.{Judge}
 use Rattle.radio.specs.declared.records.Searcher.{Searcher}
-use Rattle.radio.specs.declared.start.Started.{Started}
 use Rattle.radio.specs.declared.feed.Fed.{Fed}
 use Rattle.roll.specs.Paper.Operations.{fit_rows, fit_says, check_rows, check_says, Checking, Searching}
 use Rattle.roll.specs.Laws.Accepting.{fits_is, accepted_sound, searches_is}
@@ -53,7 +50,7 @@ Within s = kept_says s ≡ accepted tt
 
 -- a call that read its piece, or answered 6
 abbrev pub Took : Fed → Type 0
-Took r = (r.answer ≡ Yes) ⊎ ((v : ℕ) × (r.answer ≡ Refused 6 v))
+Took r = (r.answer ≡ Ok tt) ⊎ ((v : ℕ) × (r.answer ≡ Err (BadCodeword v)))
 
 -- pieces fed one after the other, none refused 5 or 14: the hits written, and the searcher then
 pub data FedAll : Searcher → List (List ℕ) → List ℕ → Searcher → Type 0 where
@@ -67,7 +64,7 @@ pub record One (s : Searcher) (piece : List ℕ) (r : Fed) (after : List ℕ) : 
   pub within : Within r.searcher
   pub searcher : r.searcher ≡ searcher_after s piece
   pub hits : take r.hits after ≡ hits_named s piece
-  pub says : done_says r.answer ≡ judged (bad_rows r.searcher) tt
+  pub says : outcome_of r.answer ≡ judged (bad_rows r.searcher) tt
   pub bytes : r.searcher.judge.progress.bad ≡ 0
       → bytes_for (code_in s).k r.searcher.judge.progress.read ≡ bytes_for (code_in s).k s.judge.progress.read + length piece
 
@@ -100,20 +97,20 @@ module _ {s : Searcher} {piece slice after : List ℕ} {r : Fed} (w : Within s) 
       stays : {n v : ℕ} → feed_reads s piece slice ≡ refused n v → Within r.searcher
       stays e = rw (p.searcher ∙ refused_keeps e _ _) w
 
-  -- so it answers Yes, 6, 5 or 14
-  pub feed_answers : Took r ⊎ ((r.answer ≡ Refused 5 s.judge.roll.h) ⊎ (r.answer ≡ Refused 14 (length piece * per wide)))
+  -- so it answers Ok, 6, 5 or 14
+  pub feed_answers : Took r ⊎ ((r.answer ≡ Err (BadSymbolCount s.judge.roll.h)) ⊎ (r.answer ≡ Err (ShortHits (length piece * per wide))))
   unfolding feed_says
   feed_answers =
-      by_reads (λ _ e. inl (inr (_, says e))) (λ e. inr (inl (says e))) (λ e. inr (inr (says e))) (λ e. inl (read e))
+      by_reads (λ _ e. inl (inr (_, says (BadCodeword _) e))) (λ e. inr (inl (says (BadSymbolCount _) e))) (λ e. inr (inr (says (ShortHits _) e))) (λ e. inl (read e))
     where
-      says : {n v : ℕ} → feed_reads s piece slice ≡ refused n v → r.answer ≡ Refused n v
-      says {n} {v} e = done_one r.answer (Refused n v) (p.says ∙ rw e)
+      says : (q : Refusal) → feed_reads s piece slice ≡ refused (number_of q) (value_of q) → r.answer ≡ Err q
+      says q e = says_one r.answer (Err q) (p.says ∙ rw e)
 
       read : feed_reads s piece slice ≡ accepted tt → Took r
       read e =
           elim (ℕ_discrete (searcher_after s piece).judge.progress.bad 0) [
-            | yes b ↦ inl (done_one r.answer Yes (p.says ∙ rw (e, eq-eqb _ _ b)))
-            | no b ↦ inr (_, done_one r.answer (Refused 6 (searcher_after s piece).judge.progress.first) (p.says ∙ rw (e, ne_eqb _ _ b)))
+            | yes b ↦ inl (says_one r.answer (Ok tt) (p.says ∙ rw (e, eq-eqb _ _ b)))
+            | no b ↦ inr (_, says_one r.answer (Err (BadCodeword (searcher_after s piece).judge.progress.first)) (p.says ∙ rw (e, ne_eqb _ _ b)))
           ]
 
 module _ {s : Searcher} {piece slice after : List ℕ} {r : Fed} (w : Within s) (p : Feeding s piece slice r after) (t : Took r) where
@@ -121,10 +118,10 @@ module _ {s : Searcher} {piece slice after : List ℕ} {r : Fed} (w : Within s) 
   not_took : {n v : ℕ} → n ≢ 6 → feed_reads s piece slice ≡ refused n v → ⊥
   unfolding feed_says
   not_took {n} {v} d e =
-      let says : done_says r.answer ≡ refused n v = p.says ∙ rw e in
+      let says : outcome_of r.answer ≡ refused n v = p.says ∙ rw e in
       ⊎_elim
-      (λ y. let z : ◌≡◌ {A = ℕ} 0 1 = cc in omega arith)
-      (λ y. let (v', f) = y in d cc)
+      (λ y. let x = sym says ∙ ap outcome_of y in let z : ◌≡◌ {A = ℕ} 0 1 = cc in omega arith)
+      (λ y. let x = sym says ∙ ap outcome_of y.1 in d cc)
       t
 
   pub fed_one : One s piece r after
@@ -219,35 +216,35 @@ feed_two {s} {a} {b} {r₁ = r₁} {r₂ = r₂} {r₃ = r₃} w p t q u j v =
     let same : r₃.searcher ≡ r₂.searcher = z.searcher ∙ after_append s g a b ∙ ap (λ (x : Searcher). searcher_after x b) (sym x.searcher) ∙ sym y.searcher in (
       z.hits ∙ hits_append s g a b ∙ ap₂ (λ (l m : List ℕ). l ++ m) (sym x.hits) (ap (λ (x : Searcher). hits_named x b) (sym x.searcher) ∙ sym y.hits),
       same,
-      done_one r₃.answer r₂.answer (z.says ∙ ap (λ (x : Searcher). judged (bad_rows x) tt) same ∙ sym y.says),
+      says_one r₃.answer r₂.answer (z.says ∙ ap (λ (x : Searcher). judged (bad_rows x) tt) same ∙ sym y.says),
     )
 
 -- ---- the answers
 
 -- what each call answered
-unfoldable pub answers : {s s' : Searcher} {pieces : List (List ℕ)} {found : List ℕ} → FedAll s pieces found s' → List Done
+unfoldable pub answers : {s s' : Searcher} {pieces : List (List ℕ)} {found : List ℕ} → FedAll s pieces found s' → List (Result (Unit {0}) Refusal)
 answers none = []
 answers (more {r = r} p t rest) = r.answer ∷ answers rest
 
-module _ (r : Fed) (says : done_says r.answer ≡ judged (bad_rows r.searcher) tt) where
-  says_good : r.searcher.judge.progress.bad ≡ 0 → r.answer ≡ Yes
-  says_good b = done_one r.answer Yes (says ∙ rw (eq-eqb _ _ b))
+module _ (r : Fed) (says : outcome_of r.answer ≡ judged (bad_rows r.searcher) tt) where
+  says_good : r.searcher.judge.progress.bad ≡ 0 → r.answer ≡ Ok tt
+  says_good b = says_one r.answer (Ok tt) (says ∙ rw (eq-eqb _ _ b))
 
-  says_bad : (v : ℕ) → r.searcher.judge.progress.bad ≢ 0 → r.searcher.judge.progress.first ≡ v → r.answer ≡ Refused 6 v
-  says_bad v b e = done_one r.answer (Refused 6 v) (says ∙ rw (ne_eqb _ _ b, e))
+  says_bad : (v : ℕ) → r.searcher.judge.progress.bad ≢ 0 → r.searcher.judge.progress.first ≡ v → r.answer ≡ Err (BadCodeword v)
+  says_bad v b e = says_one r.answer (Err (BadCodeword v)) (says ∙ rw (ne_eqb _ _ b, e))
 
--- no codeword was bad: Yes, each time
+-- no codeword was bad: Ok, each time
 pub answers_good : {s s' : Searcher} {pieces : List (List ℕ)} {found : List ℕ} → Within s → (f : FedAll s pieces found s') → s'.judge.progress.bad ≡ 0
-    → answers f ≡ replicate (length pieces) Yes
+    → answers f ≡ replicate (length pieces) (Ok tt)
 unfolding answers
 answers_good w none b = refl
 answers_good w (more {r = r} p t rest) b =
     let o = fed_one w p t in
-    ap₂ (λ (a : Done) (l : List Done). a ∷ l) (says_good r o.says (good_came (fed_came o.within rest) b)) (answers_good o.within rest b)
+    ap₂ (λ (a : Result (Unit {0}) Refusal) (l : List (Result (Unit {0}) Refusal)). a ∷ l) (says_good r o.says (good_came (fed_came o.within rest) b)) (answers_good o.within rest b)
 
 -- one was bad before: 6 with its first symbol, each time
 pub answers_later : {s s' : Searcher} {pieces : List (List ℕ)} {found : List ℕ} {v : ℕ} → Within s → (f : FedAll s pieces found s') → s.judge.progress.bad ≢ 0
-    → s.judge.progress.first ≡ v → answers f ≡ replicate (length pieces) (Refused 6 v)
+    → s.judge.progress.first ≡ v → answers f ≡ replicate (length pieces) (Err (BadCodeword v))
 unfolding answers
 answers_later w none b e = refl
 answers_later {s} {v = v} w (more {piece = piece} {r = r} p t rest) b e =
@@ -255,47 +252,51 @@ answers_later {s} {v = v} w (more {piece = piece} {r = r} p t rest) b e =
     let now : r.searcher ≡ s = o.searcher ∙ after_bad s piece b in
     let bad : r.searcher.judge.progress.bad ≢ 0 = λ z. b (rw now at z) in
     let first : r.searcher.judge.progress.first ≡ v = ap (λ (x : Searcher). x.judge.progress.first) now ∙ e in
-    ap₂ (λ (a : Done) (l : List Done). a ∷ l) (says_bad r o.says v bad first) (answers_later o.within rest bad first)
+    ap₂ (λ (a : Result (Unit {0}) Refusal) (l : List (Result (Unit {0}) Refusal)). a ∷ l) (says_bad r o.says v bad first) (answers_later o.within rest bad first)
 
--- one is bad: Yes up to the call that reads it, and 6 with its first symbol from there on
+-- one is bad: Ok up to the call that reads it, and 6 with its first symbol from there on
 pub answers_bad : {s s' : Searcher} {pieces : List (List ℕ)} {found : List ℕ} → Within s → (f : FedAll s pieces found s') → s.judge.progress.bad ≡ 0 → s'.judge.progress.bad ≢ 0
-    → (m n : ℕ) × (answers f ≡ replicate m Yes ++ replicate (suc n) (Refused 6 s'.judge.progress.first))
+    → (m n : ℕ) × (answers f ≡ replicate m (Ok tt) ++ replicate (suc n) (Err (BadCodeword s'.judge.progress.first)))
 unfolding answers
 answers_bad w none b d = absurd (d b)
 answers_bad {s' = s'} w (more {r = r} {pieces = pieces} p t rest) b d =
     let o = fed_one w p t in
     elim (ℕ_discrete r.searcher.judge.progress.bad 0) [
-      | yes c ↦ let (m, n, e) = answers_bad o.within rest c d in (suc m, n, ap₂ (λ (a : Done) (l : List Done). a ∷ l) (says_good r o.says c) e)
+      | yes c ↦ let (m, n, e) = answers_bad o.within rest c d in (suc m, n, ap₂ (λ (a : Result (Unit {0}) Refusal) (l : List (Result (Unit {0}) Refusal)). a ∷ l) (says_good r o.says c) e)
       | no c ↦
           let first : r.searcher.judge.progress.first ≡ s'.judge.progress.first = ap (λ (x : Searcher). x.judge.progress.first) (sym (bad_came (fed_came o.within rest) c)) in
-          (0, length pieces, ap₂ (λ (a : Done) (l : List Done). a ∷ l) (says_bad r o.says _ c first) (answers_later o.within rest c first))
+          (0, length pieces, ap₂ (λ (a : Result (Unit {0}) Refusal) (l : List (Result (Unit {0}) Refusal)). a ∷ l) (says_bad r o.says _ c first) (answers_later o.within rest c first))
     ]
 
 -- ---- a roll from its first byte on
 
-pub start_within : {r : Roll} {pattern : List ℕ} {st : Started} → Starting r pattern st → st.answer ≡ Yes → Within st.searcher
-start_within {r} {pattern} start y = let e = says_as start.says y in rw (start.searcher ∙ accepted_leaves e _ _) (start_kept r pattern e)
+pub start_within : {r : Roll} {pattern : List ℕ} {s : Searcher} → Starting r pattern (Ok s) → Within s
+start_within {r} {pattern} start =
+    let (e, made) = ok_accepted (start_searcher r pattern) start.says refl in
+    rw (made ∙ accepted_leaves e _ _) (start_kept r pattern e)
 
-started_good : {r : Roll} {pattern : List ℕ} {st : Started} → Starting r pattern st → st.answer ≡ Yes → T (good_pattern pattern)
+started_good : {r : Roll} {pattern : List ℕ} {s : Searcher} → Starting r pattern (Ok s) → T (good_pattern pattern)
 unfolding start_says
-started_good {r} {pattern} start y = true_yes _ (not-false (good_pattern pattern) (accepted_none (start_rows r pattern) tt (says_as start.says y)).1.1.0)
+started_good {r} {pattern} start =
+    let (e, made) = ok_accepted (start_searcher r pattern) start.says refl in
+    true_yes _ (not-false (good_pattern pattern) (accepted_none (start_rows r pattern) tt e).1.1.0)
 
 -- of a good table and an h within the limit a searcher is made for any pattern of 1 to 64 characters without byte 10
-pub start_accepts : {r : Roll} {pattern : List ℕ} {st : Started} → T (good_table r.table) → r.h ≤ limit → 1 ≤ length pattern → length pattern ≤ 64 → (10 ∈ pattern → ⊥)
-    → Starting r pattern st → st.answer ≡ Yes
+pub start_accepts : {r : Roll} {pattern : List ℕ} {st : Result Searcher Refusal} → T (good_table r.table) → r.h ≤ limit → 1 ≤ length pattern → length pattern ≤ 64
+    → (10 ∈ pattern → ⊥) → Starting r pattern st → (s : Searcher) × (st ≡ Ok s)
 start_accepts {r} {pattern} {st} t h low high line start =
-    done_one st.answer Yes (start.says ∙ start_accepted r pattern (yes_true _ t) h (yes_true _ (pattern_good pattern low high line)))
+    (start_searcher r pattern, accepted_ok (start_searcher r pattern) start.says (start_accepted r pattern (yes_true _ t) h (yes_true _ (pattern_good pattern low high line))))
 
 -- with byte 10 it is 11
-pub start_newline : {r : Roll} {pattern : List ℕ} {st : Started} → T (good_table r.table) → r.h ≤ limit → 10 ∈ pattern → Starting r pattern st
-    → st.answer ≡ Refused 11 0
+pub start_newline : {r : Roll} {pattern : List ℕ} {st : Result Searcher Refusal} → T (good_table r.table) → r.h ≤ limit → 10 ∈ pattern → Starting r pattern st
+    → st ≡ Err BadPattern
 start_newline {r} {pattern} {st} t h m start =
-    done_one st.answer (Refused 11 0) (start.says ∙ start_11 r pattern (yes_true _ t) h (pattern_newline pattern m))
+    let e = start_11 r pattern (yes_true _ t) h (pattern_newline pattern m) in
+    says_one st (Err BadPattern) (start.says ∙ rw e)
 
 -- no searcher is made for another pattern
-pub started_pattern : {r : Roll} {pattern : List ℕ} {st : Started} → Starting r pattern st → st.answer ≡ Yes
-    → (1 ≤ length pattern) × (length pattern ≤ 64) × (10 ∈ pattern → ⊥)
-started_pattern {pattern = pattern} start y = let good = started_good start y in (pattern_least pattern good, pattern_most pattern good, pattern_line pattern good)
+pub started_pattern : {r : Roll} {pattern : List ℕ} {s : Searcher} → Starting r pattern (Ok s) → (1 ≤ length pattern) × (length pattern ≤ 64) × (10 ∈ pattern → ⊥)
+started_pattern {pattern = pattern} start = let good = started_good start in (pattern_least pattern good, pattern_most pattern good, pattern_line pattern good)
 
 room_holds : (k h n : ℕ) → h ≤ limit → h ≤ n * per k → h ≤ room k n
 room_holds k h n l m =
@@ -304,8 +305,8 @@ room_holds k h n l m =
       | no a ↦ rw (room_all k n (lt_of_not-le a)) m
     ]
 
-module _ {r : Roll} {pattern : List ℕ} {st : Started} {pieces : List (List ℕ)} {found : List ℕ} {s' : Searcher} (start : Starting r pattern st) (y : st.answer ≡ Yes)
-    (fed : FedAll st.searcher pieces found s') where
+module _ {r : Roll} {pattern : List ℕ} {s : Searcher} {pieces : List (List ℕ)} {found : List ℕ} {s' : Searcher} (start : Starting r pattern (Ok s))
+    (fed : FedAll s pieces found s') where
   -- the bytes that came
   abbrev bytes : List ℕ
   bytes = flatten pieces
@@ -317,22 +318,22 @@ module _ {r : Roll} {pattern : List ℕ} {st : Started} {pieces : List (List ℕ
   p = s'.judge.progress
 
   begins : start_says r pattern ≡ accepted tt
-  begins = says_as start.says y
+  begins = (ok_accepted (start_searcher r pattern) start.says refl).0
 
-  made : st.searcher ≡ searcher_for r pattern
-  made = start.searcher ∙ accepted_leaves begins _ _
+  made : s ≡ searcher_for r pattern
+  made = (ok_accepted (start_searcher r pattern) start.says refl).1 ∙ accepted_leaves begins _ _
 
   first_within : Within (searcher_for r pattern)
   first_within = start_kept r pattern begins
 
   came : Came (searcher_for r pattern) bytes found s'
-  came = subst (λ (x : Searcher). Came x bytes found s') made (fed_came (start_within start y) fed)
+  came = subst (λ (x : Searcher). Came x bytes found s') made (fed_came (start_within start) fed)
 
   code : T (good_code r.table.code)
   code = within_code (searcher_for r pattern) first_within
 
   pattern_is_good : T (good_pattern pattern)
-  pattern_is_good = started_good start y
+  pattern_is_good = started_good start
 
   judge_is : s'.judge ≡ judge_after (judge_for r) bytes
   unfolding searcher_after
@@ -398,33 +399,33 @@ module _ {r : Roll} {pattern : List ℕ} {st : Started} {pieces : List (List ℕ
       room_holds k r.h (length bytes) (kept_limited (searcher_for r pattern) first_within)
       (omega (arith, roll_is, bytes_for_enough (code_width r.table.code code) p.read, ap (λ (n : ℕ). n * per k) all))
 
-  pub finish_sound : Finishing s' Yes → Checking r bytes Yes
+  pub finish_sound : Finishing s' (Ok tt) → Checking r bytes (Ok tt)
   finish_sound f = record { says = f.says ∙ finish_check (finished_fits (sym f.says)) }
 
   -- and as many bytes came as the roll has
-  pub finish_bytes : Finishing s' Yes → length bytes ≡ bytes_for k r.h
+  pub finish_bytes : Finishing s' (Ok tt) → length bytes ≡ bytes_for k r.h
   finish_bytes f = let s = accepted_sound r bytes (sym (finish_sound f).says) in all_in s.fits (good_read s.reads)
 
   -- and all hits are the search's
-  pub finish_search : {slice after : List ℕ} {answer : Total} → Finishing s' Yes → Searching r bytes pattern slice answer after
-      → (answer ≡ Of (length found)) × (after ≡ listed found slice)
+  pub finish_search : {slice after : List ℕ} {answer : Result ℕ Refusal} → Finishing s' (Ok tt) → Searching r bytes pattern slice answer after
+      → (answer ≡ Ok (length found)) × (after ≡ listed found slice)
   finish_search {slice} {after} {answer} f q =
       let e = (searches_is r bytes pattern).0 (accepted_sound r bytes (sym (finish_sound f).says), pattern_is_good) in
-      rw text_so_far (total_one answer (Of (length (hits pattern (text_of r bytes)))) (q.says ∙ e), q.leaves ∙ accepted_leaves e _ _)
+      rw text_so_far (says_one answer (Ok (length (hits pattern (text_of r bytes)))) (q.says ∙ e), q.leaves ∙ accepted_leaves e _ _)
 
   -- a sound roll: finishing accepts, and so did each call
-  module _ (c : Checking r bytes Yes) where
+  module _ (c : Checking r bytes (Ok tt)) where
     sound : Sound r bytes
     sound = accepted_sound r bytes (sym c.says)
 
-    pub sound_finish : {answer : Done} → Finishing s' answer → answer ≡ Yes
-    sound_finish {answer} f = done_one answer Yes (f.says ∙ finish_check sound.fits ∙ sym c.says)
+    pub sound_finish : {answer : Result (Unit {0}) Refusal} → Finishing s' answer → answer ≡ Ok tt
+    sound_finish {answer} f = says_one answer (Ok tt) (f.says ∙ finish_check sound.fits ∙ sym c.says)
 
-    pub sound_fed : answers fed ≡ replicate (length pieces) Yes
-    sound_fed = answers_good (start_within start y) fed (good_read sound.reads)
+    pub sound_fed : answers fed ≡ replicate (length pieces) (Ok tt)
+    sound_fed = answers_good (start_within start) fed (good_read sound.reads)
 
   -- a roll that check refuses with 6, 7 or 8
-  module _ {n v : ℕ} (c : Checking r bytes (Refused n v)) (late : 6 ≤ n) where
+  module _ {e : Refusal} (c : Checking r bytes (Err e)) (late : 6 ≤ number_of e) where
     refused_fits : r.h ≤ room k (length bytes)
     unfolding check_says fit_says
     refused_fits =
@@ -433,11 +434,11 @@ module _ {r : Roll} {pattern : List ℕ} {st : Started} {pieces : List (List ℕ
         (λ e. ((fits_is r bytes).1 e.0).1)
         (refused_parts (fit_says r bytes) (sym c.says))
 
-    pub refused_same : {answer : Done} → Finishing s' answer → answer ≡ Refused n v
-    refused_same {answer} f = done_one answer (Refused n v) (f.says ∙ finish_check refused_fits ∙ sym c.says)
+    pub refused_same : {answer : Result (Unit {0}) Refusal} → Finishing s' answer → answer ≡ Err e
+    refused_same {answer} f = says_one answer (Err e) (f.says ∙ finish_check refused_fits ∙ sym c.says)
 
   -- with 6: feeding names it too, the call that reads the bad codeword and each one after it, which changes nothing
-  module _ {v : ℕ} (c : Checking r bytes (Refused 6 v)) where
+  module _ {v : ℕ} (c : Checking r bytes (Err (BadCodeword v))) where
     six_row : (is_bad (reading r bytes) ≡ true) × (first_bad r.h (reading r bytes) ≡ v)
     unfolding check_says
     six_row =
@@ -455,17 +456,17 @@ module _ {r : Roll} {pattern : List ℕ} {st : Started} {pieces : List (List ℕ
     six_first : p.first ≡ v
     six_first = (bad_read six_bad).1 ∙ six_row.1
 
-    pub six_fed : (m n : ℕ) × (answers fed ≡ replicate m Yes ++ replicate (suc n) (Refused 6 v))
+    pub six_fed : (m n : ℕ) × (answers fed ≡ replicate m (Ok tt) ++ replicate (suc n) (Err (BadCodeword v)))
     six_fed =
-        let (m, n, e) = answers_bad (start_within start y) fed (rw made) six_bad in
-        (m, n, e ∙ ap (λ (x : ℕ). replicate m Yes ++ replicate (suc n) (Refused 6 x)) six_first)
+        let (m, n, e) = answers_bad (start_within start) fed (rw made) six_bad in
+        (m, n, e ∙ ap (λ (x : ℕ). replicate m (Ok tt) ++ replicate (suc n) (Err (BadCodeword x))) six_first)
 
     pub six_later : {piece slice after : List ℕ} {a : Fed} → Feeding s' piece slice a after
-        → (a.answer ≡ Refused 6 v) × (a.hits ≡ 0) × (a.searcher ≡ s') × (after ≡ slice)
+        → (a.answer ≡ Err (BadCodeword v)) × (a.hits ≡ 0) × (a.searcher ≡ s') × (after ≡ slice)
     unfolding feed_says
     six_later {piece} {slice} {after} {a} q =
         let e : feed_reads s' piece slice ≡ refused 6 v = feed_6 s' piece slice came.within six_bad ∙ ap (refused 6) six_first in
-        (done_one a.answer (Refused 6 v) (q.says ∙ rw e), q.hits ∙ rw e, q.searcher ∙ rw e, q.leaves ∙ rw e)
+        (says_one a.answer (Err (BadCodeword v)) (q.says ∙ rw e), q.hits ∙ rw e, q.searcher ∙ rw e, q.leaves ∙ rw e)
 
   -- ---- input that ends too soon is 6: the first symbol of the bad or unfinished codeword, or the symbols read if none is open
 
@@ -496,14 +497,14 @@ module _ {r : Roll} {pattern : List ℕ} {st : Started} {pieces : List (List ℕ
           | no b ↦ let (x, e) = bad_read b in e ∙ first_one r.h (length bytes * per k) (reading r bytes) x
         ]
 
-    pub too_soon : {answer : Done} → Finishing s' answer → (answer ≡ Refused 6 p.first) × (p.first ≡ first_bad (length bytes * per k) (reading r bytes))
-    too_soon {answer} f = (done_one answer (Refused 6 p.first) (f.says ∙ soon_says), soon_first)
+    pub too_soon : {answer : Result (Unit {0}) Refusal} → Finishing s' answer → (answer ≡ Err (BadCodeword p.first)) × (p.first ≡ first_bad (length bytes * per k) (reading r bytes))
+    too_soon {answer} f = (says_one answer (Err (BadCodeword p.first)) (f.says ∙ soon_says), soon_first)
 
 -- ---- a refusal is the first that applies, in the fixed order, with its value (demand 1)
 
-pub order_start : {r : Roll} {pattern : List ℕ} {s : Started} {n v : ℕ} → Starting r pattern s → s.answer ≡ Refused n v → Refuses (start_rows r pattern) n v
+pub order_start : {r : Roll} {pattern : List ℕ} {e : Refusal} → Starting r pattern (Err e) → Refuses (start_rows r pattern) (number_of e) (value_of e)
 unfolding start_says
-order_start {r} {pattern} call e = refused_row (start_rows r pattern) tt (says_as call.says e)
+order_start {r} {pattern} call = refused_row (start_rows r pattern) tt (err_refused (start_searcher r pattern) call.says refl)
 
 kept_decided : (s : Searcher) → DecidedBy (kept_says s) (kept_rows s)
 unfolding kept_says
@@ -513,26 +514,26 @@ reads_decided : (s : Searcher) (piece slice : List ℕ) → DecidedBy (feed_read
 unfolding feed_reads
 reads_decided s piece slice = decided_then (kept_decided s) (feed_rows s piece slice)
 
-pub order_feed : {s : Searcher} {piece slice after : List ℕ} {r : Fed} {n v : ℕ} → Feeding s piece slice r after → r.answer ≡ Refused n v
-    → Refuses ((kept_rows s ++ feed_rows s piece slice) ++ bad_rows (searcher_after s piece)) n v
+pub order_feed : {s : Searcher} {piece slice after : List ℕ} {r : Fed} {e : Refusal} → Feeding s piece slice r after → r.answer ≡ Err e
+    → Refuses ((kept_rows s ++ feed_rows s piece slice) ++ bad_rows (searcher_after s piece)) (number_of e) (value_of e)
 unfolding feed_says
-order_feed {s} {piece} {slice} call e = then_refuses (reads_decided s piece slice) (bad_rows (searcher_after s piece)) tt (says_as call.says e)
+order_feed {s} {piece} {slice} call y = then_refuses (reads_decided s piece slice) (bad_rows (searcher_after s piece)) tt (says_as call.says y)
 
-pub order_finish : {s : Searcher} {n v : ℕ} → Finishing s (Refused n v) → Refuses (kept_rows s ++ verdict_rows s.judge) n v
+pub order_finish : {s : Searcher} {e : Refusal} → Finishing s (Err e) → Refuses (kept_rows s ++ verdict_rows s.judge) (number_of e) (value_of e)
 unfolding finish_says verdict_says
 order_finish {s} call = then_refuses (kept_decided s) (verdict_rows s.judge) tt (sym call.says)
 
 -- a refusal other than 6 changes neither the searcher nor the slice
-pub feed_keeps : {s : Searcher} {piece slice after : List ℕ} {r : Fed} {n v : ℕ} → Feeding s piece slice r after → r.answer ≡ Refused n v → n ≢ 6
+pub feed_keeps : {s : Searcher} {piece slice after : List ℕ} {r : Fed} {e : Refusal} → Feeding s piece slice r after → r.answer ≡ Err e → number_of e ≢ 6
     → (r.searcher ≡ s) × (after ≡ slice) × (r.hits ≡ 0)
 unfolding feed_says
-feed_keeps {s} {piece} {slice} call e other =
+feed_keeps {s} {piece} {slice} call y other =
     ⊎_elim
     (λ x.
     let none : feed_hits s piece slice ≡ [] = refused_keeps x [] (hits_named s piece) in
     (call.searcher ∙ refused_keeps x _ _, call.leaves ∙ rw none, call.hits ∙ rw none))
     (λ q. absurd (other (bad_six (refused_row (bad_rows (searcher_after s piece)) tt q.1))))
-    (refused_parts (feed_reads s piece slice) (says_as call.says e))
+    (refused_parts (feed_reads s piece slice) (says_as call.says y))
   where
     bad_six : {n v : ℕ} → Refuses (bad_rows (searcher_after s piece)) n v → n ≡ 6
     bad_six (inl x) = sym x.1

@@ -1,6 +1,6 @@
 // A frame text read whole: the shape of all lines first, then its bytes judged, at most 32 at a time, and only then stored.
 ghost use Rattle.std.specs.Prelude.{◌≡◌, ◌++◌, ◌≤◌, ◌<◌, T, length, drop};
-ghost use Rattle.ground.specs.Paper.Answers.{done_says};
+ghost use Rattle.ground.specs.Paper.Answers.{outcome_of};
 ghost use Rattle.stopper.specs.Paper.Table.{good_table};
 ghost use Rattle.symbols.specs.Helpers.Widths.{Width};
 ghost use Rattle.judge.specs.Paper.Judge.{judge_for, judge_after, verdict_says};
@@ -9,17 +9,17 @@ ghost use Rattle.frames.specs.Paper.Operations.{lines_say, ReadingFrames};
 ghost use Rattle.frames.specs.Helpers.Reading.{ReadingRest};
 
 use crate::lines::line_end;
-use crate::read_first::{RollRead, read_first, refused};
+use crate::read_first::read_first;
 use crate::read_frame::{MOST_BYTES, bytes_next, is_later, take_packed};
-use ground::answers::Done;
+use ground::refusal::Refusal;
 use judge::judging::{judge_of, judge_piece, verdict};
 use roll::fits::fits;
 use sound::records::Roll;
 use symbols::size::bytes_for;
 
 // Whether the lines after the first are all there, and none too many: each has the length that the packed bytes ask for.
-fn check_lines(rest: &[u8], bytes: usize) -> Done
-    ensures { done_says result ≡ lines_say bytes rest.now }
+fn check_lines(rest: &[u8], bytes: usize) -> Result<(), Refusal>
+    ensures { outcome_of result ≡ lines_say bytes rest.now }
 {
     let mut p: usize = 0;
     let mut left = bytes;
@@ -29,25 +29,25 @@ fn check_lines(rest: &[u8], bytes: usize) -> Done
         let next = bytes_next(left);
         let long = 2 * next + 3;
         if rest.len() - p < long {
-            return Done::Refused(15, number);
+            return Err(Refusal::BadLine(number));
         }
         if !is_later(&rest[p..p + long]) {
-            return Done::Refused(15, number);
+            return Err(Refusal::BadLine(number));
         }
         p += long;
         left -= next;
         number += 1;
     }
     if p < rest.len() {
-        return Done::Refused(15, number);
+        return Err(Refusal::BadLine(number));
     }
-    Done::Yes
+    Ok(())
 }
 
 // What check says of 6, 7 and 8: the bytes of each line are handed to the judge.
-fn judge_lines(roll: Roll, rest: &[u8], bytes: usize) -> Done
+fn judge_lines(roll: Roll, rest: &[u8], bytes: usize) -> Result<(), Refusal>
     requires { T (good_table roll.table) × T (all_right (later_for bytes) bytes rest.now) }
-    ensures { done_says result ≡ verdict_says (judge_after (judge_for roll) (packed_from (later_for bytes) rest.now)) }
+    ensures { outcome_of result ≡ verdict_says (judge_after (judge_for roll) (packed_from (later_for bytes) rest.now)) }
 {
     let mut judge = judge_of(roll);
     let mut piece = [0u8; MOST_BYTES];
@@ -83,45 +83,23 @@ fn store_lines(rest: &[u8], bytes: usize, buf: &mut [u8])
 }
 
 // The lines after the first, of a roll whose record is known: nothing is stored before all is asked.
-fn read_rest(roll: Roll, rest: &[u8], buf: &mut [u8]) -> Done
+fn read_rest(roll: Roll, rest: &[u8], buf: &mut [u8]) -> Result<(), Refusal>
     requires { Width roll.table.code.k }
     ensures { ReadingRest roll rest.now buf.old result buf.new }
 {
-    let table = roll.table;
-    let code = table.code;
-    let bytes = bytes_for(code.k, roll.h as usize);
-    let lines = check_lines(rest, bytes);
-    let Done::Yes = lines else {
-        return lines;
-    };
-    let fitting = fits(roll, buf);
-    let Done::Yes = fitting else {
-        return fitting;
-    };
-    let sound = judge_lines(roll, rest, bytes);
-    let Done::Yes = sound else {
-        return sound;
-    };
+    let bytes = bytes_for(roll.table.code.k, roll.h as usize);
+    check_lines(rest, bytes)?;
+    fits(roll, buf)?;
+    judge_lines(roll, rest, bytes)?;
     store_lines(rest, bytes, buf);
-    Done::Yes
+    Ok(())
 }
 
-pub fn read_frames(text: &[u8], buf: &mut [u8]) -> RollRead
+pub fn read_frames(text: &[u8], buf: &mut [u8]) -> Result<Roll, Refusal>
     ensures { ReadingFrames text.now buf.old result buf.new }
 {
     let from = line_end(text);
-    let first = read_first(&text[..from]);
-    let answer = first.answer;
-    if let Done::Refused(number, value) = answer {
-        return refused(number, value);
-    }
-    let roll = first.roll;
-    let read = read_rest(roll, &text[from..], buf);
-    if let Done::Refused(number, value) = read {
-        return refused(number, value);
-    }
-    RollRead {
-        answer: Done::Yes,
-        roll,
-    }
+    let roll = read_first(&text[..from])?;
+    read_rest(roll, &text[from..], buf)?;
+    Ok(roll)
 }

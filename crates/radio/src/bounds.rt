@@ -4,7 +4,7 @@ ghost use Rattle.radio.specs.Helpers.Kept.{Kept};
 
 use crate::records::Searcher;
 use ground;
-use ground::answers::Done;
+use ground::refusal::Refusal;
 use judge::bounds::judge_bounds;
 use stopper::table::good_table;
 use texts::pattern::{MOST_PATTERN, good_pattern};
@@ -16,36 +16,27 @@ fn bits_within(x: u64, bits: u32) -> bool
     64 <= bits || x < 1 << bits
 }
 
-pub fn kept(searcher: Searcher) -> Done
+pub fn kept(searcher: Searcher) -> Result<(), Refusal>
     ensures { Kept searcher result }
 {
     let judge = searcher.judge;
     let roll = judge.roll;
-    let table = roll.table;
-    if !good_table(table) {
-        return Done::Refused(1, 0);
+    if !good_table(roll.table) {
+        return Err(Refusal::BadTable);
     }
     if ground::limit() < roll.h as usize {
-        return Done::Refused(5, roll.h as u64);
+        return Err(Refusal::BadSymbolCount(roll.h as u64));
     }
-    let length = searcher.length;
-    if MOST_PATTERN < length as usize {
-        return Done::Refused(11, 0);
+    let length = searcher.length as usize;
+    if MOST_PATTERN < length || !good_pattern(&searcher.pattern[..length]) {
+        return Err(Refusal::BadPattern);
     }
-    let pattern = searcher.pattern;
-    let long = length as usize;
-    if !good_pattern(&pattern[..long]) {
-        return Done::Refused(11, 0);
+    let ends = searcher.ends;
+    if !judge_bounds(judge)
+        || !bits_within(ends, judge.progress.count)
+        || !bits_within(ends, searcher.length - 1)
+    {
+        return Err(Refusal::BadTable);
     }
-    if !judge_bounds(judge) {
-        return Done::Refused(1, 0);
-    }
-    let progress = judge.progress;
-    if !bits_within(searcher.ends, progress.count) {
-        return Done::Refused(1, 0);
-    }
-    if !bits_within(searcher.ends, length - 1) {
-        return Done::Refused(1, 0);
-    }
-    Done::Yes
+    Ok(())
 }

@@ -7,9 +7,9 @@ ghost use Rattle.radio.specs.Helpers.Following.{followed_none, Follows, Went};
 use crate::bounds::kept;
 use crate::matching::{mark_places, name_hits};
 use crate::records::Searcher;
-use ground::answers::Done;
+use ground::refusal::Refusal;
 use judge::judging::{hear_run, reader_of};
-use judge::records::Progress;
+use judge::records::{Judge, Progress};
 use stretches::codewords::{AT_ONCE, read_stretch};
 use symbols::bits::per_byte;
 use symbols::size::bytes_for;
@@ -17,7 +17,7 @@ use symbols::size::bytes_for;
 // What was answered, how many hits were written, and the searcher to go on with.
 #[derive(Clone, Copy)]
 pub struct Fed {
-    pub answer: Done,
+    pub answer: Result<(), Refusal>,
     pub hits: usize,
     pub searcher: Searcher,
 }
@@ -31,11 +31,11 @@ pub struct Followed {
     pub hits: usize,
 }
 
-fn refused(searcher: Searcher, number: u8, value: u64) -> Fed
-    ensures { result ≡ refused_fed searcher number value }
+fn refused(searcher: Searcher, refusal: Refusal) -> Fed
+    ensures { result ≡ refused_fed searcher refusal }
 {
     Fed {
-        answer: Done::Refused(number, value),
+        answer: Err(refusal),
         hits: 0,
         searcher,
     }
@@ -134,30 +134,26 @@ fn follow(searcher: Searcher, piece: &[u8], all: usize, slice: &mut [u32]) -> Fo
 pub fn feed(searcher: Searcher, piece: &[u8], slice: &mut [u32]) -> Fed
     ensures { Feeding searcher piece.now slice.old result slice.new }
 {
-    let asked = kept(searcher);
-    if let Done::Refused(number, value) = asked {
-        return refused(searcher, number, value);
+    if let Err(refusal) = kept(searcher) {
+        return refused(searcher, refusal);
     }
-    let judge = searcher.judge;
-    let so_far = judge.progress;
-    let roll = judge.roll;
-    let table = roll.table;
-    let code = table.code;
-    let k = code.k;
-    let h = roll.h;
+    let so_far = searcher.judge.progress;
+    let table = &searcher.judge.roll.table;
+    let k = table.code.k;
+    let h = searcher.judge.roll.h;
     if so_far.bad != 0 {
-        return refused(searcher, 6, so_far.first as u64);
+        return refused(searcher, Refusal::BadCodeword(so_far.first as u64));
     }
     if bytes_for(k, h as usize) - bytes_for(k, so_far.read as usize) < piece.len() {
-        return refused(searcher, 5, h as u64);
+        return refused(searcher, Refusal::BadSymbolCount(h as u64));
     }
     let all = piece.len() * per_byte(k);
     if slice.len() < all {
-        return refused(searcher, 14, all as u64);
+        return refused(searcher, Refusal::ShortHits(all as u64));
     }
     let went = follow(searcher, piece, all, slice);
     let progress = hear_run(
-        code,
+        table.code,
         table.sigma as u32,
         h,
         went.progress,
@@ -166,18 +162,21 @@ pub fn feed(searcher: Searcher, piece: &[u8], slice: &mut [u32]) -> Fed
         all,
     );
     let answer = if progress.bad != 0 {
-        Done::Refused(6, progress.first as u64)
+        Err(Refusal::BadCodeword(progress.first as u64))
     } else {
-        Done::Yes
+        Ok(())
     };
-    let mut judge = judge;
-    judge.progress = progress;
-    let mut next = searcher;
-    next.judge = judge;
-    next.ends = went.ends;
+    let judge = Judge {
+        progress,
+        ..searcher.judge
+    };
     Fed {
         answer,
         hits: went.hits,
-        searcher: next,
+        searcher: Searcher {
+            judge,
+            ends: went.ends,
+            ..searcher
+        },
     }
 }

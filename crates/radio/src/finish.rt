@@ -3,15 +3,12 @@ ghost use Rattle.radio.specs.Paper.Operations.{Finishing};
 
 use crate::bounds::kept;
 use crate::records::Searcher;
-use ground::answers::Done;
+use ground::refusal::Refusal;
 use judge::judging::verdict;
 
-pub fn finish(searcher: Searcher) -> Done
+pub fn finish(searcher: Searcher) -> Result<(), Refusal>
     ensures { Finishing searcher result }
 {
-    let asked = kept(searcher);
-    let Done::Yes = asked else {
-        return asked;
-    };
+    kept(searcher)?;
     verdict(searcher.judge)
 }

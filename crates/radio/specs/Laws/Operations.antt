@@ -1,5 +1,5 @@
 -- The promises: a law for a refused call and one for an accepted call.
-use Rattle.std.specs.Prelude.{◌≡◌, ◌≢◌, true, false, not, ◌&&◌, ◌||◌, T, eqb, take}
+use Rattle.std.specs.Prelude.{◌≡◌, refl, ◌≢◌, true, false, not, ◌&&◌, ◌||◌, T, eqb, take, Result, Ok, Err}
 use Rattle.std.proofs.Math.Path.{sym, ap}
 use Rattle.std.proofs.Common.{◌∙◌, arith, nltb→le, leb→le, take-append-drop}
 use Rattle.std.proofs.Math.Bool.{Bool}
@@ -11,25 +11,24 @@ use Rattle.std.proofs.Math.Dec.{ltb, leb, ltb→lt}
 use Rattle.std.proofs.Math.ListN.{length, drop, get_or}
 use Rattle.ground.specs.Paper.Limit.{limit}
 use Rattle.ground.specs.Paper.Refusals.{refuse, accepted, refused, judged}
-use Rattle.ground.specs.Paper.Answers.{done_says}
+use Rattle.ground.specs.Paper.Answers.{number_of, value_of, outcome_of}
+use Rattle.ground.specs.Laws.Answers.{err_refused}
 use Rattle.ground.specs.Laws.Refusals.{NoneApplies, accepted_none}
-use Rattle.ground.specs.declared.answers.Done.{Done}
-use Rattle.ground.specs.declared.answers.Done.TheVariants.{Yes}
+use Rattle.ground.specs.declared.refusal.Refusal.{Refusal}
 use Rattle.stopper.specs.Paper.Table.{good_table}
 use Rattle.symbols.specs.Paper.Symbols.{per, bytes_for}
 use Rattle.texts.specs.Paper.Hits.{good_pattern, most_pattern}
 use Rattle.sound.specs.declared.records.Roll.{Roll}
 use Rattle.judge.specs.Paper.Judge.{hears_all, ranks_heard, judge_bounds, judge_after}
 use Rattle.radio.specs.Paper.Matching.{whole_bit, named}
-use Rattle.radio.specs.Paper.Operations.{start_says, searcher_for, Starting, pattern_in, code_in, in_bounds, kept_rows, kept_says, feed_reads, characters_heard, searcher_after, hits_named, feed_says, Feeding}
+use Rattle.radio.specs.Paper.Operations.{start_says, searcher_for, start_searcher, Starting, pattern_in, code_in, in_bounds, kept_rows, kept_says, feed_reads, characters_heard, searcher_after, hits_named, feed_says, Feeding}
 use Rattle.judge.specs.Helpers.Steady.{Steady}
-use Rattle.radio.specs.Helpers.Kept.{refused_start, refused_fed}
+use Rattle.radio.specs.Helpers.Kept.{refused_fed}
 use Rattle.radio.specs.Helpers.Following.{Ready, row, heard_upto, characters_upto, named_upto, Went}
 use Rattle.judge.specs.Laws.Judge.{hears_append, ranks_append}
 use Rattle.judge.specs.declared.records.Progress.{Progress}
 use Rattle.judge.specs.declared.records.Judge.{Judge}
 use Rattle.radio.specs.declared.records.Searcher.{Searcher}
-use Rattle.radio.specs.declared.start.Started.{Started}
 use Rattle.radio.specs.declared.feed.Fed.{Fed}
 use Rattle.radio.specs.declared.feed.Followed.{Followed}
 
@@ -54,12 +53,15 @@ no_lt a b e = nltb→le a b (rw e tt)
 -- ---- start
 
 module _ {r : Roll} {pattern : List ℕ} where
-  pub start_refused : {s : Started} {n v : ℕ} → start_says r pattern ≡ refused n v → s ≡ refused_start r n v → Starting r pattern s
-  unfolding refused_start
-  start_refused e p = rw p (record { says = sym e; searcher = rw e })
+  pub start_refused : {e : Refusal} → start_says r pattern ≡ refused (number_of e) (value_of e) → Starting r pattern (Err e)
+  start_refused e = record { says = rw e }
 
-  pub start_yes : {q : Searcher} → start_says r pattern ≡ accepted tt → q ≡ searcher_for r pattern → Starting r pattern (record { answer = Yes; searcher = q })
-  start_yes e p = record { says = sym e; searcher = rw e p }
+  pub start_yes : {q : Searcher} → start_says r pattern ≡ accepted tt → q ≡ searcher_for r pattern → Starting r pattern (Ok q)
+  start_yes e p = rw p (record { says = rw e })
+
+  -- what stands beside a refusal
+  pub start_beside : {e : Refusal} → Starting r pattern (Err e) → start_searcher r pattern ≡ searcher_for r []
+  start_beside {e} s = rw (err_refused (start_searcher r pattern) s.says {e = e} refl)
 
 module _ (r : Roll) (pattern : List ℕ) where
   pub start_1 : good_table r.table ≡ false → start_says r pattern ≡ refused 1 0
@@ -186,9 +188,9 @@ module _ (s : Searcher) (e : kept_says s ≡ accepted tt) where
 -- ---- feed
 
 module _ {s : Searcher} {piece slice : List ℕ} where
-  pub feed_refused : {r : Fed} {n v : ℕ} → feed_reads s piece slice ≡ refused n v → r ≡ refused_fed s n v → Feeding s piece slice r slice
+  pub feed_refused : {r : Fed} (e : Refusal) → feed_reads s piece slice ≡ refused (number_of e) (value_of e) → r ≡ refused_fed s e → Feeding s piece slice r slice
   unfolding refused_fed feed_says
-  feed_refused e p = rw p (record { says = rw e; hits = rw e; searcher = rw e; leaves = rw e })
+  feed_refused e q p = rw p (record { says = rw q; hits = rw q; searcher = rw q; leaves = rw q })
 
 module _ (s : Searcher) (piece slice : List ℕ) where
   pub feed_kept : {n v : ℕ} → kept_says s ≡ refused n v → feed_reads s piece slice ≡ refused n v
@@ -244,7 +246,7 @@ module _ (s : Searcher) (piece slice : List ℕ) where
         ∙ append-nil ranks))
 
     pub feed_read : feed_reads s piece slice ≡ accepted tt → {q : Progress} → q ≡ hears_all (code_in s) σ h w.progress (drop w.at (row s piece))
-        → (a : Done) → done_says a ≡ judged (refuse 6 q.first (not (eqb q.bad 0)) ∷ []) tt
+        → (a : Result (Unit {0}) Refusal) → outcome_of a ≡ judged (refuse 6 q.first (not (eqb q.bad 0)) ∷ []) tt
         → Feeding s piece slice
         (record { answer = a; hits = w.hits; searcher = record { judge = record { roll = s.judge.roll; progress = q }; pattern = s.pattern; length = s.length; ends = w.ends } }) after
     unfolding feed_says searcher_after judge_after hits_named

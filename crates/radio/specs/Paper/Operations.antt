@@ -1,10 +1,10 @@
 -- The three operations of a roll that comes in: start, feed, finish. The refusals of each, and its promise.
-use Rattle.std.specs.Prelude.{◌≡◌, Bool, not, ◌&&◌, List, [], ◌∷◌, ◌++◌, map, ℕ, ◌+◌, ◌*◌, ◌^◌, ltb, leb, eqb, length, take, drop, get_or}
+use Rattle.std.specs.Prelude.{◌≡◌, Bool, not, ◌&&◌, List, [], ◌∷◌, ◌++◌, map, ℕ, ◌+◌, ◌*◌, ◌^◌, ltb, leb, eqb, length, take, drop, get_or, Result}
 use Rattle.ground.specs.Paper.Limit.{limit}
-use Rattle.ground.specs.Paper.Refusals.{Row, refuse, Outcome, judged, ◌then◌, kept}
-use Rattle.ground.specs.Paper.Answers.{done_says}
+use Rattle.ground.specs.Paper.Refusals.{Row, refuse, Outcome, accepted, judged, ◌then◌, kept}
+use Rattle.ground.specs.Paper.Answers.{outcome_of}
 use Rattle.ground.specs.Paper.Rows.{padded}
-use Rattle.ground.specs.declared.answers.Done.{Done}
+use Rattle.ground.specs.declared.refusal.Refusal.{Refusal}
 use Rattle.stopper.specs.Paper.Table.{good_table}
 use Rattle.stopper.specs.declared.code.Code.{Code}
 use Rattle.symbols.specs.Paper.Symbols.{per, bytes_for, symbols_of}
@@ -14,7 +14,6 @@ use Rattle.judge.specs.Paper.Judge.{judge_for, judge_after, judge_bounds, ranks_
 use Rattle.radio.specs.Paper.Matching.{whole_bit, matches_all, named}
 use Rattle.judge.specs.declared.records.Progress.{Progress}
 use Rattle.radio.specs.declared.records.Searcher.{Searcher}
-use Rattle.radio.specs.declared.start.Started.{Started}
 use Rattle.radio.specs.declared.feed.Fed.{Fed}
 
 -- ---- start: 1, 5 (h over the limit), 11
@@ -33,13 +32,12 @@ start_says r pattern = judged (start_rows r pattern) tt
 abbrev pub searcher_for : Roll → List ℕ → Searcher
 searcher_for r pattern = record { judge = judge_for r; pattern = padded most_pattern pattern; length = length pattern; ends = 0 }
 
--- beside a refusal: one with an empty pattern, which is refused in its turn
+-- where a searcher stands beside a refusal: one with an empty pattern, which is refused in its turn
 abbrev pub start_searcher : Roll → List ℕ → Searcher
 start_searcher r pattern = kept (start_says r pattern) (searcher_for r []) (searcher_for r pattern)
 
-pub record Starting (r : Roll) (pattern : List ℕ) (s : Started) : Type 0 where
-  pub says : done_says s.answer ≡ start_says r pattern
-  pub searcher : s.searcher ≡ start_searcher r pattern
+pub record Starting (r : Roll) (pattern : List ℕ) (s : Result Searcher Refusal) : Type 0 where
+  pub says : outcome_of s ≡ (start_says r pattern then accepted (start_searcher r pattern))
 
 -- ---- any searcher: what start asks, 1, 5, 11; and 1 if its reading state, its counts or its beginnings are out of their bounds
 
@@ -113,7 +111,7 @@ abbrev pub feed_leaves : Searcher → List ℕ → List ℕ → List ℕ
 feed_leaves s piece slice = feed_hits s piece slice ++ drop (length (feed_hits s piece slice)) slice
 
 pub record Feeding (s : Searcher) (piece slice : List ℕ) (r : Fed) (after : List ℕ) : Type 0 where
-  pub says : done_says r.answer ≡ feed_says s piece slice
+  pub says : outcome_of r.answer ≡ feed_says s piece slice
   pub hits : r.hits ≡ length (feed_hits s piece slice)
   pub searcher : r.searcher ≡ feed_searcher s piece slice
   pub leaves : after ≡ feed_leaves s piece slice
@@ -123,5 +121,5 @@ pub record Feeding (s : Searcher) (piece slice : List ℕ) (r : Fed) (after : Li
 unfoldable pub finish_says : Searcher → Outcome (Unit {0})
 finish_says s = kept_says s then verdict_says s.judge
 
-pub record Finishing (s : Searcher) (answer : Done) : Type 0 where
-  pub says : done_says answer ≡ finish_says s
+pub record Finishing (s : Searcher) (answer : Result (Unit {0}) Refusal) : Type 0 where
+  pub says : outcome_of answer ≡ finish_says s

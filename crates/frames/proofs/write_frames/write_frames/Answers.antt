@@ -1,116 +1,108 @@
 -- `frames::write_frames::write_frames` meets its contract.
-use mathlib.Core.Path.{◌≡◌, sym, ap, subst, ◌∙◌}
-use mathlib.Core.List.{List}
-use Prim.Native.Nat.{ℕ, ◌≤◌}
+use Rattle.std.proofs.Common.{◌≡◌, sym, ap, subst, ◌∙◌, List, ℕ, ◌≤◌, length, take, length-take-le, Ok, arith, rules}
+use Rattle.std.proofs.lemmas.Result.{err_from_is_err_and}
 use native.Mathlib.Nat.{le-mul_of_pos_right}
-use native.Mathlib.Omega.{arith}
-use borrow.Author.Rules.{rules}
-use lib.ListN.{length, take}
-use lib.Seq.{length-take-le}
 use Rattle.ground.specs.Helpers.Bound.{limit_bound}
-use Rattle.ground.specs.Paper.Refusals.{accepted}
-use Rattle.ground.specs.Laws.Answers.{says_as}
 use Rattle.ground.specs.Laws.Limit.{limit_fits}
-use Rattle.stopper.specs.Paper.Table.{characters}
 use Rattle.stopper.specs.Laws.Table.{table_few}
 use Rattle.symbols.specs.Laws.Width.{per_pos}
 use Rattle.symbols.specs.Laws.Sizes.{bytes_for_within, room_bytes, room_limit}
 use Rattle.sound.specs.Paper.Roll.{Sound}
 use Rattle.sound.specs.Laws.Sound.{sound_width}
-use Rattle.roll.specs.Paper.Operations.{check_says}
-use Rattle.roll.specs.Laws.Accepting.{accepted_sound}
+use Rattle.sound.specs.declared.records.Roll.{Roll}
+use Rattle.roll.specs.Paper.Operations.{Checking}
+use Rattle.roll.specs.Laws.Operations.{check_sound}
 use Rattle.frames.specs.Paper.Frames.{bytes_used, frame_text}
 use Rattle.frames.specs.Paper.Operations.{bytes_into}
 use Rattle.frames.specs.Helpers.Sizes.{frames_of, text_size}
 use Rattle.frames.specs.Laws.Writing.{text_frames, text_long, text_few}
 use Rattle.frames.specs.Laws.Operations.{write_refused, write_yes, write_check, write_13, write_accepted}
 use Rattle.frames.proofs.write_frames.write_frames.Goals as goal
-use Rattle.frames.proofs.write_frames.write_frames.Lts as Places
-use Rattle.frames.proofs.write_frames.write_frames.Reads as Clauses
-use Rattle.frames.proofs.write_frames.write_frames.Tie as tie
 
--- what is known at these places
-abbrev In_default : Type 0
-In_default = Places.Past-After-enum_told tie.the-claims Clauses.Pre Clauses.Post
+module _ (r : Roll) (buf : List ℕ) (checked : Checking r buf (Ok tt)) where
+  sound : Sound r buf
+  sound = check_sound checked
 
-abbrev After-text_size-size : Type 0
-After-text_size-size = Places.After-text_size tie.the-claims Clauses.Pre Clauses.Post
+  few : r.table.sigma ≤ 256
+  few = table_few r.table sound.table
 
-abbrev After-bytes_for-used : Type 0
-After-bytes_for-used = Places.After-bytes_for tie.the-claims Clauses.Pre Clauses.Post
+  -- its bytes are there, and not many
+  held : bytes_used r ≤ length buf
+  held = room_bytes (sound_width sound) r.h (length buf) sound.fits
 
--- the roll is sound
-says : (c : In_default) → let a = c.args in check_says a.roll a.buf.now ≡ accepted tt
-says c = says_as c.check-checked.ensures.says c.in_default.is
+  small : bytes_used r ≤ limit_bound
+  small =
+      let w = sound_width sound in
+      omega (
+        arith,
+        bytes_for_within w r.h r.h (le-mul_of_pos_right r.h (per_pos w)),
+        sound.fits,
+        room_limit r.table.code.k (length buf),
+        limit_fits,
+      )
 
-sound : (c : In_default) → let a = c.args in Sound a.roll a.buf.now
-sound c = let a = c.args in accepted_sound a.roll a.buf.now (says c)
+  module _ {used : ℕ} (u : used ≡ bytes_used r) where
+    used_held : used ≤ length buf
+    used_held = subst (λ (n : ℕ). n ≤ length buf) (sym u) held
 
-few : (c : In_default) → c.args.roll.table.sigma ≤ 256
-few c = table_few c.args.roll.table (sound c).table
+    used_small : used ≤ limit_bound
+    used_small = subst (λ (n : ℕ). n ≤ limit_bound) (sym u) small
 
-characters_long : (c : In_default) → let t = c.args.roll.table in length (characters t) ≡ t.sigma
-characters_long c =
-    let t = c.args.roll.table in
-    let e : length t.places ≡ 256 = search rules in
-    length-take-le t.sigma t.places (omega (arith, few c))
+    -- its bytes
+    part : frames_of r (take used buf) ≡ frame_text r buf
+    part = ap (λ (n : ℕ). frames_of r (take n buf)) u ∙ sym (text_frames r buf held)
 
--- its bytes are there, and not many
-held : (c : In_default) → let a = c.args in bytes_used a.roll ≤ length a.buf.now
-held c = let a = c.args in room_bytes (sound_width (sound c)) a.roll.h (length a.buf.now) (sound c).fits
+    -- how long the text is
+    size_is : length r.table.places ≡ 256 → {size : ℕ} → size ≡ text_size r.table.sigma used → size ≡ length (frame_text r buf)
+    size_is e z = z ∙ ap (text_size r.table.sigma) u ∙ sym (text_long r buf held (length-take-le r.table.sigma r.table.places (omega (arith, few))))
 
-small : (c : In_default) → bytes_used c.args.roll ≤ limit_bound
-small c =
-    let r = c.args.roll in
-    let w = sound_width (sound c) in
-    omega (
-      arith,
-      bytes_for_within w r.h r.h (le-mul_of_pos_right r.h (per_pos w)),
-      (sound c).fits,
-      room_limit r.table.code.k (length c.args.buf.now),
-      limit_fits,
-    )
+pub returns-in_err-check : goal.returns-in_err-check
+returns-in_err-check c =
+    let p = err_from_is_err_and c.from_residual.result c.from_residual.ensures.1 in
+    rw (p.1, p.2) (write_refused (write_check _ _ _ (sym c.in_err-check.ensures.says)))
 
--- how long the text is
-size : (c : After-text_size-size) → let a = c.args in c.text_size-size.result ≡ length (frame_text a.roll a.buf.now)
-size c =
-    let a = c.args in
-    c.text_size-size.ensures ∙ ap (text_size a.roll.table.sigma) c.bytes_for-used.ensures ∙ sym (text_long a.roll a.buf.now (held c.before.before.before.before.before.before) (characters_long c.before.before.before.before.before.before))
-
-pub returns-in-Refused : goal.returns-in-Refused
-returns-in-Refused c = write_refused (write_check _ _ _ (says_as c.check-checked.ensures.says c.in-Refused.is))
+pub bytes_for-used-requires : goal.bytes_for-used-requires
+bytes_for-used-requires c = sound_width (check_sound c.in_ok-check.ensures)
 
 pub text_size-size-requires : goal.text_size-size-requires
 text_size-size-requires c =
-    (few c.before.before.before.before.before.before, subst (λ (n : ℕ). n ≤ limit_bound) (sym c.bytes_for-used.ensures) (small c.before.before.before.before.before.before))
+    let r = c.args.roll in
+    let buf = c.args.buf.now in
+    (few r buf c.in_ok-check.ensures, used_small r buf c.in_ok-check.ensures c.bytes_for-used.ensures)
 
 pub returns-then-out-size : goal.returns-then-out-size
 returns-then-out-size c =
-    let a = c.args in
-    rw (size c.before.before) (write_refused (write_13 a.roll a.buf.now a.out.now (says c.before.before.before.before.before.before.before.before) (omega (arith, size c.before.before, c.if-out-size.true))))
+    let r = c.args.roll in
+    let buf = c.args.buf.now in
+    let e : length r.table.places ≡ 256 = search rules in
+    let size = size_is r buf c.in_ok-check.ensures c.bytes_for-used.ensures e c.text_size-size.ensures in
+    rw size (write_refused (write_13 r buf c.args.out.now (sym c.in_ok-check.ensures.says) (omega (arith, size, c.if-out-size.true))))
 
--- its bytes
-part : (c : After-bytes_for-used) → let a = c.args in frames_of a.roll (take c.bytes_for-used.result a.buf.now) ≡ frame_text a.roll a.buf.now
-part c =
-    let a = c.args in
-    ap (λ (n : ℕ). frames_of a.roll (take n a.buf.now)) c.bytes_for-used.ensures ∙ sym (text_frames a.roll a.buf.now (held c.before.before.before.before))
+pub slice_bounds-text_out-end : goal.slice_bounds-text_out-end
+slice_bounds-text_out-end c = sym (length-take-le _ _ (used_held c.args.roll c.args.buf.now c.in_ok-check.ensures c.bytes_for-used.ensures))
 
 pub text_out-requires : goal.text_out-requires
 text_out-requires c =
-    (few c.before.before.before.before.before.before.before.before.before, omega (arith, ap length (part c.before.before.before.before.before), size c.before.before.before, c.if-out-size.false))
+    let r = c.args.roll in
+    let buf = c.args.buf.now in
+    let e : length r.table.places ≡ 256 = search rules in
+    let u = c.bytes_for-used.ensures in
+    let size = size_is r buf c.in_ok-check.ensures u e c.text_size-size.ensures in
+    (few r buf c.in_ok-check.ensures, omega (arith, ap length (part r buf c.in_ok-check.ensures u), size, c.if-out-size.false))
 
 pub overflow_cast-result : goal.overflow_cast-result
 overflow_cast-result c =
-    omega (arith, text_few c.args.roll.table.sigma (bytes_used c.args.roll) (few c.before.before.before.before.before.before.before.before.before.before.before.before) (small c.before.before.before.before.before.before.before.before.before.before.before.before), c.text_size-size.ensures, ap (text_size c.args.roll.table.sigma) c.bytes_for-used.ensures)
+    let r = c.args.roll in
+    let buf = c.args.buf.now in
+    omega (arith, text_few r.table.sigma c.bytes_for-used.result (few r buf c.in_ok-check.ensures) (used_small r buf c.in_ok-check.ensures c.bytes_for-used.ensures), c.text_size-size.ensures)
 
 pub returns : goal.returns
 returns c =
-    let a = c.args in
-    write_yes (write_accepted a.roll a.buf.now a.out.now (says c.before.before.before.before.before.before.before.before.before.before.before.before) (omega (arith, size c.before.before.before.before.before.before, c.if-out-size.false))) (size c.before.before.before.before.before.before)
-    (c.text_out.ensures ∙ ap (λ (l : List ℕ). bytes_into l a.out.now) (part c.before.before.before.before.before.before.before.before))
-
-pub bytes_for-used-requires : goal.bytes_for-used-requires
-bytes_for-used-requires c = sound_width (sound c.before.before.before.before)
-
-pub slice_bounds-text_out-end : goal.slice_bounds-text_out-end
-slice_bounds-text_out-end c = sym (length-take-le _ _ (subst (λ (n : ℕ). n ≤ length c.args.buf.now) (sym c.bytes_for-used.ensures) (held c.before.before.before.before.before.before.before.before)))
+    let r = c.args.roll in
+    let buf = c.args.buf.now in
+    let out = c.args.out.now in
+    let e : length r.table.places ≡ 256 = search rules in
+    let u = c.bytes_for-used.ensures in
+    let size = size_is r buf c.in_ok-check.ensures u e c.text_size-size.ensures in
+    write_yes (write_accepted r buf out (sym c.in_ok-check.ensures.says) (omega (arith, size, c.if-out-size.false))) size
+    (c.text_out.ensures ∙ ap (λ (l : List ℕ). bytes_into l out) (part r buf c.in_ok-check.ensures u))

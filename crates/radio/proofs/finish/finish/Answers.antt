@@ -1,13 +1,15 @@
 -- `radio::finish::finish` meets its contract.
-use mathlib.Core.Path.{◌∙◌}
-use Rattle.ground.specs.Laws.Answers.{says_as}
+use Rattle.std.proofs.Common.{sym, ◌∙◌}
+use Rattle.std.proofs.lemmas.Result.{err_from_is_err_and}
 use Rattle.radio.specs.Paper.Operations.{finish_says}
 use Rattle.radio.proofs.finish.finish.Goals as goal
 
-pub returns-in_default : goal.returns-in_default
+pub returns-in_err-kept : goal.returns-in_err-kept
 unfolding finish_says
-returns-in_default c = let e = c.in_default.is in record { says = rw (says_as c.kept-asked.ensures.says e, e) }
+returns-in_err-kept c =
+    let p = err_from_is_err_and c.from_residual.result c.from_residual.ensures.1 in
+    rw (p.1, p.2) (record { says = rw (sym c.in_err-kept.ensures.says) })
 
 pub returns : goal.returns
 unfolding finish_says
-returns c = record { says = c.verdict.ensures.says ∙ rw (says_as c.kept-asked.ensures.says c.in-Yes.is) }
+returns c = record { says = c.verdict.ensures.says ∙ rw (sym c.in_ok-kept.ensures.says) }
