@@ -1,5 +1,4 @@
 -- `report::program::answer` meets its contract.
-use Rattle.std.proofs.Common.{arith}
 use Rattle.report.specs.Laws.Answering.{packed_refusal, packed_lines}
 use Rattle.report.proofs.program.answer.Goals as goal
 

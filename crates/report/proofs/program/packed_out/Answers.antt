@@ -1,5 +1,5 @@
 -- `report::program::packed_out` meets its contract: the text's own table, its packing, and all the hits.
-use Rattle.std.proofs.Common.{◌≡◌, refl, sym, ap, ap₂, subst, ◌∙◌, inl, List, ◌++◌, ℕ, ◌≤◌, T, length, take, Ok, Err, Result, length-take-le, arith}
+use Rattle.std.proofs.Common.{◌≡◌, refl, sym, ap, ap₂, subst, ◌∙◌, List, ℕ, ◌≤◌, T, length, take, Ok, Err, Result, length-take-le, arith}
 use Rattle.std.proofs.lemmas.Result.{err_from_is_err_and}
 use Rattle.std.proofs.lemmas.List.{length-replicate}
 use lib.ListN.{replicate}
