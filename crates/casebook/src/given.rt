@@ -21,153 +21,108 @@ pub fn read_full(reader: &mut impl Read, room: &mut [u8]) -> io::Result<usize>
     Ok(n)
 }
 
+// Past this a number is cut off.
+const MOST: usize = 1_000_000_000_000;
+
+// Cases, read from the front on: what is left of them.
 #[derive(Clone, Copy)]
-pub struct Value {
-    pub value: usize,
-    pub next: usize,
+pub struct Cases<'a> {
+    left: &'a [u8],
 }
 
-#[derive(Clone, Copy)]
-pub struct TableAt {
-    pub table: Table,
-    pub next: usize,
-}
-
-#[derive(Clone, Copy)]
-pub struct RollAt {
-    pub roll: Roll,
-    pub next: usize,
-}
-
-fn wide(x: u8) -> usize
-    ensures { result ≤ 255 }
-{
-    x as usize
-}
-
-// The first digit from `at` on, past blanks and comments.
-fn first_digit(s: &[u8], at: usize) -> usize {
-    let mut i = at;
-    let mut comment = false;
-    while i < s.len() {
-        let b = s[i];
-        if b == 35 {
-            comment = true;
-        }
-        if b == 10 {
-            comment = false;
-        }
-        if !comment && 48 <= b && b <= 57 {
-            break;
-        }
-        i += 1;
+impl<'a> Cases<'a> {
+    pub fn of(input: &'a [u8]) -> Cases<'a> {
+        Cases { left: input }
     }
-    i
-}
 
-// The next number, cut off above a million million.
-pub fn number(s: &[u8], at: usize) -> Value {
-    let mut i = first_digit(s, at);
-    let mut value: usize = 0;
-    while i < s.len() {
-        let b = s[i];
-        if b < 48 || 57 < b {
-            break;
+    // To the first digit, past blanks and comments.
+    fn skip_blanks(&mut self) {
+        let mut comment = false;
+        while let Some((b, rest)) = self.left.split_first() {
+            match *b {
+                b'#' => comment = true,
+                b'\n' => comment = false,
+                b'0'..=b'9' if !comment => break,
+                _ => {}
+            }
+            self.left = rest;
         }
-        if 1000000000000 < value {
-            break;
-        }
-        value = value * 10 + wide(b - 48);
-        i += 1;
     }
-    Value { value, next: i }
+
+    // The next number, cut off above a million million; 0 where there is none.
+    pub fn number(&mut self) -> usize {
+        self.skip_blanks();
+        let mut value = 0;
+        while let Some((b, rest)) = self.left.split_first() {
+            if !b.is_ascii_digit() || MOST < value {
+                break;
+            }
+            value = 10 * value + usize::from(*b - b'0');
+            self.left = rest;
+        }
+        value
+    }
+
+    // The next number's low 8 bits, and its low 32.
+    pub fn byte(&mut self) -> u8 {
+        (self.number() % 256) as u8
+    }
+
+    pub fn word(&mut self) -> u32 {
+        (self.number() % 4294967296) as u32
+    }
+
+    // A row of bytes, as many as there is room for.
+    pub fn bytes<'r>(&mut self, row: &'r mut [u8]) -> &'r mut [u8] {
+        let mut filled = 0;
+        for _ in 0..self.number() {
+            let many = self.number();
+            let first = self.byte();
+            let step = self.byte();
+            filled += rising(&mut row[filled..], many, first, step);
+        }
+        &mut row[..filled]
+    }
+
+    // A row of numbers, how many and then each, as many as there is room for.
+    pub fn numbers<'r>(&mut self, row: &'r mut [u32]) -> &'r mut [u32] {
+        let many = self.number().min(row.len());
+        for x in &mut row[..many] {
+            *x = self.word();
+        }
+        &mut row[..many]
+    }
+
+    pub fn table(&mut self) -> Table {
+        let k = self.byte();
+        let stoppers = self.byte();
+        let sigma = (self.number() % 65536) as u16;
+        let mut places = [0; 256];
+        self.bytes(&mut places);
+        Table {
+            code: even_code(k, stoppers),
+            sigma,
+            places,
+        }
+    }
+
+    pub fn roll(&mut self) -> Roll {
+        let table = self.table();
+        let n = self.word();
+        let h = self.word();
+        Roll { table, n, h }
+    }
 }
 
-// Bytes that rise by a step, as many as there is room for, from `from` on; the place after them.
-fn rising(row: &mut [u8], from: usize, many: usize, first: usize, step: usize) -> usize
-    requires { from ≤ length row.old }
+// Bytes that rise by a step, as many as there is room for; how many they are.
+fn rising(row: &mut [u8], many: usize, first: u8, step: u8) -> usize
     ensures { result ≤ length row.new }
 {
-    let mut i = from;
-    let mut left = many;
-    let mut b = first % 256;
-    while i < row.len() {
-        if left == 0 {
-            break;
-        }
-        row[i] = (b % 256) as u8;
-        b = (b % 256 + step % 256) % 256;
-        left -= 1;
-        i += 1;
+    let many = many.min(row.len());
+    let mut b = first;
+    for x in &mut row[..many] {
+        *x = b;
+        b = b.wrapping_add(step);
     }
-    i
-}
-
-// A row of bytes; how many there are.
-pub fn bytes(s: &[u8], at: usize, row: &mut [u8]) -> Value
-    ensures { result.value ≤ length row.new }
-{
-    let count = number(s, at);
-    let mut left = count.value;
-    let mut next = count.next;
-    let mut value: usize = 0;
-    while 0 < left {
-        let many = number(s, next);
-        let first = number(s, many.next);
-        let step = number(s, first.next);
-        value = rising(row, value, many.value, first.value, step.value);
-        next = step.next;
-        left -= 1;
-    }
-    Value { value, next }
-}
-
-// A row of numbers, how many and then each; how many there was room for.
-pub fn numbers(s: &[u8], at: usize, row: &mut [u32]) -> Value
-    ensures { result.value ≤ length row.new }
-{
-    let count = number(s, at);
-    let mut next = count.next;
-    let mut i: usize = 0;
-    while i < row.len() {
-        if count.value <= i {
-            break;
-        }
-        let one = number(s, next);
-        row[i] = (one.value % 4294967296) as u32;
-        next = one.next;
-        i += 1;
-    }
-    Value { value: i, next }
-}
-
-pub fn table_at(s: &[u8], at: usize) -> TableAt {
-    let k = number(s, at);
-    let stoppers = number(s, k.next);
-    let sigma = number(s, stoppers.next);
-    let mut places = [0u8; 256];
-    let row = bytes(s, sigma.next, &mut places);
-    TableAt {
-        table: Table {
-            code: even_code((k.value % 256) as u8, (stoppers.value % 256) as u8),
-            sigma: (sigma.value % 65536) as u16,
-            places,
-        },
-        next: row.next,
-    }
-}
-
-pub fn roll_at(s: &[u8], at: usize) -> RollAt {
-    let given = table_at(s, at);
-    let n = number(s, given.next);
-    let h = number(s, n.next);
-    let table = given.table;
-    RollAt {
-        roll: Roll {
-            table,
-            n: (n.value % 4294967296) as u32,
-            h: (h.value % 4294967296) as u32,
-        },
-        next: h.next,
-    }
+    many
 }

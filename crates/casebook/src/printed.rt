@@ -1,14 +1,10 @@
 // What is printed of an outcome.
-ghost use Rattle.std.specs.Prelude.{◌≤◌};
+ghost use Rattle.std.specs.Prelude.{◌<◌, ◌≤◌, length};
 
 use ground::answers::{Answer, Done};
 use sound::records::Roll;
 use std::io::{self, Write};
 use stopper::table::Table;
-
-pub fn number_out(printer: &mut impl Write, n: usize) -> io::Result<()> {
-    write!(printer, "{n}")
-}
 
 pub fn end(printer: &mut impl Write) -> io::Result<()> {
     printer.write_all(b"\n")
@@ -32,119 +28,63 @@ pub fn character(printer: &mut impl Write, answer: Answer) -> io::Result<()> {
     }
 }
 
-fn wide(x: u8) -> usize {
-    x as usize
-}
-
-fn run(printer: &mut impl Write, many: usize, b: u8) -> io::Result<()> {
-    write!(printer, " {many}x{}", wide(b))
-}
-
-// How many bytes from i on are the same.
-fn same(row: &[u8], i: usize) -> usize {
-    let mut j = i;
-    while j < row.len() {
-        if i < row.len() && row[j] != row[i] {
-            break;
-        }
-        j += 1;
-    }
-    j
-}
-
 // A row as runs: how many, and which byte.
 pub fn runs(printer: &mut impl Write, bytes: &[u8]) -> io::Result<()> {
     printer.write_all(b" |")?;
-    let mut i: usize = 0;
-    while i < bytes.len() {
-        let j = same(bytes, i);
-        if j <= i {
-            break;
+    for run in bytes.chunk_by(|a, b| a == b) {
+        if let Some(b) = run.first() {
+            write!(printer, " {}x{b}", run.len())?;
         }
-        run(printer, j - i, bytes[i])?;
-        i = j;
     }
     Ok(())
-}
-
-fn wide_number(x: u32) -> usize
-    ensures { result ≤ 4294967295 }
-{
-    x as usize
 }
 
 // A row of numbers.
 pub fn list(printer: &mut impl Write, numbers: &[u32]) -> io::Result<()> {
     printer.write_all(b" |")?;
-    let mut i: usize = 0;
-    while i < numbers.len() {
-        printer.write_all(b" ")?;
-        number_out(printer, wide_number(numbers[i]))?;
-        i += 1;
+    for n in numbers {
+        write!(printer, " {n}")?;
     }
     Ok(())
 }
 
-// By how much the number behind place i is more, in 32 bits; 0 where there is none.
-fn step_at(row: &[u32], i: usize) -> usize {
-    if i < row.len() {
-        if 1 < row.len() - i {
-            return (wide_number(row[i + 1]) + 4294967296 - wide_number(row[i])) % 4294967296;
-        }
-    }
-    0
-}
-
-// The place behind the numbers that from i on rise by this step.
-fn evenly(row: &[u32], i: usize, step: usize) -> usize {
-    let mut j = i;
-    let mut next: usize = 0;
-    if i < row.len() {
-        next = wide_number(row[i]);
-    }
-    while j < row.len() {
-        if wide_number(row[j]) != next {
-            break;
-        }
-        next = (next % 4294967296 + step % 4294967296) % 4294967296;
-        j += 1;
-    }
-    j
-}
-
-fn rise(printer: &mut impl Write, many: usize, first: usize, step: usize) -> io::Result<()> {
-    write!(printer, " {many}x{first}+{step}")
-}
-
-// A long row of numbers as runs: how many, the first, and the step by which they rise.
+// A long row of numbers as runs: how many, the first, and the step by which they rise, in 32 bits.
 pub fn rises(printer: &mut impl Write, numbers: &[u32]) -> io::Result<()> {
     printer.write_all(b" |")?;
-    let mut i: usize = 0;
-    while i < numbers.len() {
-        let step = step_at(numbers, i);
-        let j = evenly(numbers, i, step);
-        if j <= i {
-            break;
-        }
-        rise(printer, j - i, wide_number(numbers[i]), step)?;
-        i = j;
+    let mut left = numbers;
+    // A while: how long a run is comes from its numbers.
+    while let Some(first) = left.first() {
+        let step = match left.get(1) {
+            Some(second) => second.wrapping_sub(*first),
+            None => 0,
+        };
+        let many = evenly(left, step);
+        write!(printer, " {many}x{first}+{step}")?;
+        left = &left[many..];
     }
     Ok(())
 }
 
-fn places_out(printer: &mut impl Write, places: [u8; 256]) -> io::Result<()> {
-    runs(printer, &places)
+// How many numbers from the first on rise by this step.
+fn evenly(row: &[u32], step: u32) -> usize
+    requires { 0 < length row.now }
+    ensures { (0 < result) × (result ≤ length row.now) }
+{
+    for (i, pair) in row.windows(2).enumerate() {
+        if pair[1] != pair[0].wrapping_add(step) {
+            return i + 1;
+        }
+    }
+    row.len()
 }
 
 pub fn roll_out(printer: &mut impl Write, roll: Roll) -> io::Result<()> {
-    let table = roll.table;
     write!(printer, " n {} h {}", roll.n, roll.h)?;
-    table_out(printer, table)
+    table_out(printer, roll.table)
 }
 
 pub fn table_out(printer: &mut impl Write, table: Table) -> io::Result<()> {
     let code = table.code;
-    let places = table.places;
     write!(printer, " k {} s {} sigma {}", code.k, code.s, table.sigma)?;
-    places_out(printer, places)
+    runs(printer, &table.places)
 }

@@ -16,6 +16,7 @@ use writing::hexadecimal::hex_out;
 use writing::plain::text_out;
 
 // refused NUMBER VALUE
+#[tactic(auto, using(writing::specs::Laws::Written::decimal_most))]
 fn refused_out(out: &mut [u8], refusal: Refusal) -> usize
     requires { 64 ≤ length out.old }
     ensures length { result ≡ length (line_for refusal) }
@@ -29,6 +30,7 @@ fn refused_out(out: &mut [u8], refusal: Refusal) -> usize
 }
 
 // best S symbols T, the bytes, the hits, hits N
+#[tactic(auto, using(crate::proofs::Long::lines_long))]
 fn lines_out(out: &mut [u8], s: u8, h: u32, bytes: &[u8], hits: &[u32]) -> usize
     requires { length (lines_of s h bytes.now hits.now) ≤ length out.old }
     ensures length { result ≡ length (lines_of s h bytes.now hits.now) }

@@ -5,7 +5,7 @@
 
 #![tactic(auto)]
 
-use casebook::given::{bytes, number, numbers, read_full, roll_at, table_at};
+use casebook::given::{Cases, read_full};
 use casebook::printed::{character, done, end, list, refused, rises, roll_out, runs, table_out};
 use casebook::rooms::{buffer, text_room};
 use ground::answers::Total;
@@ -13,7 +13,6 @@ use sound::records::Roll;
 use std::io::{self, Write};
 use stopper::code::LONGEST;
 use stopper::codeword_of::Codeword;
-use stopper::table::Table;
 
 // The most entries, or hits, that a case is given.
 const GIVEN: usize = 2100;
@@ -29,86 +28,102 @@ fn main(rt: HostRuntime) -> io::Result<()> {
 fn part(rt: &impl Input, printer: &mut impl Write) -> io::Result<()> {
     let mut input = [0u8; 262144];
     let n = read_full(&mut rt.reader(), &mut input)?;
-    cases(printer, &input[..n])
+    all_cases(printer, &input[..n])
 }
 
-fn cases(printer: &mut impl Write, s: &[u8]) -> io::Result<()> {
-    let mut at: usize = 0;
-    while at < s.len() {
-        let next = one_case(printer, s, at)?;
-        if next <= at {
+fn all_cases(printer: &mut impl Write, input: &[u8]) -> io::Result<()> {
+    let mut cases = Cases::of(input);
+    // A case has a byte at least, so there are no more of them.
+    for _ in 0..input.len() {
+        let Ok(operation) = Operation::try_from(cases.number()) else {
             break;
-        }
-        at = next;
+        };
+        one_case(printer, operation, &mut cases)?;
     }
     Ok(())
 }
 
-fn one_case(printer: &mut impl Write, s: &[u8], at: usize) -> io::Result<usize> {
-    let op = number(s, at);
-    let what = op.value;
-    match what {
-        1 => check_case(printer, s, op.next),
-        2 => unpack_case(printer, s, op.next),
-        3 => pack_case(printer, s, op.next),
-        4 => directory_case(printer, s, op.next),
-        5 => read_case(printer, s, op.next),
-        6 => search_case(printer, s, op.next),
-        7 => edit_case(printer, s, op.next),
-        8 => report_case(printer, s, op.next),
-        9 => count_case(printer, s, op.next),
-        10 => choose_case(printer, s, op.next),
-        11 => codeword_case(printer, s, op.next),
-        12 => character_case(printer, s, op.next),
-        13 => long_edit_case(printer, s, op.next),
-        _ => Ok(s.len()),
+#[derive(Clone, Copy)]
+enum Operation {
+    Check,
+    Unpack,
+    Pack,
+    Directory,
+    Read,
+    Search,
+    Edit,
+    Report,
+    Count,
+    Choose,
+    Codeword,
+    Character,
+    LongEdit,
+}
+
+// No operation has this number.
+#[derive(Clone, Copy)]
+struct Unknown;
+
+impl TryFrom<usize> for Operation {
+    type Error = Unknown;
+
+    fn try_from(number: usize) -> Result<Operation, Unknown> {
+        match number {
+            1 => Ok(Operation::Check),
+            2 => Ok(Operation::Unpack),
+            3 => Ok(Operation::Pack),
+            4 => Ok(Operation::Directory),
+            5 => Ok(Operation::Read),
+            6 => Ok(Operation::Search),
+            7 => Ok(Operation::Edit),
+            8 => Ok(Operation::Report),
+            9 => Ok(Operation::Count),
+            10 => Ok(Operation::Choose),
+            11 => Ok(Operation::Codeword),
+            12 => Ok(Operation::Character),
+            13 => Ok(Operation::LongEdit),
+            _ => Err(Unknown),
+        }
+    }
+}
+
+fn one_case(printer: &mut impl Write, operation: Operation, cases: &mut Cases) -> io::Result<()> {
+    match operation {
+        Operation::Check => check_case(printer, cases),
+        Operation::Unpack => unpack_case(printer, cases),
+        Operation::Pack => pack_case(printer, cases),
+        Operation::Directory => directory_case(printer, cases),
+        Operation::Read => read_case(printer, cases),
+        Operation::Search => search_case(printer, cases),
+        Operation::Edit => edit_case(printer, cases),
+        Operation::Report => report_case(printer, cases),
+        Operation::Count => count_case(printer, cases),
+        Operation::Choose => choose_case(printer, cases),
+        Operation::Codeword => codeword_case(printer, cases),
+        Operation::Character => character_case(printer, cases),
+        Operation::LongEdit => long_edit_case(printer, cases),
     }
 }
 
 // A roll, a buffer.
-fn check_case(printer: &mut impl Write, s: &[u8], at: usize) -> io::Result<usize> {
-    let given = roll_at(s, at);
+fn check_case(printer: &mut impl Write, cases: &mut Cases) -> io::Result<()> {
+    let roll = cases.roll();
     let mut space = buffer();
-    let buf = bytes(s, given.next, &mut space);
-    let n = buf.value;
-    let roll = given.roll;
+    let buf = cases.bytes(&mut space);
     printer.write_all(b"check")?;
-    done(printer, roll::check::check(roll, &space[..n]))?;
-    end(printer)?;
-    Ok(buf.next)
+    done(printer, roll::check::check(roll, buf))?;
+    end(printer)
 }
 
 // A roll, a buffer, start, end, the output as it was.
-fn unpack_case(printer: &mut impl Write, s: &[u8], at: usize) -> io::Result<usize> {
-    let given = roll_at(s, at);
+fn unpack_case(printer: &mut impl Write, cases: &mut Cases) -> io::Result<()> {
+    let roll = cases.roll();
     let mut space = buffer();
-    let buf = bytes(s, given.next, &mut space);
-    let n = buf.value;
-    let start = number(s, buf.next);
-    let stop = number(s, start.next);
+    let buf = cases.bytes(&mut space);
+    let start = cases.number();
+    let stop = cases.number();
     let mut output = text_room();
-    let out = bytes(s, stop.next, &mut output);
-    let m = out.value;
-    let roll = given.roll;
-    unpacked(
-        printer,
-        roll,
-        &space[..n],
-        start.value,
-        stop.value,
-        &mut output[..m],
-    )?;
-    Ok(out.next)
-}
-
-fn unpacked(
-    printer: &mut impl Write,
-    roll: Roll,
-    buf: &[u8],
-    start: usize,
-    stop: usize,
-    out: &mut [u8],
-) -> io::Result<()> {
+    let out = cases.bytes(&mut output);
     printer.write_all(b"unpack")?;
     done(printer, roll::unpack::unpack(roll, buf, start, stop, out))?;
     runs(printer, out)?;
@@ -116,42 +131,28 @@ fn unpacked(
 }
 
 // A table, a text, the buffer as it was.
-fn pack_case(printer: &mut impl Write, s: &[u8], at: usize) -> io::Result<usize> {
-    let given = table_at(s, at);
+fn pack_case(printer: &mut impl Write, cases: &mut Cases) -> io::Result<()> {
+    let table = cases.table();
     let mut letters = text_room();
-    let text = bytes(s, given.next, &mut letters);
-    let m = text.value;
+    let text = cases.bytes(&mut letters);
     let mut space = buffer();
-    let buf = bytes(s, text.next, &mut space);
-    let n = buf.value;
-    let table = given.table;
-    packed(printer, table, &letters[..m], &mut space[..n])?;
-    Ok(buf.next)
-}
-
-fn packed(printer: &mut impl Write, table: Table, text: &[u8], buf: &mut [u8]) -> io::Result<()> {
+    let buf = cases.bytes(&mut space);
     printer.write_all(b"pack")?;
     let outcome = roll::pack::pack(table, text, buf);
-    let answer = outcome.answer;
-    let roll = outcome.roll;
-    done(printer, answer)?;
-    roll_out(printer, roll)?;
+    done(printer, outcome.answer)?;
+    roll_out(printer, outcome.roll)?;
     runs(printer, buf)?;
     end(printer)
 }
 
 // A roll, a buffer, the directory as it was.
-fn directory_case(printer: &mut impl Write, s: &[u8], at: usize) -> io::Result<usize> {
-    let given = roll_at(s, at);
+fn directory_case(printer: &mut impl Write, cases: &mut Cases) -> io::Result<()> {
+    let roll = cases.roll();
     let mut space = buffer();
-    let buf = bytes(s, given.next, &mut space);
-    let n = buf.value;
-    let mut entries = [0u32; GIVEN];
-    let dir = numbers(s, buf.next, &mut entries);
-    let m = dir.value;
-    let roll = given.roll;
-    directory(printer, roll, &space[..n], &mut entries[..m])?;
-    Ok(dir.next)
+    let buf = cases.bytes(&mut space);
+    let mut entries = [0; GIVEN];
+    let dir = cases.numbers(&mut entries);
+    directory(printer, roll, buf, dir)
 }
 
 // One by one, or, where they were not given, as runs.
@@ -174,18 +175,14 @@ fn directory(printer: &mut impl Write, roll: Roll, buf: &[u8], dir: &mut [u32]) 
 }
 
 // A roll, a buffer, a directory, a place.
-fn read_case(printer: &mut impl Write, s: &[u8], at: usize) -> io::Result<usize> {
-    let given = roll_at(s, at);
+fn read_case(printer: &mut impl Write, cases: &mut Cases) -> io::Result<()> {
+    let roll = cases.roll();
     let mut space = buffer();
-    let buf = bytes(s, given.next, &mut space);
-    let n = buf.value;
-    let mut entries = [0u32; GIVEN];
-    let dir = numbers(s, buf.next, &mut entries);
-    let m = dir.value;
-    let place = number(s, dir.next);
-    let roll = given.roll;
-    read(printer, roll, &space[..n], &entries[..m], place.value)?;
-    Ok(place.next)
+    let buf = cases.bytes(&mut space);
+    let mut entries = [0; GIVEN];
+    let dir = cases.numbers(&mut entries);
+    let place = cases.number();
+    read(printer, roll, buf, dir, place)
 }
 
 fn read(
@@ -201,52 +198,27 @@ fn read(
 }
 
 // A roll, a buffer, a pattern, the hit list as it was: both searches.
-fn search_case(printer: &mut impl Write, s: &[u8], at: usize) -> io::Result<usize> {
-    let given = roll_at(s, at);
+fn search_case(printer: &mut impl Write, cases: &mut Cases) -> io::Result<()> {
+    let roll = cases.roll();
     let mut space = buffer();
-    let buf = bytes(s, given.next, &mut space);
-    let n = buf.value;
-    let mut letters = [0u8; 128];
-    let pattern = bytes(s, buf.next, &mut letters);
-    let p = pattern.value;
-    let mut places = [0u32; GIVEN];
-    let hits = numbers(s, pattern.next, &mut places);
-    let m = hits.value;
-    let mut others = [0u32; GIVEN];
-    let again = numbers(s, pattern.next, &mut others);
-    let o = again.value;
-    let roll = given.roll;
-    searched(printer, roll, &space[..n], &letters[..p], &mut places[..m])?;
-    searched_jumping(printer, roll, &space[..n], &letters[..p], &mut others[..o])?;
-    Ok(hits.next)
-}
-
-fn searched(
-    printer: &mut impl Write,
-    roll: Roll,
-    buf: &[u8],
-    pattern: &[u8],
-    slice: &mut [u32],
-) -> io::Result<()> {
+    let buf = cases.bytes(&mut space);
+    let mut letters = [0; 128];
+    let pattern = cases.bytes(&mut letters);
+    let mut others = [0; GIVEN];
+    let mut same = *cases;
+    let again = same.numbers(&mut others);
+    let mut places = [0; GIVEN];
+    let hits = cases.numbers(&mut places);
     printer.write_all(b"search")?;
-    total(printer, roll::search::search(roll, buf, pattern, slice))?;
-    list(printer, slice)?;
-    end(printer)
-}
-
-fn searched_jumping(
-    printer: &mut impl Write,
-    roll: Roll,
-    buf: &[u8],
-    pattern: &[u8],
-    slice: &mut [u32],
-) -> io::Result<()> {
+    total(printer, roll::search::search(roll, buf, pattern, hits))?;
+    list(printer, hits)?;
+    end(printer)?;
     printer.write_all(b"jumping")?;
     total(
         printer,
-        jump::search_jumping::search_jumping(roll, buf, pattern, slice),
+        jump::search_jumping::search_jumping(roll, buf, pattern, again),
     )?;
-    list(printer, slice)?;
+    list(printer, again)?;
     end(printer)
 }
 
@@ -258,30 +230,17 @@ fn total(printer: &mut impl Write, answer: Total) -> io::Result<()> {
 }
 
 // A roll, a buffer, a directory, start, end, a text.
-fn edit_case(printer: &mut impl Write, s: &[u8], at: usize) -> io::Result<usize> {
-    let given = roll_at(s, at);
+fn edit_case(printer: &mut impl Write, cases: &mut Cases) -> io::Result<()> {
+    let roll = cases.roll();
     let mut space = buffer();
-    let buf = bytes(s, given.next, &mut space);
-    let n = buf.value;
-    let mut entries = [0u32; GIVEN];
-    let dir = numbers(s, buf.next, &mut entries);
-    let m = dir.value;
-    let start = number(s, dir.next);
-    let stop = number(s, start.next);
-    let mut letters = [0u8; 128];
-    let text = bytes(s, stop.next, &mut letters);
-    let p = text.value;
-    let roll = given.roll;
-    edited(
-        printer,
-        roll,
-        &mut space[..n],
-        &mut entries[..m],
-        start.value,
-        stop.value,
-        &letters[..p],
-    )?;
-    Ok(text.next)
+    let buf = cases.bytes(&mut space);
+    let mut entries = [0; GIVEN];
+    let dir = cases.numbers(&mut entries);
+    let start = cases.number();
+    let stop = cases.number();
+    let mut letters = [0; 128];
+    let text = cases.bytes(&mut letters);
+    edited(printer, roll, buf, dir, start, stop, text)
 }
 
 fn edited(
@@ -295,71 +254,44 @@ fn edited(
 ) -> io::Result<()> {
     printer.write_all(b"edit")?;
     let outcome = roll::edit::edit(roll, buf, dir, start, stop, text);
-    let answer = outcome.answer;
-    let record = outcome.roll;
-    done(printer, answer)?;
-    roll_out(printer, record)?;
+    done(printer, outcome.answer)?;
+    roll_out(printer, outcome.roll)?;
     runs(printer, buf)?;
     entries_out(printer, dir)?;
     end(printer)
 }
 
 // A roll, a buffer, start, end, a text: a directory is made, the character at the start is read, and the edit is made.
-fn long_edit_case(printer: &mut impl Write, s: &[u8], at: usize) -> io::Result<usize> {
-    let given = roll_at(s, at);
+fn long_edit_case(printer: &mut impl Write, cases: &mut Cases) -> io::Result<()> {
+    let roll = cases.roll();
     let mut space = buffer();
-    let buf = bytes(s, given.next, &mut space);
-    let n = buf.value;
-    let start = number(s, buf.next);
-    let stop = number(s, start.next);
-    let mut letters = [0u8; 128];
-    let text = bytes(s, stop.next, &mut letters);
-    let p = text.value;
-    let roll = given.roll;
-    let mut entries = [0u32; 32770];
-    directory(printer, roll, &space[..n], &mut entries)?;
-    read(printer, roll, &space[..n], &entries, start.value)?;
-    edited(
-        printer,
-        roll,
-        &mut space[..n],
-        &mut entries,
-        start.value,
-        stop.value,
-        &letters[..p],
-    )?;
-    Ok(text.next)
+    let buf = cases.bytes(&mut space);
+    let start = cases.number();
+    let stop = cases.number();
+    let mut letters = [0; 128];
+    let text = cases.bytes(&mut letters);
+    let mut entries = [0; 32770];
+    directory(printer, roll, buf, &mut entries)?;
+    read(printer, roll, buf, &entries, start)?;
+    edited(printer, roll, buf, &mut entries, start, stop, text)
 }
 
 // The program's input.
-fn report_case(printer: &mut impl Write, s: &[u8], at: usize) -> io::Result<usize> {
-    let mut letters = [0u8; 16600];
-    let input = bytes(s, at, &mut letters);
-    let n = input.value;
+fn report_case(printer: &mut impl Write, cases: &mut Cases) -> io::Result<()> {
+    let mut letters = [0; 16600];
+    let input = cases.bytes(&mut letters);
     printer.write_all(b"report\n")?;
-    reported(printer, &letters[..n])?;
-    Ok(input.next)
-}
-
-fn reported(printer: &mut impl Write, input: &[u8]) -> io::Result<()> {
-    let mut out = [0u8; 147456];
+    let mut out = [0; 147456];
     let long = report::program::report(input, &mut out);
     printer.write_all(&out[..long])
 }
 
 // A text, the counts as they were.
-fn count_case(printer: &mut impl Write, s: &[u8], at: usize) -> io::Result<usize> {
+fn count_case(printer: &mut impl Write, cases: &mut Cases) -> io::Result<()> {
     let mut letters = text_room();
-    let text = bytes(s, at, &mut letters);
-    let n = text.value;
-    let mut row = [0u32; 300];
-    let counts = numbers(s, text.next, &mut row);
-    let m = counts.value;
-    counted(printer, &letters[..n], &mut row[..m])?;
-    Ok(counts.next)
-}
-
-fn counted(printer: &mut impl Write, text: &[u8], counts: &mut [u32]) -> io::Result<()> {
+    let text = cases.bytes(&mut letters);
+    let mut row = [0; 300];
+    let counts = cases.numbers(&mut row);
     printer.write_all(b"count")?;
     done(printer, choosing::count::count(text, counts))?;
     list(printer, counts)?;
@@ -367,60 +299,38 @@ fn counted(printer: &mut impl Write, text: &[u8], counts: &mut [u32]) -> io::Res
 }
 
 // k, the counts.
-fn choose_case(printer: &mut impl Write, s: &[u8], at: usize) -> io::Result<usize> {
-    let k = number(s, at);
-    let mut row = [0u32; 300];
-    let counts = numbers(s, k.next, &mut row);
-    let m = counts.value;
-    chosen(printer, (k.value % 256) as u8, &row[..m])?;
-    Ok(counts.next)
-}
-
-fn chosen(printer: &mut impl Write, k: u8, counts: &[u32]) -> io::Result<()> {
+fn choose_case(printer: &mut impl Write, cases: &mut Cases) -> io::Result<()> {
+    let k = cases.byte();
+    let mut row = [0; 300];
+    let counts = cases.numbers(&mut row);
     printer.write_all(b"choose")?;
     let choice = choosing::choose::choose(k, counts);
-    let answer = choice.answer;
-    let table = choice.table;
-    done(printer, answer)?;
+    done(printer, choice.answer)?;
     write!(printer, " total {}", choice.total)?;
-    table_out(printer, table)?;
+    table_out(printer, choice.table)?;
     end(printer)
 }
 
 // A table, a character.
-fn codeword_case(printer: &mut impl Write, s: &[u8], at: usize) -> io::Result<usize> {
-    let given = table_at(s, at);
-    let wanted = number(s, given.next);
-    let table = given.table;
-    coded(printer, table, (wanted.value % 256) as u8)?;
-    Ok(wanted.next)
-}
-
-fn coded(printer: &mut impl Write, table: Table, wanted: u8) -> io::Result<()> {
+fn codeword_case(printer: &mut impl Write, cases: &mut Cases) -> io::Result<()> {
+    let table = cases.table();
+    let wanted = cases.byte();
     printer.write_all(b"codeword")?;
     let outcome = stopper::codeword_of::codeword_of(table, wanted);
-    let answer = outcome.answer;
-    let word = outcome.word;
-    let symbols = word.symbols;
-    done(printer, answer)?;
-    write!(printer, " length {}", word.length)?;
-    runs(printer, &symbols)?;
+    done(printer, outcome.answer)?;
+    write!(printer, " length {}", outcome.word.length)?;
+    runs(printer, &outcome.word.symbols)?;
     end(printer)
 }
 
 // A table, a length, symbols.
-fn character_case(printer: &mut impl Write, s: &[u8], at: usize) -> io::Result<usize> {
-    let given = table_at(s, at);
-    let length = number(s, given.next);
-    let mut symbols = [0u8; LONGEST];
-    let row = bytes(s, length.next, &mut symbols);
-    let table = given.table;
-    let word = Codeword {
-        length: length.value,
-        symbols,
-    };
+fn character_case(printer: &mut impl Write, cases: &mut Cases) -> io::Result<()> {
+    let table = cases.table();
+    let length = cases.number();
+    let mut symbols = [0; LONGEST];
+    cases.bytes(&mut symbols);
+    let word = Codeword { length, symbols };
     printer.write_all(b"character")?;
     character(printer, stopper::character_of::character_of(table, word))?;
-    end(printer)?;
-    Ok(row.next)
+    end(printer)
 }

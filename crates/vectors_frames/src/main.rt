@@ -10,9 +10,9 @@
 mod edits;
 mod outcomes;
 
-use casebook::given::{bytes, number, read_full, roll_at};
+use casebook::given::{Cases, read_full};
 use casebook::rooms::{buffer, text_room};
-use edits::all_edits;
+use edits::{Reading, all_edits};
 use outcomes::written;
 use std::io::{self, Write};
 
@@ -25,61 +25,65 @@ fn main(rt: HostRuntime) -> io::Result<()> {
 fn part(rt: &impl Input, printer: &mut impl Write) -> io::Result<()> {
     let mut input = [0u8; 262144];
     let n = read_full(&mut rt.reader(), &mut input)?;
-    cases(printer, &input[..n])
+    all_cases(printer, &input[..n])
 }
 
-fn cases(printer: &mut impl Write, s: &[u8]) -> io::Result<()> {
-    let mut at: usize = 0;
-    while at < s.len() {
-        let next = one_case(printer, s, at)?;
-        if next <= at {
+fn all_cases(printer: &mut impl Write, input: &[u8]) -> io::Result<()> {
+    let mut cases = Cases::of(input);
+    // A case has a byte at least, so there are no more of them.
+    for _ in 0..input.len() {
+        let Ok(kind) = Kind::try_from(cases.number()) else {
             break;
+        };
+        match kind {
+            Kind::Write => write_case(printer, &mut cases)?,
+            Kind::Read(by) => read_case(printer, &mut cases, by)?,
         }
-        at = next;
     }
     Ok(())
 }
 
-fn one_case(printer: &mut impl Write, s: &[u8], at: usize) -> io::Result<usize> {
-    let kind = number(s, at);
-    let what = kind.value;
-    match what {
-        1 => write_case(printer, s, kind.next),
-        2 | 3 | 4 => read_case(printer, s, kind.next, what),
-        _ => Ok(s.len()),
+#[derive(Clone, Copy)]
+enum Kind {
+    Write,
+    Read(Reading),
+}
+
+// No kind has this number.
+#[derive(Clone, Copy)]
+struct Unknown;
+
+impl TryFrom<usize> for Kind {
+    type Error = Unknown;
+
+    fn try_from(number: usize) -> Result<Kind, Unknown> {
+        match number {
+            1 => Ok(Kind::Write),
+            2 => Ok(Kind::Read(Reading::Frames)),
+            3 => Ok(Kind::Read(Reading::First)),
+            4 => Ok(Kind::Read(Reading::Frame)),
+            _ => Err(Unknown),
+        }
     }
 }
 
 // A roll, its buffer, the output as it was, a buffer as it was.
-fn write_case(printer: &mut impl Write, s: &[u8], at: usize) -> io::Result<usize> {
-    let given = roll_at(s, at);
+fn write_case(printer: &mut impl Write, cases: &mut Cases) -> io::Result<()> {
+    let roll = cases.roll();
     let mut space = buffer();
-    let buf = bytes(s, given.next, &mut space);
-    let n = buf.value;
+    let buf = cases.bytes(&mut space);
     let mut output = text_room();
-    let out = bytes(s, buf.next, &mut output);
-    let m = out.value;
+    let out = cases.bytes(&mut output);
     let mut other = buffer();
-    let lent = bytes(s, out.next, &mut other);
-    let l = lent.value;
-    let roll = given.roll;
-    written(
-        printer,
-        roll,
-        &space[..n],
-        &mut output[..m],
-        &mut other[..l],
-    )?;
-    Ok(lent.next)
+    let lent = cases.bytes(&mut other);
+    written(printer, roll, buf, out, lent)
 }
 
 // What is lent as it was, a text, edits.
-fn read_case(printer: &mut impl Write, s: &[u8], at: usize, what: usize) -> io::Result<usize> {
+fn read_case(printer: &mut impl Write, cases: &mut Cases, by: Reading) -> io::Result<()> {
     let mut space = buffer();
-    let lent = bytes(s, at, &mut space);
-    let n = lent.value;
+    let lent = cases.bytes(&mut space);
     let mut letters = text_room();
-    let text = bytes(s, lent.next, &mut letters);
-    let m = text.value;
-    all_edits(printer, s, text.next, what, &letters[..m], &space[..n])
+    let text = cases.bytes(&mut letters);
+    all_edits(printer, cases, by, text, lent)
 }

@@ -29,10 +29,8 @@ pub fn written(
 pub fn frames_read(printer: &mut impl Write, text: &[u8], buf: &mut [u8]) -> io::Result<()> {
     printer.write_all(b"frames")?;
     let outcome = frames::read_frames::read_frames(text, buf);
-    let answer = outcome.answer;
-    let roll = outcome.roll;
-    done(printer, answer)?;
-    roll_out(printer, roll)?;
+    done(printer, outcome.answer)?;
+    roll_out(printer, outcome.roll)?;
     runs(printer, buf)?;
     end(printer)
 }
@@ -40,10 +38,8 @@ pub fn frames_read(printer: &mut impl Write, text: &[u8], buf: &mut [u8]) -> io:
 pub fn first_read(printer: &mut impl Write, line: &[u8]) -> io::Result<()> {
     printer.write_all(b"first")?;
     let outcome = frames::read_first::read_first(line);
-    let answer = outcome.answer;
-    let roll = outcome.roll;
-    done(printer, answer)?;
-    roll_out(printer, roll)?;
+    done(printer, outcome.answer)?;
+    roll_out(printer, outcome.roll)?;
     end(printer)
 }
 

@@ -9,70 +9,74 @@
 mod pieces;
 mod searchers;
 
-use casebook::given::{bytes, number, read_full, roll_at};
+use casebook::given::{Cases, read_full};
 use casebook::printed::{done, end};
 use pieces::all_pieces;
 use radio::records::Searcher;
-use searchers::searcher_at;
-use sound::records::Roll;
+use searchers::searcher;
 use std::io::{self, Write};
 
 fn main(rt: HostRuntime) -> io::Result<()> {
     let mut input = [0u8; 262144];
     let n = read_full(&mut rt.reader(), &mut input)?;
-    cases(&mut io::writer(&rt), &input[..n])
+    all_cases(&mut io::writer(&rt), &input[..n])
 }
 
-fn cases(printer: &mut impl Write, s: &[u8]) -> io::Result<()> {
-    let mut at: usize = 0;
-    while at < s.len() {
-        let next = one_case(printer, s, at)?;
-        if next <= at {
+fn all_cases(printer: &mut impl Write, input: &[u8]) -> io::Result<()> {
+    let mut cases = Cases::of(input);
+    // A case has a byte at least, so there are no more of them.
+    for _ in 0..input.len() {
+        let Ok(kind) = Kind::try_from(cases.number()) else {
             break;
+        };
+        match kind {
+            Kind::Start => start_case(printer, &mut cases)?,
+            Kind::Searcher => searcher_case(printer, &mut cases)?,
         }
-        at = next;
     }
     Ok(())
 }
 
-fn one_case(printer: &mut impl Write, s: &[u8], at: usize) -> io::Result<usize> {
-    let kind = number(s, at);
-    let what = kind.value;
-    match what {
-        1 => start_case(printer, s, kind.next),
-        2 => searcher_case(printer, s, kind.next),
-        _ => Ok(s.len()),
+#[derive(Clone, Copy)]
+enum Kind {
+    Start,
+    Searcher,
+}
+
+// No kind has this number.
+#[derive(Clone, Copy)]
+struct Unknown;
+
+impl TryFrom<usize> for Kind {
+    type Error = Unknown;
+
+    fn try_from(number: usize) -> Result<Kind, Unknown> {
+        match number {
+            1 => Ok(Kind::Start),
+            2 => Ok(Kind::Searcher),
+            _ => Err(Unknown),
+        }
     }
 }
 
 // A roll, a pattern, pieces.
-fn start_case(printer: &mut impl Write, s: &[u8], at: usize) -> io::Result<usize> {
-    let given = roll_at(s, at);
-    let mut letters = [0u8; 128];
-    let pattern = bytes(s, given.next, &mut letters);
-    let p = pattern.value;
-    let roll = given.roll;
-    let searcher = started(printer, roll, &letters[..p])?;
-    all_pieces(printer, s, pattern.next, searcher)
-}
-
-fn started(printer: &mut impl Write, roll: Roll, pattern: &[u8]) -> io::Result<Searcher> {
+fn start_case(printer: &mut impl Write, cases: &mut Cases) -> io::Result<()> {
+    let roll = cases.roll();
+    let mut letters = [0; 128];
+    let pattern = cases.bytes(&mut letters);
     printer.write_all(b"start")?;
     let outcome = radio::start::start(roll, pattern);
-    let answer = outcome.answer;
-    let searcher = outcome.searcher;
-    done(printer, answer)?;
-    finished(printer, searcher)?;
-    Ok(searcher)
+    done(printer, outcome.answer)?;
+    finished(printer, outcome.searcher)?;
+    all_pieces(printer, cases, outcome.searcher)
 }
 
 // A searcher, pieces.
-fn searcher_case(printer: &mut impl Write, s: &[u8], at: usize) -> io::Result<usize> {
-    let given = searcher_at(s, at);
-    let searcher = given.searcher;
+fn searcher_case(printer: &mut impl Write, cases: &mut Cases) -> io::Result<()> {
+    let searcher = searcher(cases);
     printer.write_all(b"given")?;
     finished(printer, searcher)?;
-    all_pieces(printer, s, given.next, searcher)
+    all_pieces(printer, cases, searcher)
 }
 
 fn finished(printer: &mut impl Write, searcher: Searcher) -> io::Result<()> {

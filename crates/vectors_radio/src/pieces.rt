@@ -1,65 +1,24 @@
 // The pieces of a case, fed one after the other.
-ghost use Rattle.std.specs.Prelude.{◌≤◌, length};
-
 use crate::searchers::searcher_out;
-use casebook::given::{bytes, number};
-use casebook::printed::{done, end, number_out};
+use casebook::given::Cases;
+use casebook::printed::{done, end};
 use radio::records::Searcher;
 use std::io::{self, Write};
 
 // What lies in an entry when it is lent: more than any hit.
 const LENT: u32 = 2000000;
 
-#[derive(Clone, Copy)]
-struct Went {
-    searcher: Searcher,
-    next: usize,
-}
-
-// So many entries, as many as there is room for, are lent; how many they are.
-fn lend(row: &mut [u32], many: usize) -> usize
-    ensures { result ≤ length row.new }
-{
-    let mut i: usize = 0;
-    while i < row.len() {
-        if many <= i {
-            break;
-        }
-        row[i] = LENT;
-        i += 1;
-    }
-    i
-}
-
-fn wide_number(x: u32) -> usize {
-    x as usize
-}
-
 // The first entries, so many of them.
 fn named(printer: &mut impl Write, slice: &[u32], hits: usize) -> io::Result<()> {
-    let mut i: usize = 0;
-    while i < slice.len() {
-        if hits <= i {
-            break;
-        }
-        printer.write_all(b" ")?;
-        number_out(printer, wide_number(slice[i]))?;
-        i += 1;
+    for hit in slice.iter().take(hits) {
+        write!(printer, " {hit}")?;
     }
     Ok(())
 }
 
 // How many of the entries behind the first ones are as they were lent.
 fn left_alone(slice: &[u32], hits: usize) -> usize {
-    let mut many: usize = 0;
-    let mut i: usize = 0;
-    while i < slice.len() {
-        if hits <= i && slice[i] == LENT {
-            many += 1;
-        }
-        i += 1;
-    }
-    many
+    slice.iter().skip(hits).filter(|x| **x == LENT).count()
 }
 
 // What was answered, how many hits, the hits, how many entries are left alone, and what finishing says then.
@@ -71,56 +30,37 @@ fn fed(
 ) -> io::Result<Searcher> {
     printer.write_all(b"feed")?;
     let outcome = radio::feed::feed(searcher, piece, slice);
-    let answer = outcome.answer;
-    let hits = outcome.hits;
-    let after = outcome.searcher;
-    done(printer, answer)?;
-    write!(printer, " hits {hits} |")?;
-    named(printer, slice, hits)?;
-    write!(printer, " | left {} finish", left_alone(slice, hits))?;
-    done(printer, radio::finish::finish(after))?;
+    done(printer, outcome.answer)?;
+    write!(printer, " hits {} |", outcome.hits)?;
+    named(printer, slice, outcome.hits)?;
+    write!(
+        printer,
+        " | left {} finish",
+        left_alone(slice, outcome.hits)
+    )?;
+    done(printer, radio::finish::finish(outcome.searcher))?;
     end(printer)?;
-    Ok(after)
+    Ok(outcome.searcher)
 }
 
-// A piece, and how many entries are lent for it.
+// A piece, and how many entries are lent for it, as many as there is room for.
 fn one_piece(
     printer: &mut impl Write,
-    s: &[u8],
-    at: usize,
+    cases: &mut Cases,
     searcher: Searcher,
-) -> io::Result<Went> {
-    let mut space = [0u8; 16400];
-    let piece = bytes(s, at, &mut space);
-    let n = piece.value;
-    let lent = number(s, piece.next);
-    let mut entries = [0u32; 65600];
-    let m = lend(&mut entries, lent.value);
-    let after = fed(printer, searcher, &space[..n], &mut entries[..m])?;
-    Ok(Went {
-        searcher: after,
-        next: lent.next,
-    })
+) -> io::Result<Searcher> {
+    let mut space = [0; 16400];
+    let piece = cases.bytes(&mut space);
+    let mut entries = [LENT; 65600];
+    let many = cases.number().min(entries.len());
+    fed(printer, searcher, piece, &mut entries[..many])
 }
 
 // How many pieces, and each; then what the searcher holds.
-pub fn all_pieces(
-    printer: &mut impl Write,
-    s: &[u8],
-    at: usize,
-    first: Searcher,
-) -> io::Result<usize> {
-    let count = number(s, at);
-    let mut left = count.value;
-    let mut next = count.next;
+pub fn all_pieces(printer: &mut impl Write, cases: &mut Cases, first: Searcher) -> io::Result<()> {
     let mut searcher = first;
-    while 0 < left {
-        let went = one_piece(printer, s, next, searcher)?;
-        let after = went.searcher;
-        searcher = after;
-        next = went.next;
-        left -= 1;
+    for _ in 0..cases.number() {
+        searcher = one_piece(printer, cases, searcher)?;
     }
-    searcher_out(printer, searcher)?;
-    Ok(next)
+    searcher_out(printer, searcher)
 }

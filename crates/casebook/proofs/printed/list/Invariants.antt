@@ -1,6 +1,0 @@
--- `casebook::printed::list` meets its contract.
-use Rattle.std.proofs.Common.{◌-◌, length}
-use Rattle.casebook.proofs.printed.list.Given as goal
-
-abbrev pub decreases-loop-i : goal.decreases-loop-i
-decreases-loop-i g l = length l.numbers - l.i

@@ -1,6 +1,0 @@
--- `vectors::cases` meets its contract.
-use Rattle.std.proofs.Common.{◌-◌, length}
-use Rattle.vectors.proofs.cases.Given as goal
-
-abbrev pub decreases-loop-at : goal.decreases-loop-at
-decreases-loop-at g l = length l.s - l.at
