@@ -1,12 +1,12 @@
 // What the program answers.
 ghost use Rattle.std.specs.Prelude.{◌≡◌, ◌++◌, ◌≤◌, T, length, drop};
 ghost use Rattle.texts.specs.Paper.Hits.{good_pattern};
-ghost use Rattle.report.specs.Paper.Report.{refused_line, lines_of, report_of, given_pattern};
-ghost use Rattle.report.specs.Helpers.Answers.{answer_for, start_of_text};
+ghost use Rattle.report.specs.Paper.Report.{lines_of, report_of, given_pattern};
+ghost use Rattle.report.specs.Helpers.Answers.{PackedOut, answer_for, line_for, start_of_text};
 
 use choosing::choose::choose;
 use choosing::count::count;
-use ground::answers::{Done, Total};
+use ground::refusal::Refusal;
 use roll::pack::pack;
 use roll::search::search;
 use symbols::size::bytes_for;
@@ -16,15 +16,16 @@ use writing::hexadecimal::hex_out;
 use writing::plain::text_out;
 
 // refused NUMBER VALUE
-fn refused_out(out: &mut [u8], number: u8, value: u64) -> usize
+#[tactic(auto, using(writing::specs::Laws::Written::decimal_most))]
+fn refused_out(out: &mut [u8], refusal: Refusal) -> usize
     requires { 64 ≤ length out.old }
-    ensures length { result ≡ length (refused_line number value) }
-    ensures out { out.new ≡ refused_line number value ++ drop (length (refused_line number value)) out.old }
+    ensures length { result ≡ length (line_for refusal) }
+    ensures out { out.new ≡ line_for refusal ++ drop (length (line_for refusal)) out.old }
 {
     let mut p = text_out(out, 0, b"refused ");
-    p = decimal_out(out, p, number as u64);
+    p = decimal_out(out, p, u64::from(refusal.number()));
     p = text_out(out, p, b" ");
-    p = decimal_out(out, p, value);
+    p = decimal_out(out, p, refusal.value());
     text_out(out, p, b"\n")
 }
 
@@ -47,32 +48,38 @@ fn lines_out(out: &mut [u8], s: u8, h: u32, bytes: &[u8], hits: &[u32]) -> usize
     text_out(out, p, b"\n")
 }
 
-// The answer to a good pattern and a text of at most 16,384 bytes: chosen with k = 2, packed, searched.
+// The lines for a good pattern and a text of at most 16,384 bytes: chosen with k = 2, packed, searched.
+fn packed_out(pattern: &[u8], text: &[u8], out: &mut [u8]) -> Result<usize, Refusal>
+    requires { T (good_pattern pattern.now) × (length text.now ≤ 16384) × (length out.old ≡ 147456) }
+    ensures { PackedOut pattern.now text.now out.old result out.new }
+{
+    let mut counts = [0u32; 256];
+    count(text, &mut counts)?;
+    let choice = choose(2, &counts)?;
+    let mut buf = [0u8; 16384];
+    let roll = pack(choice.table, text, &mut buf)?;
+    let mut hits = [0u32; 16384];
+    let total = search(roll, &buf, pattern, &mut hits)?;
+    let taken = bytes_for(2, roll.h as usize);
+    Ok(lines_out(
+        out,
+        roll.table.code.s,
+        roll.h,
+        &buf[..taken],
+        &hits[..total as usize],
+    ))
+}
+
+// The answer to them: the lines, or packing's refusal.
 fn answer(pattern: &[u8], text: &[u8], out: &mut [u8]) -> usize
     requires { T (good_pattern pattern.now) × (length text.now ≤ 16384) × (length out.old ≡ 147456) }
     ensures length { result ≡ length (answer_for pattern.now text.now) }
     ensures out { out.new ≡ answer_for pattern.now text.now ++ drop (length (answer_for pattern.now text.now)) out.old }
 {
-    let mut counts = [0u32; 256];
-    count(text, &mut counts);
-    let choice = choose(2, &counts);
-    let table = choice.table;
-    let code = table.code;
-    let mut buf = [0u8; 16384];
-    let packed = pack(table, text, &mut buf);
-    let packing = packed.answer;
-    let roll = packed.roll;
-    if let Done::Refused(number, value) = packing {
-        return refused_out(out, number, value);
+    match packed_out(pattern, text, out) {
+        Ok(end) => end,
+        Err(refusal) => refused_out(out, refusal),
     }
-    let mut hits = [0u32; 16384];
-    let searching = search(roll, &buf, pattern, &mut hits);
-    let Total::Of(total) = searching else {
-        return 0;
-    };
-    let taken = bytes_for(2, roll.h as usize);
-    let found = total as usize;
-    lines_out(out, code.s, roll.h, &buf[..taken], &hits[..found])
 }
 
 // The place of the first byte 10, or the end.
@@ -102,11 +109,11 @@ pub fn report(input: &[u8], out: &mut [u8; 147456]) -> usize
 {
     let end = line_end(input);
     if !good_pattern(&input[..end]) {
-        return refused_out(out, 11, 0);
+        return refused_out(out, Refusal::BadPattern);
     }
     let from = text_start(input, end);
     if 16384 < input.len() - from {
-        return refused_out(out, 4, 16384);
+        return refused_out(out, Refusal::NoRoom(16384));
     }
     answer(&input[..end], &input[from..], out)
 }
