@@ -38,6 +38,7 @@ impl<'a> Cases<'a> {
     // To the first digit, past blanks and comments.
     fn skip_blanks(&mut self) {
         let mut comment = false;
+        // A while: it stays at the digit.
         while let Some((b, rest)) = self.left.split_first() {
             match *b {
                 b'#' => comment = true,
@@ -53,6 +54,7 @@ impl<'a> Cases<'a> {
     pub fn number(&mut self) -> usize {
         self.skip_blanks();
         let mut value = 0;
+        // A while: it stays at the first byte that is no digit.
         while let Some((b, rest)) = self.left.split_first() {
             if !b.is_ascii_digit() || MOST < value {
                 break;
