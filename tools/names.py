@@ -1,7 +1,7 @@
 #!/usr/bin/env python3
 """Every name that the pages cite exists, and every place that they link to.
 
-Read are README.md and docs/*.md (not docs/landings/, which is history), outside blocks of code. Held to the tree:
+Read are README.md and docs/*.md, outside blocks of code, but not docs/PORT.md, docs/DESIGN-PASS.md and docs/landings/. Held to the tree:
   `crate`/Path: `a`, `b`     a and b are declared in crates/crate/specs/Path.antt, or proofs/Path.antt, or (Path = src/..) in that file of code
   edit `crate`: `a`          crates/crate/must-fail/a.edit
   row P2: `a`                a is a case of crates/worked/specs/Cases.antt
@@ -9,7 +9,7 @@ Read are README.md and docs/*.md (not docs/landings/, which is history), outside
   `crate::module::item`      item is declared in that module of the code; also `crate::module`, `crate::item` of its lib.rt, `module::item`
   `crates/..`, `docs/..`     a path of the repository
   `a`                        any other single word: it stands somewhere in the tree as a whole word
-In these and in docs/landings/ too:
+In all of them, those left out too:
   [words](path#anchor)       a path of the repository, from the page's folder on, and a heading of that page as GitHub names it; no link to another host is tried
 In docs/BOX.md the blocks of C, joined, are examples/members.c behind its first comment, and those of Rust rust/monterculo/examples/members.rs.
 A name or place that is not there is printed with its page and line, and the exit status is 1.
@@ -160,11 +160,13 @@ def hold_blocks(page, language, path):
         miss(page.relative_to(ROOT), 1, f"the blocks, joined, are not {path}")
 
 
-pages = [ROOT / "README.md", *sorted((ROOT / "docs").glob("*.md"))]
+# Pages about earlier commits: their names are those of then.
+earlier = {ROOT / "docs" / "PORT.md", ROOT / "docs" / "DESIGN-PASS.md", *(ROOT / "docs" / "landings").glob("*.md")}
+pages = [p for p in (ROOT / "README.md", *sorted((ROOT / "docs").glob("*.md"))) if p not in earlier]
 for page in pages:
     for number, line in prose(page):
         hold(page.relative_to(ROOT), number, line)
-for page in pages + sorted((ROOT / "docs" / "landings").glob("*.md")):
+for page in pages + sorted(p for p in earlier if p.exists()):
     for number, line in prose(page):
         hold_links(page, number, line)
 hold_blocks(ROOT / "docs" / "BOX.md", "c", "examples/members.c")
