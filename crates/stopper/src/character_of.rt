@@ -18,7 +18,7 @@ fn if_last(rank: u32, read: usize, length: usize) -> Option<u32>
 }
 
 // The rank of a row of symbols, if it is one codeword of a rank below sigma.
-fn rank_of_word(code: Code, sigma: u32, length: usize, symbols: [u8; LONGEST]) -> Option<u32>
+pub fn rank_of_word(code: Code, sigma: u32, length: usize, symbols: [u8; LONGEST]) -> Option<u32>
     requires { T (good_code code) × (sigma ≤ 256) × (length ≤ longest) }
     ensures { result ≡ ranked_as code sigma (take length symbols) }
 {

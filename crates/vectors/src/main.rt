@@ -9,9 +9,7 @@
 use casebook::given::{Cases, read_full};
 use casebook::printed::{answered, done, end, list, rises, roll_out, runs, table_out, told};
 use casebook::rooms::{buffer, text_room};
-use monterculo::{
-    monterculo_choose, monterculo_codeword_of, monterculo_edit, monterculo_pack,
-};
+use monterculo::{monterculo_choose, monterculo_codeword_of, monterculo_edit, monterculo_pack};
 use sound::records::Roll;
 use std::io::{self, Write};
 use stopper::code::LONGEST;
@@ -303,11 +301,7 @@ fn choose_case(printer: &mut impl Write, cases: &mut Cases) -> io::Result<()> {
     let outcome = monterculo_choose(k, counts);
     let answer = outcome.answer;
     told(printer, answer.number, answer.value)?;
-    let total = if answer.number == 0 {
-        answer.value
-    } else {
-        0
-    };
+    let total = if answer.number == 0 { answer.value } else { 0 };
     write!(printer, " total {total}")?;
     table_out(printer, outcome.table)?;
     end(printer)
