@@ -443,7 +443,9 @@ edit_as_afresh {r} {buf} {dir} {text} {new} {other} {space} {bytes} {made} {afte
     let (u, record_is, bytes_are, list_is) = editing_yes editing in
     let d : a ≡ record_of r.table E = (packing_sound p).0 in
     let many : entries (length E) ≤ length space = rw (ap (λ (x : Roll). x.n) d) at ((makes_is a bytes space).1 (sym making.says)).1 in
-    let (c, f, g, h) = edit_as_packed long u other space packs.fits many p (subst (λ (x : Roll). Making x bytes space (Ok tt) made) d making) in
+    let makes : (given : Roll) → ◌≡◌ {A = Result Roll Refusal} (Ok a) (Ok given) → Making given bytes space (Ok tt) made
+    = λ given e. let s : a ≡ given = cc in subst (λ (x : Roll). Making x bytes space (Ok tt) made) s making in
+    let (c, f, g, h) = edit_as_packed long u other space packs.fits many p makes in
     (record_is ∙ sym d, rw (bytes_are, d) (sym f), rw (list_is, d) (sym h))
 
 -- ---- What an accepted edit leaves

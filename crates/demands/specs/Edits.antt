@@ -61,15 +61,16 @@ module _ {r : Roll} {buf dir : List ℕ} {start end : ℕ} {text : List ℕ} (lo
   -- by the operations: pack it afresh into any buffer with room and make its directory; record, bytes and entries are the edit's
   module _ (other space : List ℕ) (room_there : length (symbols_for r.table E) ≤ room k (length other)) (entries_there : entries q.n ≤ length space) where
     pub edit_as_packed : {p : Result Roll Refusal} {bytes : List ℕ} → Packing r.table E other p bytes → {made : Result (Unit {0}) Refusal} {list : List ℕ}
-        → Making q bytes space made list
+        → ((given : Roll) → p ≡ Ok given → Making given bytes space made list)
         → (p ≡ Ok q)
         × (take (bytes_for k q.h) bytes ≡ take (bytes_for k q.h) after)
         × (made ≡ Ok tt)
         × (take (entries q.n) list ≡ take (entries q.n) (directory_after r E dir))
-    edit_as_packed {p} {bytes} a {made} {list} b =
+    edit_as_packed {p} {bytes} a {made} {list} makes =
         let (accept, first) = edit_afresh other room_there in
         let given : pack_roll r.table E other ≡ q = accepted_leaves accept _ _ in
         let y : p ≡ Ok q = accepted_ok (pack_roll r.table E other) a.says accept ∙ ap Ok given in
+        let b = makes q y in
         let (same, sound, text_is) = packing_sound (subst (λ (x : Result Roll Refusal). Packing r.table E other x bytes) y a) in
         let bytes_are : bytes ≡ packed_into k (symbols_for r.table E) other = a.leaves ∙ accepted_leaves accept _ _ in
         let making : Making q bytes space (Ok tt) (directory_of (lengths_of q bytes) ++ drop (entries q.n) space) = make_yes sound entries_there refl in

@@ -6,7 +6,7 @@ use Rattle.std.proofs.Math.Seq.{take_at}
 use Rattle.ground.specs.Paper.Refusals.{accepted, refused}
 use Rattle.ground.specs.Paper.Rows.{zeros}
 use Rattle.ground.specs.Helpers.Below.{Below}
-use Rattle.ground.specs.Laws.Answers.{says_one, ok_accepted, err_refused}
+use Rattle.ground.specs.Laws.Answers.{says_one, accepted_ok, ok_accepted, err_refused}
 use Rattle.ground.specs.Laws.Limit.{limit_least}
 use Rattle.ground.specs.Laws.Refusals.{Accepted, accepted_leaves}
 use Rattle.ground.specs.Laws.Rows.{length_tab, length_zeros, below_from}
@@ -56,11 +56,13 @@ module _ (text : List ℕ) (short : length text ≤ 16384) where
   choose_accepted = (chooses_is 2 (counts_of text)).0 (tt, counts_length)
 
   -- and the table is chosen for them
-  pub table_is : {counts : List ℕ} {c : Choice} → counts ≡ counts_of text → Choosing 2 counts (Ok c) → c.table ≡ own_table text
-  table_is {counts} {c} e p =
-      ap (λ (x : Choice). x.table) (ok_accepted (choice_of 2 counts) p.says refl).1
-      ∙ ap (choose_table 2) e
-      ∙ accepted_leaves choose_accepted _ _
+  pub table_is : {counts : List ℕ} {r : Result Choice Refusal} → counts ≡ counts_of text → Choosing 2 counts r → (c : Choice) × (r ≡ Ok c) × (c.table ≡ own_table text)
+  table_is {counts} e p =
+      let a : Accepted (choose_says 2 counts) = ap (choose_says 2) e ∙ choose_accepted in
+      (choice_of 2 counts, accepted_ok (choice_of 2 counts) p.says a, ap (choose_table 2) e ∙ accepted_leaves choose_accepted _ _)
+
+  pub own_choice : {counts : List ℕ} {c : Choice} → counts ≡ counts_of text → Choosing 2 counts (Ok c) → c.table ≡ own_table text
+  own_choice {c = c} e p = let (d, same, own) = table_is e p in let t : c ≡ d = cc in ap (λ (x : Choice). x.table) t ∙ own
 
   pub choose_unrefused : {counts : List ℕ} {q : Refusal} → counts ≡ counts_of text → Choosing 2 counts (Err q) → ⊥
   choose_unrefused {counts} {q} e p = not_both (sym (err_refused (choice_of 2 counts) p.says refl) ∙ ap (choose_says 2) e ∙ choose_accepted)

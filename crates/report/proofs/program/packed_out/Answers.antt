@@ -16,7 +16,7 @@ use Rattle.sound.specs.Paper.Roll.{record_of}
 use Rattle.sound.specs.declared.records.Roll.{Roll}
 use Rattle.roll.specs.Paper.Operations.{Packing, Searching}
 use Rattle.report.specs.Paper.Report.{own_table, lines_of, lines_for}
-use Rattle.report.specs.Laws.Answering.{counts_are, count_unrefused, table_is, choose_unrefused, lines_are, record_is, bytes_are, bytes_few, hits_few, total_is, hits_are, answer_few, packed_refused, packed_yes}
+use Rattle.report.specs.Laws.Answering.{counts_are, count_unrefused, own_choice, choose_unrefused, lines_are, record_is, bytes_are, bytes_few, hits_few, total_is, hits_are, answer_few, packed_refused, packed_yes}
 use Rattle.report.proofs.program.packed_out.Goals as goal
 
 -- ---- packed under the text's own table
@@ -28,7 +28,7 @@ module _ (text : List ℕ) (short : length text ≤ 16384) {a : Result (Unit {0}
   packing : {c : Choice} {r : Result Roll Refusal} {buf : List ℕ} → Choosing 2 counts (Ok c) → Packing c.table text (replicate {A = ℕ} 16384 0) r buf
       → Packing (own_table text) text (zeros 16384) r buf
   unfolding zeros
-  packing {c} {r} {buf} h k = subst (λ (x : Table). Packing x text (zeros 16384) r buf) (table_is text short counted h) k
+  packing {c} {r} {buf} h k = subst (λ (x : Table). Packing x text (zeros 16384) r buf) (own_choice text short counted h) k
 
 -- ---- what is lent to be written
 
