@@ -15,6 +15,15 @@ pub struct Move {
     pub stops: u32,
 }
 
+// The parts of the moves of all byte values, each in a row of its own: so a loop over bytes is fastest.
+#[derive(Drop)]
+pub struct Parts {
+    pub bound: [u16; 256],
+    pub times: [u8; 256],
+    pub plus: [u8; 256],
+    pub stops: [u8; 256],
+}
+
 // Of no state.
 fn never() -> Move
     ensures { (Small result) × (result.bound ≡ 0) }
