@@ -16,12 +16,12 @@ pub struct Move {
 }
 
 // The parts of the moves of all byte values, each in a row of its own: so a loop over bytes is fastest.
-#[derive(Drop)]
-pub struct Parts {
-    pub bound: [u16; 256],
-    pub times: [u8; 256],
-    pub plus: [u8; 256],
-    pub stops: [u8; 256],
+#[derive(Clone, Copy)]
+pub struct Parts<'a> {
+    pub bound: &'a [u16; 256],
+    pub times: &'a [u8; 256],
+    pub plus: &'a [u8; 256],
+    pub stops: &'a [u8; 256],
 }
 
 // Of no state.

@@ -40,7 +40,7 @@ fn by_moves(packed: &Packed, parts: &Parts, whole: usize, way: Way) -> Way
         times,
         plus,
         stops,
-    } = parts;
+    } = *parts;
     let mut at = way.at;
     let mut x = u64::from(way.x);
     let mut n = way.n;
@@ -120,10 +120,10 @@ fn by_bytes(packed: &Packed, whole: usize, way: Way) -> Way
 {
     let t = moves_by_byte(packed.code, packed.sigma);
     let parts = Parts {
-        bound: bounds_of(&t),
-        times: part_of(&t, 8),
-        plus: part_of(&t, 0),
-        stops: part_of(&t, 25),
+        bound: &bounds_of(&t),
+        times: &part_of(&t, 8),
+        plus: &part_of(&t, 0),
+        stops: &part_of(&t, 25),
     };
     by_moves(packed, &parts, whole, way)
 }

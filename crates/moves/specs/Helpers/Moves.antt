@@ -74,8 +74,8 @@ PartIn part t n r = (b : ℕ) → b < n → get_or r b 0 ≡ part (get_or t b 0)
 
 -- so by_moves reads them
 pub record Rows (c : Code) (σ : ℕ) (p : Parts) : Type 0 where
-  pub low : (b : ℕ) → b < 256 → get_or p.bound b 0 < 512
-  pub moves : (b : ℕ) → b < 256 → Goes c σ (symbols_of c.k (b ∷ [])) (get_or p.bound b 0) (get_or p.times b 0) (get_or p.plus b 0) (get_or p.stops b 0)
+  pub low : (b : ℕ) → b < 256 → get_or p.bound.now b 0 < 512
+  pub moves : (b : ℕ) → b < 256 → Goes c σ (symbols_of c.k (b ∷ [])) (get_or p.bound.now b 0) (get_or p.times.now b 0) (get_or p.plus.now b 0) (get_or p.stops.now b 0)
 
 -- the symbols that are read
 abbrev pub row_of : Packed → List ℕ

@@ -134,7 +134,7 @@ part_more part t r n l z b h =
     ]
 
 pub rows_are : (c : Code) (σ : ℕ) (t : List ℕ) (p : Parts) → MovesByByte c σ t
-    → PartIn bound_in t 256 p.bound → PartIn times_in t 256 p.times → PartIn plus_in t 256 p.plus → PartIn stops_in t 256 p.stops → Rows c σ p
+    → PartIn bound_in t 256 p.bound.now → PartIn times_in t 256 p.times.now → PartIn plus_in t 256 p.plus.now → PartIn stops_in t 256 p.stops.now → Rows c σ p
 rows_are c σ t p m e f g h = record { low = λ b l. rw (e b l) (omega arith); moves = λ b l. rw (e b l, f b l, g b l, h b l) (m b l) }
 
 -- there are 256 byte values

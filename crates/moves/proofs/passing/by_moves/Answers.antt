@@ -29,18 +29,18 @@ module _ (s : Packed) {whole : ℕ} (in-row : whole * per s.code.k ≤ s.h) wher
 
   module _ {p : Parts} (r : Rows s.code s.sigma p) where
     -- a byte b of the buffer, by its move
-    one_byte : (j : ℕ) → j < whole → {b x n : ℕ} → b ≡ get_or s.buf.now j 0 → b < 256 → x < get_or p.bound b 0
+    one_byte : (j : ℕ) → j < whole → {b x n : ℕ} → b ≡ get_or s.buf.now j 0 → b < 256 → x < get_or p.bound.now b 0
         → Here s.code s.sigma (row_of s) (j * per s.code.k) x n
-        → Here s.code s.sigma (row_of s) (suc j * per s.code.k) (x * get_or p.times b 0 + get_or p.plus b 0) (n + get_or p.stops b 0)
+        → Here s.code s.sigma (row_of s) (suc j * per s.code.k) (x * get_or p.times.now b 0 + get_or p.plus.now b 0) (n + get_or p.stops.now b 0)
     one_byte j l {b} e k t w =
         here_byte s.code s.sigma s.reads.good s.buf.now s.h j (inside j l) s.reads.held
-        (subst (λ (y : ℕ). Goes s.code s.sigma (symbols_of s.code.k (y ∷ [])) (get_or p.bound b 0) (get_or p.times b 0) (get_or p.plus b 0) (get_or p.stops b 0)) e (r.moves b k)) t w
+        (subst (λ (y : ℕ). Goes s.code s.sigma (symbols_of s.code.k (y ∷ [])) (get_or p.bound.now b 0) (get_or p.times.now b 0) (get_or p.plus.now b 0) (get_or p.stops.now b 0)) e (r.moves b k)) t w
 
     two_bytes : (j : ℕ) → j + 1 < whole → {b d x n : ℕ} → b ≡ get_or s.buf.now j 0 → d ≡ get_or s.buf.now (j + 1) 0 → b < 256 → d < 256
-        → x < get_or p.bound b 0 → x * get_or p.times b 0 + get_or p.plus b 0 < get_or p.bound d 0
+        → x < get_or p.bound.now b 0 → x * get_or p.times.now b 0 + get_or p.plus.now b 0 < get_or p.bound.now d 0
         → Here s.code s.sigma (row_of s) (j * per s.code.k) x n
-        → Here s.code s.sigma (row_of s) ((j + 2) * per s.code.k) ((x * get_or p.times b 0 + get_or p.plus b 0) * get_or p.times d 0 + get_or p.plus d 0)
-        (n + (get_or p.stops b 0 + get_or p.stops d 0))
+        → Here s.code s.sigma (row_of s) ((j + 2) * per s.code.k) ((x * get_or p.times.now b 0 + get_or p.plus.now b 0) * get_or p.times.now d 0 + get_or p.plus.now d 0)
+        (n + (get_or p.stops.now b 0 + get_or p.stops.now d 0))
     two_bytes j l {b} {d} e f k i t u w =
         let half = one_byte j (omega arith) e k t w in
         here_as (omega arith) refl (omega arith) (one_byte (suc j) (omega arith) (f ∙ ap (λ (o : ℕ). get_or s.buf.now o 0) (add-one j)) i u half)
