@@ -5,8 +5,8 @@ use Rattle.stopper.specs.Paper.Table.{base}
 use Rattle.stopper.specs.declared.code.Code.{Code}
 use Rattle.symbols.specs.Paper.Symbols.{symbols_of}
 use Rattle.symbols.specs.Helpers.Gathered.{digits}
-use Rattle.moves.specs.Helpers.States.{state_after, ranks_ended}
 use Rattle.reading.specs.Paper.Reading.{row_upto}
+use Rattle.moves.specs.Helpers.States.{state_after, ranks_ended}
 use Rattle.moves.specs.declared.byte.Move.{Move}
 use Rattle.moves.specs.declared.byte.Parts.{Parts}
 use Rattle.moves.specs.declared.packed.Packed.{Packed}
