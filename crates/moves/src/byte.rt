@@ -15,6 +15,15 @@ pub struct Move {
     pub stops: u32,
 }
 
+// The parts of the moves of all byte values, each in a row of its own: so a loop over bytes is fastest.
+#[derive(Clone, Copy)]
+pub struct Parts<'a> {
+    pub bound: &'a [u16; 256],
+    pub times: &'a [u8; 256],
+    pub plus: &'a [u8; 256],
+    pub stops: &'a [u8; 256],
+}
+
 // Of no state.
 fn never() -> Move
     ensures { (Small result) × (result.bound ≡ 0) }

@@ -1,5 +1,6 @@
-// All codewords of a buffer read a byte at a time: what its symbols do to an open codeword is worked out once for each byte value. Read byte.rt, passing.rt.
+// All codewords of a buffer read a byte at a time: what its symbols do to an open codeword is worked out once for each byte value. Read byte.rt, packed.rt, passing.rt.
 #![tactic(auto)]
 
 pub mod byte;
+mod packed;
 pub mod passing;

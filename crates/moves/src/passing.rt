@@ -5,9 +5,10 @@ ghost use Rattle.symbols.specs.Paper.Symbols.{per, symbols_of};
 ghost use Rattle.reading.specs.Paper.Reading.{row_upto, row_reading};
 ghost use Rattle.reading.specs.Helpers.Codewords.{Reads, scanned};
 ghost use Rattle.moves.specs.Helpers.States.{open_from, Stuck};
-ghost use Rattle.moves.specs.Helpers.Moves.{Rows, Here};
+ghost use Rattle.moves.specs.Helpers.Moves.{row_of, Rows, Here};
 
-use crate::byte::{bounds_of, moved, moved_twice, moves_by_byte, part_of};
+use crate::byte::{Parts, bounds_of, moved, moved_twice, moves_by_byte, part_of};
+use crate::packed::Packed;
 use reading::codewords::BadWord;
 use stopper::code::{Code, base_of};
 use symbols::bits::{byte_of, per_byte};
@@ -27,23 +28,19 @@ pub struct Way {
     pub n: usize,
 }
 
-// Whole bytes, from byte way.at on, two by two: as far as their moves take the state. The parts of the moves stand in rows of their own for the speed of its loop.
-fn by_moves(
-    code: Code,
-    sigma: u32,
-    bound: &[u16; 256],
-    times: &[u8; 256],
-    plus: &[u8; 256],
-    stops: &[u8; 256],
-    buf: &[u8],
-    h: usize,
-    whole: usize,
-    way: Way,
-) -> Way
-    requires { (Reads code sigma buf.now h (whole * per code.k)) × (Rows code sigma bound.now times.now plus.now stops.now)
-        × (way.at ≤ whole) × (Here code sigma (row_upto code h buf.now) (way.at * per code.k) way.x way.n) × (way.x < 131072) }
-    ensures { (result.at ≤ whole) × (Here code sigma (row_upto code h buf.now) (result.at * per code.k) result.x result.n) × (result.x < 131072) }
+// Whole bytes, from byte way.at on, two by two: as far as their moves take the state.
+fn by_moves(packed: &Packed, parts: &Parts, whole: usize, way: Way) -> Way
+    requires { let s = packed.now in (whole * per s.code.k ≤ s.h) × (Rows s.code s.sigma parts.now)
+        × (way.at ≤ whole) × (Here s.code s.sigma (row_of s) (way.at * per s.code.k) way.x way.n) × (way.x < 131072) }
+    ensures { let s = packed.now in (result.at ≤ whole) × (Here s.code s.sigma (row_of s) (result.at * per s.code.k) result.x result.n) × (result.x < 131072) }
 {
+    let buf = packed.buf;
+    let Parts {
+        bound,
+        times,
+        plus,
+        stops,
+    } = *parts;
     let mut at = way.at;
     let mut x = u64::from(way.x);
     let mut n = way.n;
@@ -68,11 +65,17 @@ fn by_moves(
 }
 
 // Symbols one by one, up to symbol `upto`, or up to one at which the open codeword is bad whatever follows.
-fn by_symbols(code: Code, sigma: u32, buf: &[u8], h: usize, upto: usize, way: Way) -> Way
-    requires { (Reads code sigma buf.now h upto) × (way.at ≤ upto) × (Here code sigma (row_upto code h buf.now) way.at way.x way.n) × (way.x < 131072) }
-    ensures { (result.at ≤ upto) × (Here code sigma (row_upto code h buf.now) result.at result.x result.n) × (result.x < 131072)
-        × (result.at < upto → Stuck code sigma result.x (drop result.at (row_upto code h buf.now))) }
+fn by_symbols(packed: &Packed, upto: usize, way: Way) -> Way
+    requires { let s = packed.now in (upto ≤ s.h) × (way.at ≤ upto) × (Here s.code s.sigma (row_of s) way.at way.x way.n) × (way.x < 131072) }
+    ensures { let s = packed.now in (result.at ≤ upto) × (Here s.code s.sigma (row_of s) result.at result.x result.n) × (result.x < 131072)
+        × (result.at < upto → Stuck s.code s.sigma result.x (drop result.at (row_of s))) }
 {
+    let Packed {
+        code,
+        sigma,
+        buf,
+        ..
+    } = *packed;
     let few = u32::from(code.s);
     let many = base_of(code) - few;
     let mut x = way.x;
@@ -110,57 +113,56 @@ fn opened(code: Code, buf: &[u8], at: usize) -> usize
 }
 
 // The whole bytes from byte way.at on.
-fn by_bytes(code: Code, sigma: u32, buf: &[u8], h: usize, whole: usize, way: Way) -> Way
-    requires { (Reads code sigma buf.now h (whole * per code.k))
-        × (way.at ≤ whole) × (Here code sigma (row_upto code h buf.now) (way.at * per code.k) way.x way.n) × (way.x < 131072) }
-    ensures { (result.at ≤ whole) × (Here code sigma (row_upto code h buf.now) (result.at * per code.k) result.x result.n) × (result.x < 131072) }
+fn by_bytes(packed: &Packed, whole: usize, way: Way) -> Way
+    requires { let s = packed.now in (whole * per s.code.k ≤ s.h)
+        × (way.at ≤ whole) × (Here s.code s.sigma (row_of s) (way.at * per s.code.k) way.x way.n) × (way.x < 131072) }
+    ensures { let s = packed.now in (result.at ≤ whole) × (Here s.code s.sigma (row_of s) (result.at * per s.code.k) result.x result.n) × (result.x < 131072) }
 {
-    let t = moves_by_byte(code, sigma);
-    let bound = bounds_of(&t);
-    let times = part_of(&t, 8);
-    let plus = part_of(&t, 0);
-    let stops = part_of(&t, 25);
-    by_moves(
-        code, sigma, &bound, &times, &plus, &stops, buf, h, whole, way,
-    )
+    let t = moves_by_byte(packed.code, packed.sigma);
+    let parts = Parts {
+        bound: &bounds_of(&t),
+        times: &part_of(&t, 8),
+        plus: &part_of(&t, 0),
+        stops: &part_of(&t, 25),
+    };
+    by_moves(packed, &parts, whole, way)
 }
 
 // What a way says that went as far as it could.
-fn told(code: Code, sigma: u32, buf: &[u8], h: usize, way: Way) -> Result<usize, BadWord>
-    requires { (Reads code sigma buf.now h way.at) × (Here code sigma (row_upto code h buf.now) way.at way.x way.n)
-        × (way.at < h → Stuck code sigma way.x (drop way.at (row_upto code h buf.now))) }
-    ensures { result ≡ scanned (row_reading code sigma (row_upto code h buf.now) 0) }
+fn told(packed: &Packed, way: Way) -> Result<usize, BadWord>
+    requires { let s = packed.now in (way.at ≤ s.h) × (Here s.code s.sigma (row_of s) way.at way.x way.n)
+        × (way.at < s.h → Stuck s.code s.sigma way.x (drop way.at (row_of s))) }
+    ensures { let s = packed.now in result ≡ scanned (row_reading s.code s.sigma (row_of s) 0) }
 {
-    if way.at == h && way.x == 0 {
+    if way.at == packed.h && way.x == 0 {
         return Ok(way.n);
     }
     Err(BadWord {
-        first: opened(code, buf, way.at),
+        first: opened(packed.code, packed.buf, way.at),
     })
 }
 
 // As read_all, where there are so many symbols.
-fn read_bytes(code: Code, sigma: u32, buf: &[u8], h: usize) -> Result<usize, BadWord>
-    requires { Reads code sigma buf.now h 1024 }
-    ensures { result ≡ scanned (row_reading code sigma (row_upto code h buf.now) 0) }
+fn read_bytes(packed: &Packed) -> Result<usize, BadWord>
+    requires { 1024 ≤ packed.now.h }
+    ensures { let s = packed.now in result ≡ scanned (row_reading s.code s.sigma (row_of s) 0) }
 {
-    let few = by_symbols(code, sigma, buf, h, FIRST, Way { at: 0, x: 0, n: 0 });
+    let k = packed.code.k;
+    let few = by_symbols(packed, FIRST, Way { at: 0, x: 0, n: 0 });
     if few.at < FIRST {
-        return told(code, sigma, buf, h, few);
+        return told(packed, few);
     }
     let begun = Way {
-        at: byte_of(code.k, FIRST),
-        x: few.x,
-        n: few.n,
+        at: byte_of(k, FIRST),
+        ..few
     };
-    let bytes = by_bytes(code, sigma, buf, h, byte_of(code.k, h), begun);
+    let bytes = by_bytes(packed, byte_of(k, packed.h), begun);
     let rest = Way {
-        at: bytes.at * per_byte(code.k),
-        x: bytes.x,
-        n: bytes.n,
+        at: bytes.at * per_byte(k),
+        ..bytes
     };
-    let all = by_symbols(code, sigma, buf, h, h, rest);
-    told(code, sigma, buf, h, all)
+    let all = by_symbols(packed, packed.h, rest);
+    told(packed, all)
 }
 
 // All codewords from the first on: how many, or where the first bad one begins.
@@ -168,9 +170,15 @@ pub fn read_all(code: Code, sigma: u32, buf: &[u8], h: usize) -> Result<usize, B
     requires { Reads code sigma buf.now h 0 }
     ensures { result ≡ scanned (row_reading code sigma (row_upto code h buf.now) 0) }
 {
+    let packed = Packed {
+        code,
+        sigma,
+        buf,
+        h,
+    };
     if FEW <= h {
-        return read_bytes(code, sigma, buf, h);
+        return read_bytes(&packed);
     }
-    let all = by_symbols(code, sigma, buf, h, h, Way { at: 0, x: 0, n: 0 });
-    told(code, sigma, buf, h, all)
+    let all = by_symbols(&packed, h, Way { at: 0, x: 0, n: 0 });
+    told(&packed, all)
 }

@@ -1,5 +1,6 @@
-// Characters of a buffer's codewords, a byte at a time: which ones a byte gives is worked out once for each byte value. Read giving.rt, range.rt.
+// Characters of a buffer's codewords, a byte at a time: which ones a byte gives is worked out once for each byte value. Read giving.rt, task.rt, range.rt.
 #![tactic(auto)]
 
 pub mod giving;
 pub mod range;
+mod task;

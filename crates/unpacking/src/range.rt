@@ -6,26 +6,16 @@ ghost use Rattle.symbols.specs.Helpers.Widths.{Width};
 ghost use Rattle.reading.specs.Paper.Reading.{row_upto, row_reading, is_bad, ranks_read};
 ghost use Rattle.reading.specs.Helpers.Codewords.{Reads};
 ghost use Rattle.moves.specs.Helpers.Moves.{part_in};
-ghost use Rattle.unpacking.specs.Helpers.Gives.{KnownByByte, first_times, first_plus, Unpacks, Wrote, WroteBytes};
+ghost use Rattle.unpacking.specs.Helpers.Gives.{KnownByByte, first_times, first_plus};
+ghost use Rattle.unpacking.specs.Helpers.Tasks.{Written, WrittenBytes};
 
 use crate::giving::{AllKnown, known_by_byte};
+use crate::task::Task;
 use moves::byte::{bound_of, ended, moved_by};
 use moves::passing::Way;
 use stopper::code::{Code, base_of};
 use symbols::bits::{byte_of, per_byte};
 use symbols::symbol::get;
-
-// What is unpacked: the first m codewords from symbol p on of a row of h symbols. The character of each rank stands in `places`.
-#[derive(Clone, Copy)]
-struct Task<'a> {
-    code: Code,
-    sigma: u32,
-    places: &'a [u8; 256],
-    buf: &'a [u8],
-    h: usize,
-    p: usize,
-    m: usize,
-}
 
 // The byte of g whose lowest bit is bit `low`. Each byte is cut out where it is stored: the loop below is slower where all are cut out first.
 fn part(g: u64, low: u32) -> u8
@@ -52,11 +42,9 @@ fn border(k: u8, p: usize, h: usize) -> usize
 
 // Symbols one by one, up to symbol `upto` or until m characters are written.
 fn write_symbols(task: &Task, upto: usize, way: Way, out: &mut [u8]) -> Way
-    requires { (Unpacks task.now.code task.now.sigma task.now.buf.now task.now.h task.now.p task.now.m) × (task.now.m ≤ length out.old) × (upto ≤ task.now.h) × (way.at ≤ upto) × (way.n ≤ task.now.m)
-        × (Wrote task.now.code task.now.sigma task.now.places.now (row_upto task.now.code task.now.h task.now.buf.now) task.now.p out.old way) }
-    ensures { (result.at ≤ upto) × (result.n ≤ task.now.m) × (result.at < upto → result.n ≡ task.now.m)
-        × (Wrote task.now.code task.now.sigma task.now.places.now (row_upto task.now.code task.now.h task.now.buf.now) task.now.p out.new result)
-        × (drop task.now.m out.new ≡ drop task.now.m out.old) }
+    requires { let t = task.now in (t.m ≤ length out.old) × (upto ≤ t.h) × (way.at ≤ upto) × (way.n ≤ t.m) × (Written t out.old way) }
+    ensures { let t = task.now in (result.at ≤ upto) × (result.n ≤ t.m) × (result.at < upto → result.n ≡ t.m)
+        × (Written t out.new result) × (drop t.m out.new ≡ drop t.m out.old) }
 {
     let Task {
         code,
@@ -88,12 +76,10 @@ fn write_symbols(task: &Task, upto: usize, way: Way, out: &mut [u8]) -> Way
 // Whole bytes by what they give, from a byte on, up to byte `whole` or to one that is not known at the state in hand, as long as four characters are to be written:
 // four are always stored, and the next byte's are stored over those that are too many. Here bytes are counted, not symbols.
 fn write_known(task: &Task, all: &AllKnown, whole: usize, way: Way, out: &mut [u8]) -> Way
-    requires { (Unpacks task.now.code task.now.sigma task.now.buf.now task.now.h task.now.p task.now.m) × (KnownByByte task.now.code task.now.sigma task.now.places.now all.now.go all.now.gives)
-        × (task.now.m ≤ length out.old) × (whole * per task.now.code.k ≤ task.now.h) × (way.at ≤ whole) × (way.n ≤ task.now.m)
-        × (WroteBytes task.now.code task.now.sigma task.now.places.now (row_upto task.now.code task.now.h task.now.buf.now) task.now.p out.old way) }
-    ensures { (way.at ≤ result.at) × (result.at ≤ whole) × (result.n ≤ task.now.m)
-        × (WroteBytes task.now.code task.now.sigma task.now.places.now (row_upto task.now.code task.now.h task.now.buf.now) task.now.p out.new result)
-        × (drop task.now.m out.new ≡ drop task.now.m out.old) }
+    requires { let t = task.now in (KnownByByte t.code t.sigma t.places.now all.now.go all.now.gives)
+        × (t.m ≤ length out.old) × (whole * per t.code.k ≤ t.h) × (way.at ≤ whole) × (way.n ≤ t.m) × (WrittenBytes t out.old way) }
+    ensures { let t = task.now in (way.at ≤ result.at) × (result.at ≤ whole) × (result.n ≤ t.m)
+        × (WrittenBytes t out.new result) × (drop t.m out.new ≡ drop t.m out.old) }
 {
     let Task { places, buf, m, .. } = *task;
     let mut x = way.x;
@@ -120,11 +106,9 @@ fn write_known(task: &Task, all: &AllKnown, whole: usize, way: Way, out: &mut [u
 
 // Whole bytes, where `way` stands before one.
 fn write_bytes(task: &Task, way: Way, out: &mut [u8]) -> Way
-    requires { (Unpacks task.now.code task.now.sigma task.now.buf.now task.now.h task.now.p task.now.m) × (task.now.m ≤ length out.old) × (way.at ≤ task.now.h) × (way.n ≤ task.now.m)
-        × (Wrote task.now.code task.now.sigma task.now.places.now (row_upto task.now.code task.now.h task.now.buf.now) task.now.p out.old way) }
-    ensures { (result.at ≤ task.now.h) × (result.n ≤ task.now.m)
-        × (Wrote task.now.code task.now.sigma task.now.places.now (row_upto task.now.code task.now.h task.now.buf.now) task.now.p out.new result)
-        × (drop task.now.m out.new ≡ drop task.now.m out.old) }
+    requires { let t = task.now in (t.m ≤ length out.old) × (way.at ≤ t.h) × (way.n ≤ t.m) × (Written t out.old way) }
+    ensures { let t = task.now in (result.at ≤ t.h) × (result.n ≤ t.m)
+        × (Written t out.new result) × (drop t.m out.new ≡ drop t.m out.old) }
 {
     let k = task.code.k;
     let at = byte_of(k, way.at);

@@ -22,6 +22,7 @@ use Rattle.moves.specs.Helpers.States.{few, many, ended_by, opened_by, state_aft
 use Rattle.moves.specs.Helpers.Moves.{Goes, Moves, In, bound_in, times_in, plus_in, stops_in, MoveIn, MovesOf, MovesByByte, PartIn, Rows, Here}
 use Rattle.moves.specs.Laws.States.{after_stop, after_more, ranks_stop, ranks_more, state_append, ranks_append, ends_few}
 use Rattle.moves.specs.declared.byte.Move.{Move}
+use Rattle.moves.specs.declared.byte.Parts.{Parts}
 
 -- the same by other names
 pub here_as : {c : Code} {σ : ℕ} {row : List ℕ} {q x n q' x' n' : ℕ} → q' ≡ q → x' ≡ x → n' ≡ n → Here c σ row q x n → Here c σ row q' x' n'
@@ -132,9 +133,9 @@ part_more part t r n l z b h =
       | no q ↦ get_or-set_other r n b (part (get_or t n 0)) 0 q ∙ z b (omega arith)
     ]
 
-pub rows_are : (c : Code) (σ : ℕ) (t bound times plus stops : List ℕ) → MovesByByte c σ t
-    → PartIn bound_in t 256 bound → PartIn times_in t 256 times → PartIn plus_in t 256 plus → PartIn stops_in t 256 stops → Rows c σ bound times plus stops
-rows_are c σ t bound times plus stops m e f g h = record { low = λ b l. rw (e b l) (omega arith); moves = λ b l. rw (e b l, f b l, g b l, h b l) (m b l) }
+pub rows_are : (c : Code) (σ : ℕ) (t : List ℕ) (p : Parts) → MovesByByte c σ t
+    → PartIn bound_in t 256 p.bound.now → PartIn times_in t 256 p.times.now → PartIn plus_in t 256 p.plus.now → PartIn stops_in t 256 p.stops.now → Rows c σ p
+rows_are c σ t p m e f g h = record { low = λ b l. rw (e b l) (omega arith); moves = λ b l. rw (e b l, f b l, g b l, h b l) (m b l) }
 
 -- there are 256 byte values
 pub byte_values : (c : Code) → T (good_code c) → base c ^ per c.k ≡ 256

@@ -1,16 +1,15 @@
 -- `moves::passing::by_symbols` meets its contract: `Here` after every symbol.
-use Rattle.std.proofs.Common.{◌≡◌, List, ℕ, ◌+◌, ◌-◌, ◌*◌, ◌≤◌, ◌<◌, T, length, drop, get_or, sym, ◌∙◌, arith, add-one, drop-cons, length-take-le, mul-le-mul}
+use Rattle.std.proofs.Common.{◌≡◌, ℕ, ◌+◌, ◌-◌, ◌*◌, ◌≤◌, ◌<◌, T, length, drop, get_or, sym, ◌∙◌, arith, add-one, drop-cons, length-take-le, mul-le-mul}
 use Rattle.std.proofs.Math.Seq.{get_or-take}
 use Rattle.stopper.specs.Paper.Table.{base, good_code}
 use Rattle.stopper.specs.Laws.Table.{one_number, code_width, code_good, code_base}
 use Rattle.stopper.specs.declared.code.Code.{Code}
 use Rattle.symbols.specs.Paper.Symbols.{symbols_of}
-use Rattle.reading.specs.Paper.Reading.{row_upto}
-use Rattle.reading.specs.Helpers.Codewords.{Reads}
 use Rattle.moves.specs.Helpers.States.{few, Stuck}
-use Rattle.moves.specs.Helpers.Moves.{Here}
+use Rattle.moves.specs.Helpers.Moves.{row_of, Here}
 use Rattle.moves.proofs.Laws.States.{stuck_stop, stuck_more}
 use Rattle.moves.specs.Laws.Moves.{here_stop, here_more, here_few}
+use Rattle.moves.specs.declared.packed.Packed.{Packed}
 use Rattle.moves.proofs.passing.by_symbols.Goals as goal
 use Rattle.moves.proofs.passing.by_symbols.Goals.{then-y-few+else-sigma-x, else-y-few+else-sigma-next}
 
@@ -21,71 +20,68 @@ few_is code e = e ∙ sym (one_number code 0)
 many_small : (code : Code) → T (good_code code) → {b : ℕ} (s x : ℕ) → b ≡ base code → x < 131072 → x * (b - s) ≤ 131072 * 16
 many_small code g {b} s x e h = mul-le-mul {n₁ = x} {m₁ = b - s} {n₂ = 131072} {m₂ = 16} (omega arith) (omega (arith, code_base code g))
 
-module _ {code : Code} {σ : ℕ} {buf : List ℕ} {h upto : ℕ} (z : Reads code σ buf h upto) where
-  abbrev row : List ℕ
-  row = row_upto code h buf
-
+module _ (s : Packed) {upto : ℕ} (in-row : upto ≤ s.h) where
   -- symbol `at` is one of the row's
   module _ (at : ℕ) (l : at < upto) where
-    inside : at < length row
-    inside = omega (arith, z.upto, length-take-le h (symbols_of code.k buf) z.held)
+    inside : at < length (row_of s)
+    inside = omega (arith, length-take-le s.h (symbols_of s.code.k s.buf.now) s.reads.held)
 
-    pub in_buffer : at < length (symbols_of code.k buf)
-    in_buffer = omega (arith, z.upto, z.held)
+    pub in_buffer : at < length (symbols_of s.code.k s.buf.now)
+    in_buffer = omega (arith, s.reads.held)
 
-    symbol_is : get_or (symbols_of code.k buf) at 0 ≡ get_or row at 0
-    symbol_is = sym (get_or-take h (symbols_of code.k buf) at 0 (omega (arith, z.upto)))
+    symbol_is : get_or (symbols_of s.code.k s.buf.now) at 0 ≡ get_or (row_of s) at 0
+    symbol_is = sym (get_or-take s.h (symbols_of s.code.k s.buf.now) at 0 (omega arith))
 
-    -- it is y, of a code with s stoppers among b symbols; the open codeword is bad at it, or good, or still open
-    module _ {b s y : ℕ} (e : b ≡ base code) (f : s ≡ few code) (i : y ≡ get_or (symbols_of code.k buf) at 0) where
-      bad_stop : (x : ℕ) → y < s → σ ≤ x * s + y → Stuck code σ x (drop at row)
-      bad_stop x k o = rw (drop-cons row at 0 inside) (stuck_stop code z.good σ x _ _ (rw (f, i, symbol_is) at k) (rw (f, i, symbol_is) at o))
+    -- it is y, of a code with f stoppers among b symbols; the open codeword is bad at it, or good, or still open
+    module _ {b f y : ℕ} (e : b ≡ base s.code) (z : f ≡ few s.code) (i : y ≡ get_or (symbols_of s.code.k s.buf.now) at 0) where
+      bad_stop : (x : ℕ) → y < f → s.sigma ≤ x * f + y → Stuck s.code s.sigma x (drop at (row_of s))
+      bad_stop x k o = rw (drop-cons (row_of s) at 0 inside) (stuck_stop s.code s.reads.good s.sigma x _ _ (rw (z, i, symbol_is) at k) (rw (z, i, symbol_is) at o))
 
-      bad_more : (x : ℕ) → s ≤ y → σ ≤ x * (b - s) + (y - s + 1) → Stuck code σ x (drop at row)
-      bad_more x k o = rw (drop-cons row at 0 inside) (stuck_more code z.good σ x _ _ (rw (f, i, symbol_is) at k) (rw (e, f, i, symbol_is) at o))
+      bad_more : (x : ℕ) → f ≤ y → s.sigma ≤ x * (b - f) + (y - f + 1) → Stuck s.code s.sigma x (drop at (row_of s))
+      bad_more x k o = rw (drop-cons (row_of s) at 0 inside) (stuck_more s.code s.reads.good s.sigma x _ _ (rw (z, i, symbol_is) at k) (rw (e, z, i, symbol_is) at o))
 
-      good_stop : {x n : ℕ} → Here code σ row at x n → y < s → x * s + y < σ → Here code σ row (at + 1) 0 (n + 1)
-      good_stop w k o = rw (add-one at) (here_stop code σ row w inside (rw (f, i, symbol_is) at k) (rw (f, i, symbol_is) at o))
+      good_stop : {x n : ℕ} → Here s.code s.sigma (row_of s) at x n → y < f → x * f + y < s.sigma → Here s.code s.sigma (row_of s) (at + 1) 0 (n + 1)
+      good_stop w k o = rw (add-one at) (here_stop s.code s.sigma (row_of s) w inside (rw (z, i, symbol_is) at k) (rw (z, i, symbol_is) at o))
 
-      good_more : {x n : ℕ} → Here code σ row at x n → s ≤ y → Here code σ row (at + 1) (x * (b - s) + (y - s + 1)) n
-      good_more w k = rw (e, f, i, symbol_is, add-one at) (here_more code σ row w inside (rw (f, i, symbol_is) at k))
+      good_more : {x n : ℕ} → Here s.code s.sigma (row_of s) at x n → f ≤ y → Here s.code s.sigma (row_of s) (at + 1) (x * (b - f) + (y - f + 1)) n
+      good_more w k = rw (e, z, i, symbol_is, add-one at) (here_more s.code s.sigma (row_of s) w inside (rw (z, i, symbol_is) at k))
 
 pub overflow_sub-many : goal.overflow_sub-many
-overflow_sub-many c = omega (arith, few_is c.args.code c.from-few.ensures, (code_good c.args.code c.requires.0.good).high 0)
+overflow_sub-many c = omega (arith, few_is c.args.packed.now.code c.from-few.ensures, (code_good c.args.packed.now.code c.args.packed.now.reads.good).high 0)
 
 pub get-requires : goal.get-requires
-get-requires c = (code_width c.args.code c.requires.0.good, in_buffer c.requires.0 c.loop-at.at c.loop-at-test.true)
+get-requires c = (code_width c.args.packed.now.code c.args.packed.now.reads.good, in_buffer c.args.packed.now c.requires.0 c.loop-at.at c.loop-at-test.true)
 
 pub returns-then-sigma-x : goal.returns-then-sigma-x
 returns-then-sigma-x c =
-    let bad = bad_stop c.requires.0 c.loop-at.at c.loop-at-test.true c.base_of.ensures (few_is c.args.code c.from-few.ensures) (c.from-y.ensures ∙ c.get.ensures) in
+    let bad = bad_stop c.args.packed.now c.requires.0 c.loop-at.at c.loop-at-test.true c.base_of.ensures (few_is c.args.packed.now.code c.from-few.ensures) (c.from-y.ensures ∙ c.get.ensures) in
     (omega arith, c.loop-at.invariant.here, c.loop-at.invariant.small, λ _. bad c.loop-at.x c.if-y-few.true c.if-sigma-x.true)
 
 pub overflow_add-n : goal.overflow_add-n
-overflow_add-n c = omega (arith, here_few c.args.code c.args.sigma _ c.loop-at.invariant.here, c.requires.0.upto, c.requires.0.small)
+overflow_add-n c = omega (arith, here_few c.args.packed.now.code c.args.packed.now.sigma _ c.loop-at.invariant.here, c.requires.0, c.args.packed.now.reads.small)
 
 pub overflow_mul-next : goal.overflow_mul-next
-overflow_mul-next c = omega (arith, many_small c.args.code c.requires.0.good c.from-few.result c.loop-at.x c.base_of.ensures c.loop-at.invariant.small)
+overflow_mul-next c = omega (arith, many_small c.args.packed.now.code c.args.packed.now.reads.good c.from-few.result c.loop-at.x c.base_of.ensures c.loop-at.invariant.small)
 
 pub overflow_add-next-else-y-few : goal.overflow_add-next-else-y-few
-overflow_add-next-else-y-few c = omega (arith, many_small c.args.code c.requires.0.good c.from-few.result c.loop-at.x c.base_of.ensures c.loop-at.invariant.small)
+overflow_add-next-else-y-few c = omega (arith, many_small c.args.packed.now.code c.args.packed.now.reads.good c.from-few.result c.loop-at.x c.base_of.ensures c.loop-at.invariant.small)
 
 pub returns-then-sigma-next : goal.returns-then-sigma-next
 returns-then-sigma-next c =
-    let bad = bad_more c.requires.0 c.loop-at.at c.loop-at-test.true c.base_of.ensures (few_is c.args.code c.from-few.ensures) (c.from-y.ensures ∙ c.get.ensures) in
+    let bad = bad_more c.args.packed.now c.requires.0 c.loop-at.at c.loop-at-test.true c.base_of.ensures (few_is c.args.packed.now.code c.from-few.ensures) (c.from-y.ensures ∙ c.get.ensures) in
     (omega arith, c.loop-at.invariant.here, c.loop-at.invariant.small, λ _. bad c.loop-at.x c.if-y-few.false c.if-sigma-next.true)
 
 pub loop-at-preserved : goal.loop-at-preserved
 loop-at-preserved c =
-    let z = c.requires.0 in
+    let s = c.args.packed.now in
     let at = c.loop-at.at in
     let l = c.loop-at-test.true in
-    let f = few_is c.args.code c.from-few.ensures in
+    let f = few_is c.args.packed.now.code c.from-few.ensures in
     let y = c.from-y.ensures ∙ c.get.ensures in
     let here = c.loop-at.invariant.here in
     elim c.if-y-few.branch [
       | then-y-few+else-sigma-x w ↦
-          rw (w.x-is, w.n-is) (record { small = omega arith; here = good_stop z at l c.base_of.ensures f y here w.if-y-few.true w.if-sigma-x.false })
+          rw (w.x-is, w.n-is) (record { small = omega arith; here = good_stop s c.requires.0 at l c.base_of.ensures f y here w.if-y-few.true w.if-sigma-x.false })
       | else-y-few+else-sigma-next w ↦
-          rw (w.x-is, w.n-is) (record { small = omega (arith, w.if-sigma-next.false, z.few); here = good_more z at l c.base_of.ensures f y here w.if-y-few.false })
+          rw (w.x-is, w.n-is) (record { small = omega (arith, w.if-sigma-next.false, s.reads.few); here = good_more s c.requires.0 at l c.base_of.ensures f y here w.if-y-few.false })
     ]

@@ -16,16 +16,19 @@ unpacks : {code : Code} {σ : ℕ} {buf : List ℕ} {h p m : ℕ} → Reads code
     → m ≤ length (ranks_read (row_reading code σ (row_upto code h buf) p)) → Unpacks code σ buf h p m
 unpacks z w e = record { reads = z; whole = w; enough = e }
 
+pub invariant_of-task : goal.invariant_of-task
+invariant_of-task c = let (z, whole, enough, _) = c.requires in record { unpacks = unpacks z whole enough }
+
 pub write_symbols-begun-requires : goal.write_symbols-begun-requires
 write_symbols-begun-requires c =
-    let (z, whole, enough, room) = c.requires in
-    (unpacks z whole enough, room, c.border.ensures.1, c.border.ensures.0, omega arith, wrote_start _)
+    let (_, _, _, room) = c.requires in
+    (room, c.border.ensures.1, c.border.ensures.0, omega arith, wrote_start _)
 
 pub write_symbols-requires : goal.write_symbols-requires
 write_symbols-requires c =
-    let (z, whole, enough, room) = c.requires in
+    let (_, _, _, room) = c.requires in
     let later = c.write_bytes-later.ensures in
-    (unpacks z whole enough, omega (arith, room, c.write_bytes-later.auto.out, c.write_symbols-begun.auto.out), omega arith, later.0, later.1, later.2)
+    (omega (arith, room, c.write_bytes-later.auto.out, c.write_symbols-begun.auto.out), omega arith, later.0, later.1, later.2)
 
 pub returns : goal.returns
 returns c =
