@@ -23,8 +23,7 @@ fn check_directory(roll: Roll, buf: &[u8], dir: &[u32]) -> Result<(), Refusal>
     ensures { DirectoryChecked roll buf.now dir.now result }
 {
     check(roll, buf)?;
-    let wrong = first_wrong(roll, buf, dir);
-    if wrong < entries_for(roll.n) {
+    if let Some(wrong) = first_wrong(roll, buf, dir) {
         return Err(Refusal::BadEntry(wrong as u64));
     }
     Ok(())
