@@ -50,8 +50,7 @@ pub fn measure(
     if text.len() <= upto {
         return Ok(fit.taken);
     }
-    let foreign = first_foreign(lengths, text, upto);
-    if foreign < text.len() {
+    if let Some(foreign) = first_foreign(lengths, text, upto) {
         return Err(Misfit::Foreign(foreign));
     }
     Err(Misfit::Over(upto))

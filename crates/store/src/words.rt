@@ -1,12 +1,12 @@
 // The codewords of a table, worked out once for a call: for each character its length, and its symbols in 86 places of their own.
 // A length of 0 says that the character is not in the table.
-ghost use Rattle.std.specs.Prelude.{◌≡◌, ◌*◌, ◌+◌, ◌≤◌, IfSome, T, length, take, drop};
+ghost use Rattle.std.specs.Prelude.{◌≡◌, ◌*◌, ◌+◌, ◌≤◌, ◌<◌, IfSome, MatchOption, T, length, take, drop};
 ghost use Rattle.ground.specs.Paper.Rows.{zeros, first_where};
 ghost use Rattle.ground.specs.Helpers.Moved.{laid_from};
 ghost use Rattle.stopper.specs.Paper.Table.{good_code, longest};
 ghost use Rattle.symbols.specs.Paper.Symbols.{symbols_of};
 ghost use Rattle.symbols.specs.Helpers.Gathered.{Waiting, Added};
-ghost use Rattle.store.specs.Helpers.Words.{Spelt, goes_on, fit_of, absent, word_at, WordsLaid, Numbers, Laid, row_of};
+ghost use Rattle.store.specs.Helpers.Words.{Spelt, goes_on, fit_of, absent, next_foreign, word_at, WordsLaid, Numbers, Laid, row_of};
 
 use stopper::code::{Code, LONGEST};
 use stopper::word::spell_word;
@@ -56,18 +56,15 @@ pub fn fitting(lengths: &[u8], room: usize, text: &[u8]) -> Fit
     }
 }
 
-// The place of the first character from a place on that is not in the table, or the text's length.
-pub fn first_foreign(lengths: &[u8], text: &[u8], from: usize) -> usize
+// The place of the first character from a place on that is not in the table.
+pub fn first_foreign(lengths: &[u8], text: &[u8], from: usize) -> Option<usize>
     requires { (length lengths.now ≡ 256) × (from ≤ length text.now) }
-    ensures { result ≡ from + first_where (absent lengths.now) (drop from text.now) }
+    ensures { MatchOption result (next_foreign lengths.now text.now from ≡ length text.now) (λ i. (i ≡ next_foreign lengths.now text.now from) × (i < length text.now)) }
 {
-    match text[from..]
+    let i = text[from..]
         .iter()
-        .position(|b| lengths[usize::from(*b)] == 0)
-    {
-        Some(i) => from + i,
-        None => text.len(),
-    }
+        .position(|b| lengths[usize::from(*b)] == 0)?;
+    Some(from + i)
 }
 
 // A codeword of fewer symbols may wait as one number.
