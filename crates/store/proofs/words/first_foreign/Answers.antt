@@ -50,16 +50,16 @@ module _ (lengths text : List ℕ) {from : ℕ} {found : Option ℕ} (within : f
 
 pub returns-in_err-i : goal.returns-in_err-i
 returns-in_err-i c =
-    let picks : ℕ → Bool = absent c.args.lengths.now in
+    let picks : ℕ → Bool = absent c.args.words.now.lengths in
     let e : c.position.result ≡ position picks (drop c.args.from c.args.text.now)
     = position_from_yields_List picks _ _ c.position.result c.position.ensures.ran (YieldsList-from_slice _ c.iter.ensures.rest) (λ x b q k. search (rules, tests))
     ∙ ap (position picks) (rest c.args.from c.args.text.now) in
-    rw c.from_residual.ensures (nowhere c.args.lengths.now c.args.text.now c.requires.1 e c.in_err-i.was)
+    rw c.from_residual.ensures (nowhere c.args.words.now.lengths c.args.text.now c.requires e c.in_err-i.was)
 
 pub returns : goal.returns
 returns c =
-    let picks : ℕ → Bool = absent c.args.lengths.now in
+    let picks : ℕ → Bool = absent c.args.words.now.lengths in
     let e : c.position.result ≡ position picks (drop c.args.from c.args.text.now)
     = position_from_yields_List picks _ _ c.position.result c.position.ensures.ran (YieldsList-from_slice _ c.iter.ensures.rest) (λ x b q k. search (rules, tests))
     ∙ ap (position picks) (rest c.args.from c.args.text.now) in
-    here c.args.lengths.now c.args.text.now c.requires.1 e c.in_ok-i.was
+    here c.args.words.now.lengths c.args.text.now c.requires e c.in_ok-i.was
