@@ -12,9 +12,9 @@ use crate::check::check;
 use ground::refusal::Refusal;
 use sound::lookup::{first_wrong, start_of};
 use sound::records::Roll;
-use stopper::code::LONGEST;
 use store::measure::{Misfit, measure};
 use store::replace::{Run, first_over, replace};
+use store::words::Words;
 use symbols::size::room_of;
 use texts::entries::entries_for;
 
@@ -23,8 +23,7 @@ fn check_directory(roll: Roll, buf: &[u8], dir: &[u32]) -> Result<(), Refusal>
     ensures { DirectoryChecked roll buf.now dir.now result }
 {
     check(roll, buf)?;
-    let wrong = first_wrong(roll, buf, dir);
-    if wrong < entries_for(roll.n) {
+    if let Some(wrong) = first_wrong(roll, buf, dir) {
         return Err(Refusal::BadEntry(wrong as u64));
     }
     Ok(())
@@ -33,15 +32,14 @@ fn check_directory(roll: Roll, buf: &[u8], dir: &[u32]) -> Result<(), Refusal>
 // A text that fits from the run's first symbol on takes the run's place, or is refused: 4 for what stands behind it, or 12.
 fn put_in(
     roll: Roll,
-    lengths: &[u8],
-    words: &[u8],
+    words: &Words,
     buf: &mut [u8],
     dir: &mut [u32],
     run: Run,
     text: &[u8],
     taken: usize,
 ) -> Result<Roll, Refusal>
-    requires { Located roll buf.old dir.old run × Spelled roll.table lengths.now words.now text.now taken × (run.first + taken ≤ room roll.table.code.k (length buf.old)) }
+    requires { Located roll buf.old dir.old run × Spelled roll.table words.now.lengths words.now.symbols text.now taken × (run.first + taken ≤ room roll.table.code.k (length buf.old)) }
     ensures { Editing roll buf.old dir.old run.start run.end text.now result buf.new dir.new }
 {
     let left = room_of(roll.table.code.k, buf.len()) - (run.first + taken);
@@ -55,7 +53,7 @@ fn put_in(
     if dir.len() < needed {
         return Err(Refusal::ShortDirectory(needed as u64));
     }
-    Ok(replace(roll, lengths, words, buf, dir, run, text, taken))
+    Ok(replace(roll, words, buf, dir, run, text, taken))
 }
 
 // A run of a sound roll with a right directory is replaced, or refused 3, 4 or 12.
@@ -73,9 +71,8 @@ fn change(
     let first = start_of(roll, buf, dir, start);
     let last = start_of(roll, buf, dir, end);
     let space = room_of(roll.table.code.k, buf.len()) - first;
-    let mut lengths = [0u8; 256];
-    let mut words = [0u8; 256 * LONGEST];
-    match measure(roll.table, space, text, &mut lengths, &mut words) {
+    let mut words = Words::new();
+    match measure(roll.table, space, text, &mut words) {
         Err(Misfit::Foreign(place)) => Err(Refusal::NotInTable(place as u64)),
         Err(Misfit::Over(upto)) => Err(Refusal::NoRoom((start + upto) as u64)),
         Ok(taken) => {
@@ -85,7 +82,7 @@ fn change(
                 first,
                 last,
             };
-            put_in(roll, &lengths, &words, buf, dir, run, text, taken)
+            put_in(roll, &words, buf, dir, run, text, taken)
         }
     }
 }

@@ -3,10 +3,10 @@ ghost use Rattle.roll.specs.Paper.Operations.{Packing};
 
 use ground::refusal::Refusal;
 use sound::records::Roll;
-use stopper::code::LONGEST;
 use stopper::table::{Table, good_table};
 use store::fresh::store_text;
 use store::measure::measure;
+use store::words::Words;
 use symbols::size::room_of;
 
 pub fn pack(table: Table, text: &[u8], buf: &mut [u8]) -> Result<Roll, Refusal>
@@ -16,8 +16,7 @@ pub fn pack(table: Table, text: &[u8], buf: &mut [u8]) -> Result<Roll, Refusal>
         return Err(Refusal::BadTable);
     }
     let room = room_of(table.code.k, buf.len());
-    let mut lengths = [0u8; 256];
-    let mut words = [0u8; 256 * LONGEST];
-    let taken = measure(table, room, text, &mut lengths, &mut words)?;
-    Ok(store_text(table, &lengths, &words, text, taken, buf))
+    let mut words = Words::new();
+    let taken = measure(table, room, text, &mut words)?;
+    Ok(store_text(table, &words, text, taken, buf))
 }

@@ -1,6 +1,6 @@
 // The directory of a sound roll compared, and gone by.
-ghost use Rattle.std.specs.Prelude.{◌≡◌, ◌-◌, ◌≤◌};
-ghost use Rattle.texts.specs.Paper.Directory.{start_at, directory_of, first_wrong};
+ghost use Rattle.std.specs.Prelude.{◌≡◌, ◌-◌, ◌≤◌, ◌<◌, MatchOption};
+ghost use Rattle.texts.specs.Paper.Directory.{entries, start_at, directory_of, first_wrong};
 ghost use Rattle.sound.specs.Paper.Lengths.{lengths_of, Right};
 ghost use Rattle.sound.specs.Paper.Roll.{Sound};
 
@@ -8,10 +8,10 @@ use crate::ends::{end_at, pass_ends, stops_by_byte};
 use crate::records::Roll;
 use texts::entries::entries_for;
 
-// The number of the first entry that is missing or wrong, or how many the roll has.
-pub fn first_wrong(roll: Roll, buf: &[u8], dir: &[u32]) -> usize
+// The number of the first entry that is missing or wrong; none where all are right.
+pub fn first_wrong(roll: Roll, buf: &[u8], dir: &[u32]) -> Option<usize>
     requires { Sound roll buf.now }
-    ensures { result ≡ first_wrong (directory_of (lengths_of roll buf.now)) dir.now }
+    ensures { MatchOption result (Right roll buf.now dir.now) (λ e. (e ≡ first_wrong (directory_of (lengths_of roll buf.now)) dir.now) × (e < entries roll.n)) }
 {
     let code = roll.table.code;
     let stops = stops_by_byte(code);
@@ -20,15 +20,15 @@ pub fn first_wrong(roll: Roll, buf: &[u8], dir: &[u32]) -> usize
     let mut j: usize = 0;
     for e in 0..last {
         if dir.len() <= e {
-            return e;
+            return Some(e);
         }
         p = pass_ends(code, &stops, buf, p, e * 32 - j);
         j = e * 32;
         if dir[e] as usize != p {
-            return e;
+            return Some(e);
         }
     }
-    last
+    None
 }
 
 // The first symbol of character j, or the roll's end for j = n.

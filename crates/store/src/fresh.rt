@@ -6,26 +6,19 @@ ghost use Rattle.sound.specs.Paper.Roll.{symbols_for, record_of};
 ghost use Rattle.store.specs.Paper.Stored.{packed_into};
 ghost use Rattle.store.specs.Helpers.Measured.{Spelled};
 
-use crate::words::write_text;
+use crate::words::{Words, write_text};
 use sound::records::Roll;
 use stopper::table::Table;
 use symbols::run::clear_unused;
 
 // From symbol 0 on; the rest of the last byte is cleared.
-pub fn store_text(
-    table: Table,
-    lengths: &[u8],
-    words: &[u8],
-    text: &[u8],
-    taken: usize,
-    buf: &mut [u8],
-) -> Roll
-    requires { T (good_table table) × Spelled table lengths.now words.now text.now taken × (taken ≤ room table.code.k (length buf.old)) }
+pub fn store_text(table: Table, words: &Words, text: &[u8], taken: usize, buf: &mut [u8]) -> Roll
+    requires { T (good_table table) × Spelled table words.now.lengths words.now.symbols text.now taken × (taken ≤ room table.code.k (length buf.old)) }
     ensures record { result ≡ record_of table text.now }
     ensures bytes { buf.new ≡ packed_into table.code.k (symbols_for table text.now) buf.old }
 {
     let k = table.code.k;
-    write_text(k, lengths, words, text, buf, 0);
+    write_text(k, words, text, buf, 0);
     clear_unused(k, buf, taken);
     Roll {
         table,

@@ -4,7 +4,7 @@ ghost use Rattle.ground.specs.Paper.Rows.{zeros};
 ghost use Rattle.stopper.specs.Paper.Table.{good_table, longest};
 ghost use Rattle.store.specs.Helpers.Measured.{Measured, refused_for};
 
-use crate::words::{first_foreign, fitting, spell_all};
+use crate::words::{Words, first_foreign, fitting, spell_all};
 use ground::refusal::Refusal;
 use stopper::table::Table;
 
@@ -27,16 +27,10 @@ impl From<Misfit> for Refusal {
 }
 
 // So many symbols. One pass asks both; if it stops, the rest is looked through for a character that is not in the table, as that is asked first. The
-// codewords are laid out in lengths and words; for an empty text none are.
-pub fn measure(
-    table: Table,
-    room: usize,
-    text: &[u8],
-    lengths: &mut [u8],
-    words: &mut [u8],
-) -> Result<usize, Misfit>
-    requires { T (good_table table) × (lengths.old ≡ zeros 256) × (length words.old ≡ 256 * longest) }
-    ensures { Measured table room text.now lengths.new words.new result }
+// codewords are laid out in words; for an empty text none are.
+pub fn measure(table: Table, room: usize, text: &[u8], words: &mut Words) -> Result<usize, Misfit>
+    requires { T (good_table table) × (words.old.lengths ≡ zeros 256) }
+    ensures { Measured table room text.now words.new.lengths words.new.symbols result }
 {
     if text.is_empty() {
         return Ok(0);
@@ -44,14 +38,13 @@ pub fn measure(
     let code = table.code;
     let sigma = table.sigma;
     let places = table.places;
-    spell_all(code, sigma, places, lengths, words);
-    let fit = fitting(lengths, room, text);
+    spell_all(code, sigma, places, words);
+    let fit = fitting(words, room, text);
     let upto = fit.upto;
     if text.len() <= upto {
         return Ok(fit.taken);
     }
-    let foreign = first_foreign(lengths, text, upto);
-    if foreign < text.len() {
+    if let Some(foreign) = first_foreign(words, text, upto) {
         return Err(Misfit::Foreign(foreign));
     }
     Err(Misfit::Over(upto))

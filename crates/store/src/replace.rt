@@ -10,7 +10,7 @@ ghost use Rattle.store.specs.Paper.Stored.{bytes_after, directory_after};
 ghost use Rattle.store.specs.Helpers.Replacing.{replaced_bytes, Replaces, changed_upto, Replaceable};
 
 use crate::mending::mend;
-use crate::words::write_text;
+use crate::words::{Words, write_text};
 use sound::ends::end_at;
 use sound::records::Roll;
 use symbols::run::{clear, clear_unused, down, up};
@@ -45,68 +45,49 @@ pub fn first_over(roll: Roll, buf: &[u8], from: usize, first: usize, room: usize
 }
 
 // The new symbols are more than the old: the tail goes up, and the rest of the last byte is cleared.
-fn grow(
-    k: u8,
-    lengths: &[u8],
-    words: &[u8],
-    text: &[u8],
-    taken: usize,
-    buf: &mut [u8],
-    h: usize,
-    run: Run,
-)
-    requires { Replaces k lengths.now words.now text.now taken buf.old h run × (run.last - run.first < taken) }
-    ensures { buf.new ≡ replaced_bytes k lengths.now words.now text.now buf.old h run }
+fn grow(k: u8, words: &Words, text: &[u8], taken: usize, buf: &mut [u8], h: usize, run: Run)
+    requires { Replaces k words.now.lengths words.now.symbols text.now taken buf.old h run × (run.last - run.first < taken) }
+    ensures { buf.new ≡ replaced_bytes k words.now.lengths words.now.symbols text.now buf.old h run }
 {
     let by = taken - (run.last - run.first);
     up(k, buf, run.last, h, by);
-    write_text(k, lengths, words, text, buf, run.first);
+    write_text(k, words, text, buf, run.first);
     clear_unused(k, buf, h + by);
 }
 
 // The new symbols are fewer than the old: the tail goes down, and what it leaves behind is cleared.
-fn shrink(
-    k: u8,
-    lengths: &[u8],
-    words: &[u8],
-    text: &[u8],
-    taken: usize,
-    buf: &mut [u8],
-    h: usize,
-    run: Run,
-)
-    requires { Replaces k lengths.now words.now text.now taken buf.old h run × (taken < run.last - run.first) }
-    ensures { buf.new ≡ replaced_bytes k lengths.now words.now text.now buf.old h run }
+fn shrink(k: u8, words: &Words, text: &[u8], taken: usize, buf: &mut [u8], h: usize, run: Run)
+    requires { Replaces k words.now.lengths words.now.symbols text.now taken buf.old h run × (taken < run.last - run.first) }
+    ensures { buf.new ≡ replaced_bytes k words.now.lengths words.now.symbols text.now buf.old h run }
 {
     let by = run.last - run.first - taken;
     down(k, buf, run.last, h, by);
-    write_text(k, lengths, words, text, buf, run.first);
+    write_text(k, words, text, buf, run.first);
     clear(k, buf, h - by, h);
 }
 
 // The symbols of a run give way to those of a text; the tail, up to symbol h, moves by as much as they differ.
 fn replace_symbols(
     k: u8,
-    lengths: &[u8],
-    words: &[u8],
+    words: &Words,
     text: &[u8],
     taken: usize,
     buf: &mut [u8],
     h: usize,
     run: Run,
 )
-    requires { Replaces k lengths.now words.now text.now taken buf.old h run }
-    ensures { buf.new ≡ replaced_bytes k lengths.now words.now text.now buf.old h run }
+    requires { Replaces k words.now.lengths words.now.symbols text.now taken buf.old h run }
+    ensures { buf.new ≡ replaced_bytes k words.now.lengths words.now.symbols text.now buf.old h run }
 {
     if run.last - run.first < taken {
-        grow(k, lengths, words, text, taken, buf, h, run);
+        grow(k, words, text, taken, buf, h, run);
         return;
     }
     if taken < run.last - run.first {
-        shrink(k, lengths, words, text, taken, buf, h, run);
+        shrink(k, words, text, taken, buf, h, run);
         return;
     }
-    write_text(k, lengths, words, text, buf, run.first);
+    write_text(k, words, text, buf, run.first);
 }
 
 // Up to which character entries change: with as many characters and symbols as before, those behind the run stay.
@@ -126,21 +107,20 @@ fn changed_upto(run: Run, length: usize, taken: usize, count: usize) -> usize
 // A run of a sound roll with a right directory gives way to a text of so many symbols.
 pub fn replace(
     roll: Roll,
-    lengths: &[u8],
-    words: &[u8],
+    words: &Words,
     buf: &mut [u8],
     dir: &mut [u32],
     run: Run,
     text: &[u8],
     taken: usize,
 ) -> Roll
-    requires { Replaceable roll lengths.now words.now buf.old dir.old run text.now taken }
+    requires { Replaceable roll words.now.lengths words.now.symbols buf.old dir.old run text.now taken }
     ensures record { result ≡ record_of roll.table (edited (text_of roll buf.old) run.start run.end text.now) }
     ensures bytes { buf.new ≡ bytes_after roll (edited (text_of roll buf.old) run.start run.end text.now) buf.old }
     ensures directory { dir.new ≡ directory_after roll (edited (text_of roll buf.old) run.start run.end text.now) dir.old }
 {
     let h = roll.h as usize;
-    replace_symbols(roll.table.code.k, lengths, words, text, taken, buf, h, run);
+    replace_symbols(roll.table.code.k, words, text, taken, buf, h, run);
     let count = run.start + text.len() + (roll.n as usize - run.end);
     let after = Roll {
         table: roll.table,

@@ -1,27 +1,46 @@
-// The codewords of a table, worked out once for a call: for each character its length, and its symbols in 86 places of their own.
-// A length of 0 says that the character is not in the table.
-ghost use Rattle.std.specs.Prelude.{◌≡◌, ◌*◌, ◌+◌, ◌≤◌, IfSome, T, length, take, drop};
+// The codewords of a table, worked out once for a call, and texts written by them.
+ghost use Rattle.std.specs.Prelude.{◌≡◌, ◌*◌, ◌+◌, ◌≤◌, ◌<◌, IfSome, MatchOption, T, length, take, drop};
 ghost use Rattle.ground.specs.Paper.Rows.{zeros, first_where};
 ghost use Rattle.ground.specs.Helpers.Moved.{laid_from};
 ghost use Rattle.stopper.specs.Paper.Table.{good_code, longest};
 ghost use Rattle.symbols.specs.Paper.Symbols.{symbols_of};
 ghost use Rattle.symbols.specs.Helpers.Gathered.{Waiting, Added};
-ghost use Rattle.store.specs.Helpers.Words.{Spelt, goes_on, fit_of, absent, word_at, WordsLaid, Numbers, Laid, row_of};
+ghost use Rattle.store.specs.Helpers.Words.{Spelt, goes_on, fit_of, absent, next_foreign, word_at, WordsLaid, Numbers, Laid, row_of};
 
 use stopper::code::{Code, LONGEST};
 use stopper::word::spell_word;
 use symbols::gather::{Gather, add, add_each, begin, finish, join_all};
 
+// For each character the length of its codeword, and its symbols in 86 places of their own. A length of 0 says that the character is not in the table.
+// It is large, so it is lent and not handed over.
+#[derive(Clone, Copy)]
+pub struct Words {
+    pub lengths: [u8; 256],
+    pub symbols: [u8; 256 * LONGEST],
+}
+
+impl Words {
+    // None yet.
+    pub fn new() -> Words
+        ensures { result.lengths ≡ zeros 256 }
+    {
+        Words {
+            lengths: [0; 256],
+            symbols: [0; 256 * LONGEST],
+        }
+    }
+}
+
 // From the last character to the first.
-pub fn spell_all(code: Code, sigma: u16, places: [u8; 256], lengths: &mut [u8], words: &mut [u8])
-    requires { T (good_code code) × (sigma ≤ 256) × (lengths.old ≡ zeros 256) × (length words.old ≡ 256 * longest) }
-    ensures { Spelt code (take sigma places) lengths.new words.new }
+pub fn spell_all(code: Code, sigma: u16, places: [u8; 256], words: &mut Words)
+    requires { T (good_code code) × (sigma ≤ 256) × (words.old.lengths ≡ zeros 256) }
+    ensures { Spelt code (take sigma places) words.new.lengths words.new.symbols }
 {
     for i in (0..usize::from(sigma)).rev() {
         let b = usize::from(places[i]);
         let at = b * LONGEST;
-        let long = spell_word(code, i as u32, &mut words[at..at + LONGEST]);
-        lengths[b] = long as u8;
+        let long = spell_word(code, i as u32, &mut words.symbols[at..at + LONGEST]);
+        words.lengths[b] = long as u8;
     }
 }
 
@@ -38,13 +57,12 @@ fn goes_on(long: usize, left: usize) -> bool
     0 < long && long <= left
 }
 
-pub fn fitting(lengths: &[u8], room: usize, text: &[u8]) -> Fit
-    requires { length lengths.now ≡ 256 }
-    ensures { result ≡ fit_of lengths.now room text.now }
+pub fn fitting(words: &Words, room: usize, text: &[u8]) -> Fit
+    ensures { result ≡ fit_of words.now.lengths room text.now }
 {
     let mut taken: usize = 0;
     for (i, b) in text.iter().enumerate() {
-        let long = usize::from(lengths[usize::from(*b)]);
+        let long = usize::from(words.lengths[usize::from(*b)]);
         if !goes_on(long, room - taken) {
             return Fit { upto: i, taken };
         }
@@ -56,18 +74,15 @@ pub fn fitting(lengths: &[u8], room: usize, text: &[u8]) -> Fit
     }
 }
 
-// The place of the first character from a place on that is not in the table, or the text's length.
-pub fn first_foreign(lengths: &[u8], text: &[u8], from: usize) -> usize
-    requires { (length lengths.now ≡ 256) × (from ≤ length text.now) }
-    ensures { result ≡ from + first_where (absent lengths.now) (drop from text.now) }
+// The place of the first character from a place on that is not in the table.
+pub fn first_foreign(words: &Words, text: &[u8], from: usize) -> Option<usize>
+    requires { from ≤ length text.now }
+    ensures { MatchOption result (next_foreign words.now.lengths text.now from ≡ length text.now) (λ i. (i ≡ next_foreign words.now.lengths text.now from) × (i < length text.now)) }
 {
-    match text[from..]
+    let i = text[from..]
         .iter()
-        .position(|b| lengths[usize::from(*b)] == 0)
-    {
-        Some(i) => from + i,
-        None => text.len(),
-    }
+        .position(|b| words.lengths[usize::from(*b)] == 0)?;
+    Some(from + i)
 }
 
 // A codeword of fewer symbols may wait as one number.
@@ -77,16 +92,16 @@ const JOINED: usize = 9;
 const MANY: usize = 256;
 
 // The codewords of fewer than JOINED symbols as numbers, by character.
-fn numbers_of(k: u8, lengths: &[u8], words: &[u8]) -> [u32; 256]
-    requires { WordsLaid k lengths.now words.now }
-    ensures { Numbers k lengths.now words.now result }
+fn numbers_of(k: u8, words: &Words) -> [u32; 256]
+    requires { WordsLaid k words.now.lengths words.now.symbols }
+    ensures { Numbers k words.now.lengths words.now.symbols result }
 {
     let mut numbers = [0u32; 256];
     for (b, number) in numbers.iter_mut().enumerate() {
-        let long = usize::from(lengths[b]);
+        let long = usize::from(words.lengths[b]);
         if long < JOINED {
             let at = b * LONGEST;
-            *number = join_all(k, &words[at..at + long]);
+            *number = join_all(k, &words.symbols[at..at + long]);
         }
     }
     numbers
@@ -95,42 +110,40 @@ fn numbers_of(k: u8, lengths: &[u8], words: &[u8]) -> [u32; 256]
 // The codeword of a character behind those before it: as its number if there is one, else symbol by symbol.
 fn add_word(
     k: u8,
-    lengths: &[u8],
-    words: &[u8],
+    words: &Words,
     numbers: Option<&[u32; 256]>,
     b: u8,
     g: Gather,
     buf: &mut [u8],
 ) -> Gather
-    requires { WordsLaid k lengths.now words.now × IfSome numbers (λ n. Numbers k lengths.now words.now n.now) × Waiting k g buf.old (length (word_at lengths.now words.now b)) }
-    ensures { Added k g buf.old (word_at lengths.now words.now b) result buf.new }
+    requires { WordsLaid k words.now.lengths words.now.symbols × IfSome numbers (λ n. Numbers k words.now.lengths words.now.symbols n.now) × Waiting k g buf.old (length (word_at words.now.lengths words.now.symbols b)) }
+    ensures { Added k g buf.old (word_at words.now.lengths words.now.symbols b) result buf.new }
 {
     let b = usize::from(b);
-    let long = usize::from(lengths[b]);
+    let long = usize::from(words.lengths[b]);
     match numbers {
         Some(numbers) if long < JOINED => add(k, g, buf, numbers[b], long),
         _ => {
             let at = b * LONGEST;
-            add_each(k, g, buf, &words[at..at + long])
+            add_each(k, g, buf, &words.symbols[at..at + long])
         }
     }
 }
 
 fn write_words(
     k: u8,
-    lengths: &[u8],
-    words: &[u8],
+    words: &Words,
     numbers: Option<&[u32; 256]>,
     text: &[u8],
     buf: &mut [u8],
     first: usize,
 )
-    requires { Laid k lengths.now words.now text.now buf.old first × IfSome numbers (λ n. Numbers k lengths.now words.now n.now) }
-    ensures { symbols_of k buf.new ≡ laid_from (symbols_of k buf.old) first (row_of lengths.now words.now text.now) }
+    requires { Laid k words.now.lengths words.now.symbols text.now buf.old first × IfSome numbers (λ n. Numbers k words.now.lengths words.now.symbols n.now) }
+    ensures { symbols_of k buf.new ≡ laid_from (symbols_of k buf.old) first (row_of words.now.lengths words.now.symbols text.now) }
 {
     let mut g = begin(k, buf, first);
     for b in text {
-        g = add_word(k, lengths, words, numbers, *b, g, buf);
+        g = add_word(k, words, numbers, *b, g, buf);
     }
     finish(k, g, buf);
 }
@@ -138,14 +151,14 @@ fn write_words(
 // The codewords of a text stored from symbol first on; no numbers are made for a short one.
 // Not inlined: the numbers would stand in the caller's frame.
 #[inline(never)]
-pub fn write_text(k: u8, lengths: &[u8], words: &[u8], text: &[u8], buf: &mut [u8], first: usize)
-    requires { Laid k lengths.now words.now text.now buf.old first }
-    ensures { symbols_of k buf.new ≡ laid_from (symbols_of k buf.old) first (row_of lengths.now words.now text.now) }
+pub fn write_text(k: u8, words: &Words, text: &[u8], buf: &mut [u8], first: usize)
+    requires { Laid k words.now.lengths words.now.symbols text.now buf.old first }
+    ensures { symbols_of k buf.new ≡ laid_from (symbols_of k buf.old) first (row_of words.now.lengths words.now.symbols text.now) }
 {
     if text.len() < MANY {
-        write_words(k, lengths, words, None, text, buf, first);
+        write_words(k, words, None, text, buf, first);
         return;
     }
-    let numbers = numbers_of(k, lengths, words);
-    write_words(k, lengths, words, Some(&numbers), text, buf, first);
+    let numbers = numbers_of(k, words);
+    write_words(k, words, Some(&numbers), text, buf, first);
 }

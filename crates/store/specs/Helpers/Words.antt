@@ -1,6 +1,6 @@
 -- The codewords of a table, laid out by character: 86 places each. What of a text is in the table and fits, and its symbols, from them.
 use Rattle.std.specs.Prelude.{◌≡◌, Bool, cond, true, ◌&&◌, List, [], ◌∷◌, ◌++◌, ℕ, suc, ◌+◌, ◌-◌, ◌*◌, ◌^◌, ◌≤◌, ◌<◌, ltb, leb, eqb, length, take, drop, get_or}
-use Rattle.ground.specs.Paper.Rows.{tab}
+use Rattle.ground.specs.Paper.Rows.{tab, first_where}
 use Rattle.ground.specs.Helpers.Below.{Below}
 use Rattle.stopper.specs.Paper.Table.{has, rank_in, word_of, length_of, longest}
 use Rattle.stopper.specs.declared.code.Code.{Code}
@@ -43,6 +43,10 @@ fit_of lengths room text = record { upto = upto_of lengths room text; taken = ta
 -- a character is not in the table
 abbrev pub absent : List ℕ → ℕ → Bool
 absent lengths b = eqb (get_or lengths b 0) 0
+
+-- the place of the first one from a place on, or the text's length
+abbrev pub next_foreign : List ℕ → List ℕ → ℕ → ℕ
+next_foreign lengths text from = from + first_where (absent lengths) (drop from text)
 
 -- ---- a text under lengths and words
 

@@ -1,5 +1,5 @@
 -- What measuring a text under a table answers.
-use Rattle.std.specs.Prelude.{◌≡◌, refl, ℕ, suc, ◌+◌, ◌*◌, ◌≤◌, ◌<◌, T, drop, Ok, Err}
+use Rattle.std.specs.Prelude.{◌≡◌, refl, ℕ, suc, ◌*◌, ◌≤◌, ◌<◌, T, Ok, Err}
 use Rattle.std.proofs.Math.Path.{sym}
 use Rattle.std.proofs.Common.{ap, ◌∙◌}
 use mathlib.Core.List.{List, [], ◌∷◌}
@@ -16,7 +16,7 @@ use Rattle.stopper.specs.declared.table.Table.{Table}
 use Rattle.texts.specs.Paper.Characters.{first_foreign}
 use Rattle.texts.specs.Laws.Characters.{characters_few}
 use Rattle.sound.specs.Paper.Roll.{text_row}
-use Rattle.store.specs.Helpers.Words.{Spelt, upto_of, taken_of, absent, word_at, row_of}
+use Rattle.store.specs.Helpers.Words.{Spelt, upto_of, taken_of, absent, next_foreign, word_at, row_of}
 use Rattle.store.specs.Helpers.Measured.{Measured}
 use Rattle.store.specs.Laws.Words.{upto_le, taken_le, foreign_from, foreign_is, over_is, row_is, taken_is, words_laid}
 use Rattle.store.specs.declared.measure.Misfit.TheVariants.{Foreign, Over}
@@ -63,16 +63,15 @@ module _ (t : Table) (good : T (good_table t)) (room : ℕ) where
         )
 
     -- it stopped, and a foreign character was looked for from there on
-    module _ {v : ℕ} (e : v ≡ upto + first_where (absent lengths) (drop upto text)) where
-      found : v ≡ first_where (absent lengths) text
-      found = e ∙ ap (λ (n : ℕ). n + first_where (absent lengths) (drop n text)) u ∙ foreign_from lengths room text
+    found : next_foreign lengths text upto ≡ first_where (absent lengths) text
+    found = ap (next_foreign lengths text) u ∙ foreign_from lengths room text
 
-      pub measured_foreign : v < length text → Measured t room text lengths words (Err (Foreign v))
-      unfolding Measured
-      measured_foreign k = (found ∙ foreign_is t.code code (characters t) lengths words s h, k)
+    pub measured_foreign : {v : ℕ} → v ≡ next_foreign lengths text upto → v < length text → Measured t room text lengths words (Err (Foreign v))
+    unfolding Measured
+    measured_foreign e k = (e ∙ found ∙ foreign_is t.code code (characters t) lengths words s h, k)
 
-      pub measured_over : upto < length text → length text ≤ v → Measured t room text lengths words (Err (Over upto))
-      unfolding Measured
-      measured_over k m =
-          let f : first_where (absent lengths) text ≡ length text = omega (arith, found, first_within (absent lengths) text) in
-          (sym (foreign_is t.code code (characters t) lengths words s h) ∙ f, u ∙ over_is t.code code (characters t) lengths words s h f room, k)
+    pub measured_over : upto < length text → length text ≤ next_foreign lengths text upto → Measured t room text lengths words (Err (Over upto))
+    unfolding Measured
+    measured_over k e =
+        let f : first_where (absent lengths) text ≡ length text = omega (arith, found, first_within (absent lengths) text) in
+        (sym (foreign_is t.code code (characters t) lengths words s h) ∙ f, u ∙ over_is t.code code (characters t) lengths words s h f room, k)

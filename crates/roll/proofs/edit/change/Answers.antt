@@ -1,11 +1,8 @@
 -- `roll::edit::change` meets its contract.
-use Rattle.std.proofs.Common.{◌≡◌, refl, subst, List, ℕ, ◌+◌, ◌-◌, ◌*◌, ◌≤◌, length, Result, Ok, Err, arith, rules}
+use Rattle.std.proofs.Common.{◌≡◌, subst, List, ℕ, ◌+◌, ◌-◌, ◌*◌, ◌≤◌, length, Result, Ok, Err, arith, rules}
 use borrow.Author.Tests.{lt-ltb, le-ltb}
-use lib.ListN.{length-replicate}
 use Rattle.ground.specs.Helpers.Bound.{limit_bound}
-use Rattle.ground.specs.Paper.Rows.{zeros}
 use Rattle.ground.specs.declared.refusal.Refusal.TheVariants.{NotInTable, NoRoom}
-use Rattle.stopper.specs.Paper.Table.{longest}
 use Rattle.symbols.specs.Paper.Symbols.{room}
 use Rattle.texts.specs.Paper.Directory.{start_at}
 use Rattle.sound.specs.Paper.Lengths.{lengths_of, Right}
@@ -66,34 +63,33 @@ overflow_sub-space c =
     omega (arith, c.room_of.ensures, first_room (run c.requires places c.start_of-first.ensures c.start_of-last.ensures))
 
 pub measure-requires : goal.measure-requires
-unfolding zeros
-measure-requires c = (c.requires.0.table, refl, length-replicate {A = ℕ} (256 * longest) 0)
+measure-requires c = (c.requires.0.table, c.new-words.ensures)
 
 pub returns-in-Err-Foreign : goal.returns-in-Err-Foreign
 returns-in-Err-Foreign c =
     let places : length c.args.roll.table.places ≡ 256 = search rules in
     let p = run c.requires places c.start_of-first.ensures c.start_of-last.ensures in
-    let m = c.measure.new in
-    rw c.in-Err-Foreign.place-is (foreign p c.args.text.now m.lengths m.words c.room_of.ensures (rw c.in-Err-Foreign.field-0-is at c.in-Err-Foreign.ensures))
+    let m = c.measure.new.words in
+    rw c.in-Err-Foreign.place-is (foreign p c.args.text.now m.lengths m.symbols c.room_of.ensures (rw c.in-Err-Foreign.field-0-is at c.in-Err-Foreign.ensures))
 
 pub overflow_add-result : goal.overflow_add-result
 overflow_add-result c =
     let places : length c.args.roll.table.places ≡ 256 = search rules in
     let p = run c.requires places c.start_of-first.ensures c.start_of-last.ensures in
-    let m = c.measure.new in
-    omega (arith, c.in-Err-Over.upto-is, over_few p c.args.text.now m.lengths m.words c.in-Err-Over.upto c.room_of.ensures (rw c.in-Err-Over.field-0-is at c.in-Err-Over.ensures))
+    let m = c.measure.new.words in
+    omega (arith, c.in-Err-Over.upto-is, over_few p c.args.text.now m.lengths m.symbols c.in-Err-Over.upto c.room_of.ensures (rw c.in-Err-Over.field-0-is at c.in-Err-Over.ensures))
 
 pub returns-in-Err-Over : goal.returns-in-Err-Over
 returns-in-Err-Over c =
     let places : length c.args.roll.table.places ≡ 256 = search rules in
     let p = run c.requires places c.start_of-first.ensures c.start_of-last.ensures in
-    let m = c.measure.new in
-    rw c.in-Err-Over.upto-is (over p c.args.text.now m.lengths m.words c.in-Err-Over.upto c.room_of.ensures (rw c.in-Err-Over.field-0-is at c.in-Err-Over.ensures))
+    let m = c.measure.new.words in
+    rw c.in-Err-Over.upto-is (over p c.args.text.now m.lengths m.symbols c.in-Err-Over.upto c.room_of.ensures (rw c.in-Err-Over.field-0-is at c.in-Err-Over.ensures))
 
 pub put_in-requires : goal.put_in-requires
 unfolding Measured
 put_in-requires c =
     let places : length c.args.roll.table.places ≡ 256 = search rules in
     let p = run c.requires places c.start_of-first.ensures c.start_of-last.ensures in
-    let q = measured p c.args.text.now c.measure.new.lengths c.measure.new.words (Ok _) c.room_of.ensures c.in-Ok.ensures in
+    let q = measured p c.args.text.now c.measure.new.words.lengths c.measure.new.words.symbols (Ok _) c.room_of.ensures c.in-Ok.ensures in
     (p, q.0, omega (arith, q.1, first_room p))

@@ -1,11 +1,9 @@
 -- `roll::pack::pack` meets its contract.
-use Rattle.std.proofs.Common.{◌≡◌, refl, sym, subst, ◌∙◌, true, List, ℕ, ◌*◌, length, Ok, Err, Result, le_of_eq, arith}
+use Rattle.std.proofs.Common.{◌≡◌, sym, subst, ◌∙◌, true, List, ℕ, length, Ok, Err, Result, le_of_eq, arith}
 use Rattle.std.proofs.lemmas.Result.{err_from_is_err_and}
 use borrow.Author.Tests.{lt-ltb, le-ltb}
-use lib.ListN.{length-replicate}
-use Rattle.ground.specs.Paper.Rows.{zeros}
 use Rattle.ground.specs.declared.refusal.Refusal.{Refusal}
-use Rattle.stopper.specs.Paper.Table.{good_table, characters, longest}
+use Rattle.stopper.specs.Paper.Table.{good_table, characters}
 use Rattle.stopper.specs.Laws.Table.{is_good, table_code, code_width}
 use Rattle.stopper.specs.declared.table.Table.{Table}
 use Rattle.symbols.specs.Paper.Symbols.{room}
@@ -39,27 +37,25 @@ room_of-room-requires c =
     code_width t.code (table_code t (is_good t (sym c.good_table.ensures ∙ c.if-not-good_table.false)))
 
 pub measure-requires : goal.measure-requires
-unfolding zeros
-measure-requires c =
-    (is_good _ (sym c.good_table.ensures ∙ c.if-not-good_table.false), refl, length-replicate {A = ℕ} (256 * longest) 0)
+measure-requires c = (is_good _ (sym c.good_table.ensures ∙ c.if-not-good_table.false), c.new-words.ensures)
 
 pub returns-in_err-taken : goal.returns-in_err-taken
 returns-in_err-taken c =
     let p = err_from_is_err_and c.from_residual.result c.from_residual.ensures.1 in
     let g : good_table c.args.table ≡ true = sym c.good_table.ensures ∙ c.if-not-good_table.false in
-    rw p.1 (misfit c.args.table c.args.text.now _ _ _ g (measured c.args.table c.args.text.now c.args.buf.now c.measure.new.lengths c.measure.new.words (Err _) c.room_of-room.ensures c.in_err-taken.ensures) p.2)
+    rw p.1 (misfit c.args.table c.args.text.now _ _ _ g (measured c.args.table c.args.text.now c.args.buf.now c.measure.new.words.lengths c.measure.new.words.symbols (Err _) c.room_of-room.ensures c.in_err-taken.ensures) p.2)
 
 pub store_text-requires : goal.store_text-requires
 unfolding Measured
 store_text-requires c =
-    let m = measured c.args.table c.args.text.now c.args.buf.now c.measure.new.lengths c.measure.new.words (Ok _) c.room_of-room.ensures c.in_ok-taken.ensures in
+    let m = measured c.args.table c.args.text.now c.args.buf.now c.measure.new.words.lengths c.measure.new.words.symbols (Ok _) c.room_of-room.ensures c.in_ok-taken.ensures in
     (is_good c.args.table (sym c.good_table.ensures ∙ c.if-not-good_table.false), m.0, m.1)
 
 pub returns : goal.returns
 unfolding Measured
 returns c =
     let t = c.args.table in
-    let m = measured c.args.table c.args.text.now c.args.buf.now c.measure.new.lengths c.measure.new.words (Ok _) c.room_of-room.ensures c.in_ok-taken.ensures in
+    let m = measured c.args.table c.args.text.now c.args.buf.now c.measure.new.words.lengths c.measure.new.words.symbols (Ok _) c.room_of-room.ensures c.in_ok-taken.ensures in
     pack_yes
     (record {
       good = is_good t (sym c.good_table.ensures ∙ c.if-not-good_table.false);

@@ -3,11 +3,11 @@ use Rattle.std.proofs.Common.{◌≡◌, ◌≢◌, refl, sym, ap, ◌∙◌, �
 use Rattle.ground.specs.Laws.Rows.{length_tab}
 use Rattle.texts.specs.Paper.Directory.{entries, directory_of, first_wrong}
 use Rattle.texts.specs.Laws.Directory.{entries_before, wrong_none, wrong_missing, wrong_differs, agree_more}
-use Rattle.sound.specs.Paper.Lengths.{lengths_of}
+use Rattle.sound.specs.Paper.Lengths.{lengths_of, Right}
 use Rattle.sound.specs.Paper.Roll.{Sound}
 use Rattle.sound.specs.Helpers.Ends.{Ending, end_of, end_from}
 use Rattle.sound.specs.Laws.Sound.{sound_code}
-use Rattle.sound.specs.Laws.Directory.{by_stops, stops_entry, stops_directory, entry_ending, entry_ends}
+use Rattle.sound.specs.Laws.Directory.{by_stops, stops_entry, stops_directory, entry_ending, entry_ends, none_right}
 use Rattle.sound.specs.declared.records.Roll.{Roll}
 use Rattle.sound.proofs.lookup.first_wrong.Invariants.{Before}
 use Rattle.sound.proofs.lookup.first_wrong.Goals as goal
@@ -33,12 +33,15 @@ module _ {roll : Roll} {buf dir : List ℕ} {last e j p : ℕ} (sound : Sound ro
       ∙ ap (λ (n : ℕ). first_wrong (by_stops roll.table.code buf n) dir) last_is
       ∙ ap (λ (w : List ℕ). first_wrong w dir) (stops_directory sound)
 
-  none : e ≡ last → last ≡ answer
-  none is = same last (wrong_none wanted dir last (rw is at before.agree) (sym long))
+  none : e ≡ last → Right roll buf dir
+  none is = none_right sound dir (sym (same last (wrong_none wanted dir last (rw is at before.agree) (sym long))) ∙ last_is)
 
   module _ (h : e < last) where
-    missing : length dir ≤ e → e ≡ answer
-    missing l = same e (wrong_missing wanted dir e before.agree (omega (arith, long)) l)
+    found : first_wrong wanted dir ≡ e → (e ≡ answer) × (e < entries roll.n)
+    found is = (same e is, omega (arith, last_is))
+
+    missing : length dir ≤ e → (e ≡ answer) × (e < entries roll.n)
+    missing l = found (wrong_missing wanted dir e before.agree (omega (arith, long)) l)
 
     ending : Ending roll.table.code buf p (e * 32 - j)
     ending = entry_ending sound j e before.ordered (omega (arith, inside last_is h)) before.starts
@@ -51,9 +54,9 @@ module _ {roll : Roll} {buf dir : List ℕ} {last e j p : ℕ} (sound : Sound ro
       entry_is : get_or wanted e 0 ≡ next
       entry_is = stops_entry roll.table.code buf last e h ∙ sym starts
 
-      differs : get_or dir e 0 ≢ next → e ≡ answer
+      differs : get_or dir e 0 ≢ next → (e ≡ answer) × (e < entries roll.n)
       differs n =
-          same e (wrong_differs wanted dir e before.agree (omega (arith, long)) there (λ is. n (is ∙ entry_is)))
+          found (wrong_differs wanted dir e before.agree (omega (arith, long)) there (λ is. n (is ∙ entry_is)))
 
       agrees : get_or dir e 0 ≡ next → Before roll.table.code buf dir last (e + 1) (e * 32) next
       agrees is =

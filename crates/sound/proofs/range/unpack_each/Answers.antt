@@ -6,7 +6,7 @@ use native.Mathlib.Numerals.{add-one}
 use lib.ListN.{length-map, length-drop}
 use lib.Seq.{get_or-drop}
 use Rattle.ground.specs.Laws.Rows.{map_at, below_at}
-use Rattle.ground.specs.Laws.Runs.{front_length, front_more}
+use Rattle.ground.specs.Laws.Runs.{front_more}
 use Rattle.stopper.specs.Paper.Table.{length_of}
 use Rattle.stopper.specs.Laws.Table.{table_few}
 use Rattle.texts.specs.Paper.Directory.{start_at}

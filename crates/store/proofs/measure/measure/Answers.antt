@@ -1,7 +1,6 @@
 -- `store::measure::measure` meets its contract.
-use Rattle.std.proofs.Common.{◌≡◌, ap, ◌∙◌, List, ℕ, length, rules}
-use Rattle.ground.specs.Helpers.Below.{Below}
-use Rattle.ground.specs.Laws.Rows.{below_all, length_tab}
+use Rattle.std.proofs.Common.{◌≡◌, ap, length, arith, rules}
+use Rattle.ground.specs.Laws.Rows.{below_all}
 use Rattle.stopper.specs.Laws.Table.{table_code, table_few}
 use Rattle.store.specs.Laws.Measured.{measured_none, measured_fits, measured_foreign, measured_over}
 use Rattle.store.specs.declared.words.Fit.{Fit}
@@ -10,26 +9,20 @@ use Rattle.store.proofs.measure.measure.Goals as goal
 pub returns-then-is_empty : goal.returns-then-is_empty
 returns-then-is_empty c =
     let none : length c.args.text.now ≡ 0 = search rules in
-    measured_none c.args.table c.requires.0 c.args.room c.args.text.now c.args.words.now none c.requires.1 c.requires.2
+    measured_none c.args.table c.requires.0 c.args.room c.args.text.now c.args.words.now.symbols none c.requires.1 (search rules)
 
 pub spell_all-requires : goal.spell_all-requires
 spell_all-requires c =
-    (table_code c.args.table c.requires.0, table_few c.args.table c.requires.0, c.requires.1, c.requires.2)
-
-pub fitting-fit-requires : goal.fitting-fit-requires
-fitting-fit-requires c = ap length c.spell_all.ensures.sizes ∙ length_tab _ 0 256
+    (table_code c.args.table c.requires.0, table_few c.args.table c.requires.0, c.requires.1)
 
 pub returns-then-text-upto : goal.returns-then-text-upto
 returns-then-text-upto c =
     measured_fits c.args.table c.requires.0 c.args.room c.spell_all.ensures (below_all 256 _ (λ i. (c.type_inv.text i).fits)) (ap (λ (x : Fit). x.upto) c.fitting-fit.ensures) (ap (λ (x : Fit). x.taken) c.fitting-fit.ensures) c.if-text-upto.true
 
-pub first_foreign-foreign-requires : goal.first_foreign-foreign-requires
-first_foreign-foreign-requires c = (ap length c.spell_all.ensures.sizes ∙ length_tab _ 0 256, search rules)
-
-pub returns-then-foreign-text : goal.returns-then-foreign-text
-returns-then-foreign-text c =
-    measured_foreign c.args.table c.requires.0 c.args.room c.spell_all.ensures (below_all 256 _ (λ i. (c.type_inv.text i).fits)) (ap (λ (x : Fit). x.upto) c.fitting-fit.ensures) c.first_foreign-foreign.ensures c.if-foreign-text.true
+pub returns-in-Some : goal.returns-in-Some
+returns-in-Some c =
+    measured_foreign c.args.table c.requires.0 c.args.room c.spell_all.ensures (below_all 256 _ (λ i. (c.type_inv.text i).fits)) (ap (λ (x : Fit). x.upto) c.fitting-fit.ensures) c.in-Some.ensures.0 c.in-Some.ensures.1
 
 pub returns : goal.returns
 returns c =
-    measured_over c.args.table c.requires.0 c.args.room c.spell_all.ensures (below_all 256 _ (λ i. (c.type_inv.text i).fits)) (ap (λ (x : Fit). x.upto) c.fitting-fit.ensures) c.first_foreign-foreign.ensures c.if-text-upto.false c.if-foreign-text.false
+    measured_over c.args.table c.requires.0 c.args.room c.spell_all.ensures (below_all 256 _ (λ i. (c.type_inv.text i).fits)) (ap (λ (x : Fit). x.upto) c.fitting-fit.ensures) c.if-text-upto.false (omega (arith, c.in_default.ensures))

@@ -50,7 +50,7 @@ long lengths b_is is = is ∙ ap (λ (b : ℕ). get_or lengths b 0) b_is
 
 pub returns-then-not-goes_on : goal.returns-then-not-goes_on
 returns-then-not-goes_on c =
-    stop c.args.lengths.now c.args.room c.args.text.now c.loop-i.invariant (omega arith) (long c.args.lengths.now c.from.ensures c.from-long.ensures)
+    stop c.args.words.now.lengths c.args.room c.args.text.now c.loop-i.invariant (omega arith) (long c.args.words.now.lengths c.from.ensures c.from-long.ensures)
     (sym c.goes_on.ensures ∙ c.if-not-goes_on.true)
 
 pub overflow_add-taken : goal.overflow_add-taken
@@ -58,10 +58,10 @@ overflow_add-taken c = omega (arith, goes_parts _ _ (sym c.goes_on.ensures ∙ c
 
 pub loop-i-preserved : goal.loop-i-preserved
 loop-i-preserved c =
-    more c.args.lengths.now c.args.room c.args.text.now c.loop-i.invariant (omega arith) (long c.args.lengths.now c.from.ensures c.from-long.ensures)
+    more c.args.words.now.lengths c.args.room c.args.text.now c.loop-i.invariant (omega arith) (long c.args.words.now.lengths c.from.ensures c.from-long.ensures)
     (sym c.goes_on.ensures ∙ c.if-not-goes_on.false)
 
 pub returns : goal.returns
 returns c =
     let e : c.loop-i.i ≡ length c.args.text.now = omega arith in
-    all c.args.lengths.now c.args.room c.args.text.now (rw e at c.loop-i.invariant)
+    all c.args.words.now.lengths c.args.room c.args.text.now (rw e at c.loop-i.invariant)

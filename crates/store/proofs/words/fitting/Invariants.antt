@@ -9,4 +9,4 @@ pub record Passed (lengths : List ℕ) (room : ℕ) (text : List ℕ) (i taken :
   pub takes : taken + taken_of lengths (room - taken) (drop i text) ≡ taken_of lengths room text
 
 abbrev pub invariant-loop-i : goal.invariant-loop-i
-invariant-loop-i l = Passed l.lengths l.room l.text l.i l.taken
+invariant-loop-i l = Passed l.words.lengths l.room l.text l.i l.taken

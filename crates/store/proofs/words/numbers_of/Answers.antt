@@ -23,7 +23,7 @@ pub join_all-requires : goal.join_all-requires
 join_all-requires c =
     let b = c.loop-b.b in
     let h : b < 256 = omega arith in
-    rw (lent c.args.lengths.now c.args.words.now b c.from-long.ensures)
+    rw (lent c.args.words.now.lengths c.args.words.now.symbols b c.from-long.ensures)
     (c.requires.width, c.requires.symbols b h, omega (arith, word_length c.requires b h, c.from-long.ensures))
 
 pub loop-b-preserved : goal.loop-b-preserved
@@ -31,7 +31,7 @@ loop-b-preserved c =
     elim c.if-long-lt-JOINED.branch [
       | then-long-lt-JOINED v ↦
           rw v.number-items-is
-          (more c.loop-b.invariant (omega arith) (λ few. rw (lent c.args.lengths.now c.args.words.now c.loop-b.b c.from-long.ensures) at v.join_all.ensures))
+          (more c.loop-b.invariant (omega arith) (λ few. rw (lent c.args.words.now.lengths c.args.words.now.symbols c.loop-b.b c.from-long.ensures) at v.join_all.ensures))
       | else-long-lt-JOINED v ↦
           rw v.number-items-is
           (more c.loop-b.invariant (omega arith) (λ few. absurd (omega (arith, few, v.if-long-lt-JOINED.false, c.from-long.ensures))))

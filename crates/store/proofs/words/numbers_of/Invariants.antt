@@ -8,4 +8,4 @@ pub record Joined (k : ℕ) (lengths words numbers : List ℕ) (b : ℕ) : Type 
   pub joins : (x : ℕ) → x < b → get_or lengths x 0 < 9 → Joins k (word_at lengths words x) (get_or numbers x 0)
 
 abbrev pub invariant-loop-b : goal.invariant-loop-b
-invariant-loop-b l = Joined l.k l.lengths l.words l.number-items l.b
+invariant-loop-b l = Joined l.k l.words.lengths l.words.symbols l.number-items l.b

@@ -5,7 +5,7 @@ use borrow.Rule.Slice.PartMut.{mid_len, Post-is}
 use lib.Seq.{length-take-le, take_at}
 use Rattle.ground.specs.Paper.Rows.{zeros}
 use Rattle.ground.specs.Paper.Runs.{over}
-use Rattle.ground.specs.Laws.Rows.{length_zeros, length_tab, tab_at, tab_ext, tab_set, tab_zeros}
+use Rattle.ground.specs.Laws.Rows.{length_tab, tab_at, tab_ext, tab_set, tab_zeros}
 use Rattle.ground.specs.Laws.Runs.{over_length, drop_over, run_before, run_after}
 use Rattle.stopper.specs.Paper.Table.{good_code, has, rank_in, word_of, length_of, longest}
 use Rattle.stopper.specs.Laws.Characters.{has_rank, rank_here, rank_next, has_next, has_end}
@@ -107,19 +107,16 @@ part_long b words h long = mid_len (b * longest) (b * longest + longest) words (
 
 pub loop-i-init : goal.loop-i-init
 loop-i-init c =
-    rw c.from-i.ensures (start c.args.code c.args.places _ _ c.args.sigma (search rules) c.requires.1 c.requires.2 c.requires.3)
+    rw c.from-i.ensures (start c.args.code c.args.places _ _ c.args.sigma (search rules) c.requires.1 c.requires.2 (search rules))
 
 pub spell_word-long-requires : goal.spell_word-long-requires
 spell_word-long-requires c =
     let h : c.from-b.result < 256 = omega (arith, c.from-b.ensures) in
-    (c.requires.0, omega arith, omega (arith, part_long c.from-b.result c.loop-i.words h c.loop-i.invariant.long, length_small c.args.code c.requires.0 (c.loop-i.i - 1) (omega arith)))
+    (c.requires.0, omega arith, omega (arith, part_long c.from-b.result c.loop-i.words.symbols h c.loop-i.invariant.long, length_small c.args.code c.requires.0 (c.loop-i.i - 1) (omega arith)))
 
-pub overflow_cast-lengths : goal.overflow_cast-lengths
-overflow_cast-lengths c =
+pub overflow_cast-words : goal.overflow_cast-words
+overflow_cast-words c =
     omega (arith, c.spell_word-long.ensures.length, length_small c.args.code c.requires.0 (c.loop-i.i - 1) (omega arith))
-
-pub bounds-lengths-b : goal.bounds-lengths-b
-bounds-lengths-b c = omega (arith, c.from-b.ensures, ap length c.requires.2, length_zeros 256)
 
 pub loop-i-preserved : goal.loop-i-preserved
 loop-i-preserved c =
@@ -127,13 +124,13 @@ loop-i-preserved c =
     let at : ℕ = b * longest in
     let h : b < 256 = omega (arith, c.from-b.ensures) in
     down c.requires.0
-    (subst (λ (i : ℕ). From c.args.code (take c.args.sigma c.args.places) i c.loop-i.lengths c.loop-i.words) {y = suc (c.loop-i.i - 1)} (omega arith) c.loop-i.invariant)
+    (subst (λ (i : ℕ). From c.args.code (take c.args.sigma c.args.places) i c.loop-i.words.lengths c.loop-i.words.symbols) {y = suc (c.loop-i.i - 1)} (omega arith) c.loop-i.invariant)
     (get_or-take c.args.sigma c.args.places (c.loop-i.i - 1) 0 (omega (arith, c.from-i.ensures)) ∙ sym c.from-b.ensures)
     h
     c.spell_word-long.ensures.length
     _
-    (ap (λ (r : List ℕ). take at c.loop-i.words ++ (c.spell_word-long.new.out ++ r)) (Post-is at (at + longest) c.loop-i.words (omega arith)))
-    (c.spell_word-long.auto.out ∙ part_long b c.loop-i.words h c.loop-i.invariant.long)
+    (ap (λ (r : List ℕ). take at c.loop-i.words.symbols ++ (c.spell_word-long.new.out ++ r)) (Post-is at (at + longest) c.loop-i.words.symbols (omega arith)))
+    (c.spell_word-long.auto.out ∙ part_long b c.loop-i.words.symbols h c.loop-i.invariant.long)
     c.spell_word-long.ensures.symbols
 
 pub returns : goal.returns

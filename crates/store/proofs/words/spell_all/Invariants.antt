@@ -19,4 +19,4 @@ pub record From (c : Code) (l : List ℕ) (i : ℕ) (lengths words : List ℕ) :
   pub word : (b : ℕ) → b < 256 → has b (drop i l) ≡ true → take (length_of c (rank_from l i b)) (drop (b * longest) words) ≡ word_of c (rank_from l i b)
 
 abbrev pub invariant-loop-i : goal.invariant-loop-i
-invariant-loop-i l = From l.code (take l.sigma l.places) l.i l.lengths l.words
+invariant-loop-i l = From l.code (take l.sigma l.places) l.i l.words.lengths l.words.symbols
