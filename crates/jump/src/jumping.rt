@@ -39,10 +39,9 @@ pub fn jump_sound(roll: Roll, buf: &[u8], pattern: &[u8], slice: &mut [u32]) -> 
     let table = roll.table;
     let code = table.code;
     let mut row = [0; MOST_PATTERN * LONGEST];
-    let long = spell_pattern(code, table.sigma, table.places, pattern, &mut row);
-    if long == 0 {
+    let Some(long) = spell_pattern(code, table.sigma, table.places, pattern, &mut row) else {
         return 0;
-    }
+    };
     let symbols = &row[..long];
     if long < per_byte(code.k) {
         return list_hits(roll, buf, symbols, slice);
