@@ -27,7 +27,7 @@ fn jump(searched: &Searched, symbols: &[u8], slice: &mut [u32]) -> u32
     let mut t = [0; 8192];
     fill_table(k, symbols, v, &mut t);
     let last = lasts(k, symbols, v);
-    scan(searched, symbols, v, &t, &last, slice)
+    scan(searched, symbols, v, &t, last, slice)
 }
 
 // Searching a sound roll: the total of all hits; the first of them are listed as far as the slice goes. Too few symbols for a window are looked for one by one.
