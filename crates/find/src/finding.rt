@@ -1,8 +1,9 @@
 // The places of a sound roll where a pattern stands.
-ghost use Rattle.std.specs.Prelude.{◌≡◌, ◌*◌, ◌≤◌, T, length, take, drop};
+ghost use Rattle.std.specs.Prelude.{◌≡◌, ◌*◌, ◌≤◌, ◌<◌, T, [], length, take, drop, IfSome, MatchOption};
 ghost use Rattle.stopper.specs.Paper.Table.{good_code, longest};
 ghost use Rattle.symbols.specs.Paper.Symbols.{symbols_of};
 ghost use Rattle.symbols.specs.Helpers.Widths.{Width};
+ghost use Rattle.texts.specs.Paper.Characters.{first_foreign};
 ghost use Rattle.texts.specs.Paper.Hits.{hits, good_pattern, listed, most_pattern, stands};
 ghost use Rattle.reading.specs.Paper.Reading.{row_upto};
 ghost use Rattle.sound.specs.Paper.Roll.{text_of, Sound};
@@ -16,28 +17,29 @@ use stopper::word::spell_word;
 use symbols::symbol::get;
 use texts::pattern::MOST_PATTERN;
 
-// The symbols of a pattern, one a byte, from the front of symbols; how many, or 0 if a character is not in the table.
+// The symbols of a pattern, one a byte, from the front of symbols: how many. None if a character is not in the table.
 pub fn spell_pattern(
     code: Code,
     sigma: u16,
     places: [u8; 256],
     pattern: &[u8],
     symbols: &mut [u8],
-) -> usize
+) -> Option<usize>
     requires { T (good_code code) × (sigma ≤ 256) × (length pattern.now ≤ most_pattern) × (length symbols.old ≡ most_pattern * longest) }
-    ensures length { result ≡ length (pattern_row code (take sigma places) pattern.now) }
-    ensures symbols { take result symbols.new ≡ pattern_row code (take sigma places) pattern.now }
+    ensures known { let row = take sigma places in MatchOption result (first_foreign row pattern.now < length pattern.now) (λ long. first_foreign row pattern.now ≡ length pattern.now) }
+    ensures length { let found = pattern_row code (take sigma places) pattern.now in MatchOption result (found ≡ []) (λ long. long ≡ length found) }
+    ensures symbols { IfSome result (λ long. take long symbols.new ≡ pattern_row code (take sigma places) pattern.now) }
 {
     let ranks = ranks_of(sigma, places);
     let mut p: usize = 0;
     for b in pattern {
         let rank = ranks[usize::from(*b)];
         if sigma <= rank {
-            return 0;
+            return None;
         }
         p += spell_word(code, u32::from(rank), &mut symbols[p..p + LONGEST]);
     }
-    p
+    Some(p)
 }
 
 // Whether the symbols stand at symbol p of the first h.
@@ -82,9 +84,9 @@ pub fn search_sound(roll: Roll, buf: &[u8], pattern: &[u8], slice: &mut [u32]) -
 {
     let table = roll.table;
     let mut symbols = [0u8; MOST_PATTERN * LONGEST];
-    let long = spell_pattern(table.code, table.sigma, table.places, pattern, &mut symbols);
-    if long == 0 {
+    let Some(long) = spell_pattern(table.code, table.sigma, table.places, pattern, &mut symbols)
+    else {
         return 0;
-    }
+    };
     list_hits(roll, buf, &symbols[..long], slice)
 }

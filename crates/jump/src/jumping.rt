@@ -27,7 +27,7 @@ fn jump(searched: &Searched, symbols: &[u8], slice: &mut [u32]) -> u32
     let mut t = [0; 8192];
     fill_table(k, symbols, v, &mut t);
     let last = lasts(k, symbols, v);
-    scan(searched, symbols, v, &t, &last, slice)
+    scan(searched, symbols, v, &t, last, slice)
 }
 
 // Searching a sound roll: the total of all hits; the first of them are listed as far as the slice goes. Too few symbols for a window are looked for one by one.
@@ -39,10 +39,9 @@ pub fn jump_sound(roll: Roll, buf: &[u8], pattern: &[u8], slice: &mut [u32]) -> 
     let table = roll.table;
     let code = table.code;
     let mut row = [0; MOST_PATTERN * LONGEST];
-    let long = spell_pattern(code, table.sigma, table.places, pattern, &mut row);
-    if long == 0 {
+    let Some(long) = spell_pattern(code, table.sigma, table.places, pattern, &mut row) else {
         return 0;
-    }
+    };
     let symbols = &row[..long];
     if long < per_byte(code.k) {
         return list_hits(roll, buf, symbols, slice);

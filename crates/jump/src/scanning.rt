@@ -1,5 +1,5 @@
 // The windows of a roll, one after the other: those that the table passes over are jumped, in the others each alignment is tried.
-ghost use Rattle.std.specs.Prelude.{◌≡◌, ◌↔◌, List, [], ◌∷◌, ◌++◌, ℕ, ◌+◌, ◌-◌, ◌*◌, ◌^◌, ◌≤◌, ◌<◌, T, length, get_or};
+ghost use Rattle.std.specs.Prelude.{◌≡◌, ◌↔◌, List, [], ◌∷◌, ◌++◌, ℕ, ◌+◌, ◌-◌, ◌*◌, ◌^◌, ◌≤◌, ◌<◌, T, length, get_or, IfSome};
 ghost use Rattle.stopper.specs.Paper.Table.{stoppers, good_code};
 ghost use Rattle.symbols.specs.Paper.Symbols.{per, symbols_of};
 ghost use Rattle.texts.specs.Paper.Hits.{listed};
@@ -79,15 +79,17 @@ fn is_hit_in(
     searched: &Searched,
     symbols: &[u8],
     v: Window,
-    last: &[u8; 4],
+    last: Option<[u8; 4]>,
     f: usize,
     a: usize,
 ) -> bool
-    requires { let s = searched.now in let k = s.code.k in Fits k (length symbols.now) v × (1 < v.wide → Lasts k v symbols.now last.now (per k)) × ((f + v.wide) * per k ≤ s.h) × (first_of k v.free f ≤ a) × (a ≤ f * per k + v.free) }
+    requires { let s = searched.now in let k = s.code.k in Fits k (length symbols.now) v × IfSome last (λ row. (1 < v.wide) × Lasts k v symbols.now row (per k)) × ((f + v.wide) * per k ≤ s.h) × (first_of k v.free f ≤ a) × (a ≤ f * per k + v.free) }
     ensures { T result ↔ Hit searched.now.code searched.now.h searched.now.buf.now symbols.now a }
 {
     let per = per_byte(searched.code.k);
-    if 1 < v.wide && searched.buf[f + v.wide - 1] != last[f * per + v.free - a] {
+    if let Some(row) = last
+        && searched.buf[f + v.wide - 1] != row[f * per + v.free - a]
+    {
         return false;
     }
     is_hit(searched, symbols, a)
@@ -98,12 +100,12 @@ fn try_window(
     searched: &Searched,
     symbols: &[u8],
     v: Window,
-    last: &[u8; 4],
+    last: Option<[u8; 4]>,
     f: usize,
     before: Found,
     slice: &mut [u32],
 ) -> Found
-    requires { let s = searched.now in let first = first_of s.code.k v.free f in Fits s.code.k (length symbols.now) v × (1 < v.wide → Lasts s.code.k v symbols.now last.now (per s.code.k)) × ((f + v.wide) * per s.code.k ≤ s.h) × Counts s.code s.buf.now first before.counted.next before.counted.ended × (before.total ≡ length (hits_below s.code s.h s.buf.now symbols.now first)) }
+    requires { let s = searched.now in let first = first_of s.code.k v.free f in Fits s.code.k (length symbols.now) v × IfSome last (λ row. (1 < v.wide) × Lasts s.code.k v symbols.now row (per s.code.k)) × ((f + v.wide) * per s.code.k ≤ s.h) × Counts s.code s.buf.now first before.counted.next before.counted.ended × (before.total ≡ length (hits_below s.code s.h s.buf.now symbols.now first)) }
     ensures { let s = searched.now in let first = first_of s.code.k v.free f in let next = first_of s.code.k v.free (f + 1) in let hits = hits_below s.code s.h s.buf.now symbols.now in Counts s.code s.buf.now next result.counted.next result.counted.ended × (result.total ≡ length (hits next)) × Grows (hits first) (hits next) slice.old slice.new }
 {
     let per = per_byte(searched.code.k);
@@ -189,10 +191,10 @@ pub fn scan(
     symbols: &[u8],
     v: Window,
     t: &[u8; 8192],
-    last: &[u8; 4],
+    last: Option<[u8; 4]>,
     slice: &mut [u32],
 ) -> u32
-    requires { let k = searched.now.code.k in Fits k (length symbols.now) v × Safe k v symbols.now t.now × (1 < v.wide → Lasts k v symbols.now last.now (per k)) }
+    requires { let k = searched.now.code.k in Fits k (length symbols.now) v × Safe k v symbols.now t.now × IfSome last (λ row. (1 < v.wide) × Lasts k v symbols.now row (per k)) }
     ensures total { let s = searched.now in result ≡ length (hits_below s.code s.h s.buf.now symbols.now s.h) }
     ensures list { let s = searched.now in slice.new ≡ listed (hits_below s.code s.h s.buf.now symbols.now s.h) slice.old }
 {

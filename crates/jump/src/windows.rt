@@ -1,5 +1,5 @@
 // Windows of whole bytes in which a pattern is looked for, at all its alignments in a byte, and the table of jumps.
-ghost use Rattle.std.specs.Prelude.{◌≡◌, ◌+◌, ◌*◌, ◌/◌, ◌%◌, ◌^◌, ◌≤◌, ◌<◌, length};
+ghost use Rattle.std.specs.Prelude.{◌≡◌, ◌+◌, ◌*◌, ◌/◌, ◌%◌, ◌^◌, ◌≤◌, ◌<◌, length, MatchOption};
 ghost use Rattle.ground.specs.Helpers.Below.{Below};
 ghost use Rattle.symbols.specs.Paper.Symbols.{per};
 ghost use Rattle.symbols.specs.Helpers.Widths.{Width};
@@ -135,19 +135,19 @@ pub fn fill_table(k: u8, symbols: &[u8], v: Window, t: &mut [u8; 8192])
     fill_places(k, symbols, v, t);
 }
 
-// The last byte that each alignment has in a window; in a window of one byte free symbols may stand there.
-pub fn lasts(k: u8, symbols: &[u8], v: Window) -> [u8; 4]
+// The last byte that each alignment has in a window. None in a window of one byte: free symbols may stand there.
+pub fn lasts(k: u8, symbols: &[u8], v: Window) -> Option<[u8; 4]>
     requires { (Width k) × (Below (2 ^ k) symbols.now) × Fits k (length symbols.now) v }
-    ensures { 1 < v.wide → Lasts k v symbols.now result (per k) }
+    ensures { MatchOption result (v.wide ≡ 1) (λ last. (1 < v.wide) × Lasts k v symbols.now last (per k)) }
 {
-    let mut last = [0; 4];
     if v.wide == 1 {
-        return last;
+        return None;
     }
     let per = per_byte(k);
     let first = (v.wide - 1) * per - v.free;
+    let mut last = [0; 4];
     for o in 0..per {
         last[o] = number_from(k, symbols, first + o, per);
     }
-    last
+    Some(last)
 }

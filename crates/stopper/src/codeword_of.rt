@@ -20,11 +20,9 @@ pub fn codeword_of(table: Table, character: u8) -> Result<Codeword, Refusal>
     if !good_table(table) {
         return Err(Refusal::BadTable);
     }
-    let sigma = usize::from(table.sigma);
-    let rank = rank_of(table, character);
-    if sigma <= rank {
+    let Some(rank) = rank_of(table, character) else {
         return Err(Refusal::NotInTable(0));
-    }
+    };
     let mut symbols = [0u8; LONGEST];
     let length = spell_word(table.code, rank as u32, &mut symbols);
     Ok(Codeword { length, symbols })

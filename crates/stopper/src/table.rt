@@ -1,7 +1,7 @@
 // A table: a code and the characters in rank order.
-ghost use Rattle.std.specs.Prelude.{◌≡◌, ◌≤◌, ◌==◌, take, position};
-ghost use Rattle.stopper.specs.Paper.Table.{good_characters, good_table, rank_in, characters};
-ghost use Rattle.stopper.specs.Helpers.Answers.{ranks_of};
+ghost use Rattle.std.specs.Prelude.{◌≡◌, ◌≤◌, take};
+ghost use Rattle.stopper.specs.Paper.Table.{good_characters, good_table, characters};
+ghost use Rattle.stopper.specs.Helpers.Answers.{ranked_in, ranks_of};
 
 use crate::code::{Code, good_code};
 
@@ -39,20 +39,13 @@ pub fn good_table(table: Table) -> bool
     good_code(table.code) && good_characters(table)
 }
 
-// The place of b in a row, if it is there.
-fn place_in(row: &[u8], b: u8) -> Option<usize>
-    ensures { result ≡ position (λ x. x == b) row.now }
-{
-    row.iter().position(|x| *x == b)
-}
-
-// The rank of a character, or sigma if it is not in the table.
-pub fn rank_of(table: Table, character: u8) -> usize
+// The rank of a character, if it is in the table.
+pub fn rank_of(table: Table, character: u8) -> Option<usize>
     requires { table.sigma ≤ 256 }
-    ensures { result ≡ rank_in (characters table) character }
+    ensures { result ≡ ranked_in (characters table) character }
 {
-    let n = usize::from(table.sigma);
-    place_in(&table.places[..n], character).unwrap_or(n)
+    let row = &table.places[..usize::from(table.sigma)];
+    row.iter().position(|x| *x == character)
 }
 
 // The ranks of all byte values at once, for a caller that looks up many: sigma where there is none.

@@ -168,7 +168,7 @@ fn pass_all(
 fn begins(r: Reader) -> bool
     ensures { T result → r ≡ opened }
 {
-    !r.past & (r.place == 0) & (r.shorter == 0) & (r.rows == 1) & (r.value == 0)
+    r == opening()
 }
 
 // Where a codeword begins with symbol `from`: as many as end by symbol `upto`, within so many symbols as are passed at once.

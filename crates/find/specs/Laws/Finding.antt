@@ -85,7 +85,5 @@ module _ {r : Roll} {buf : List ℕ} (held : Held r buf) (p : List ℕ) where
   pub row_none : T (good_pattern p) → length symbols ≡ 0 → hits p (text_of r buf) ≡ []
   row_none g e = no_hits (none_foreign r.table.code (sound_code held.sound) (characters r.table) p g e)
 
-  pub row_hits : length symbols ≢ 0 → word_hits r buf symbols ≡ hits p (text_of r buf)
-  row_hits n =
-      let k = some_known r.table.code (characters r.table) p n in
-      ap (word_hits r buf) (pattern_known r.table.code (characters r.table) p k) ∙ word_hits_lem k
+  pub row_hits : first_foreign (characters r.table) p ≡ length p → word_hits r buf symbols ≡ hits p (text_of r buf)
+  row_hits k = ap (word_hits r buf) (pattern_known r.table.code (characters r.table) p k) ∙ word_hits_lem k

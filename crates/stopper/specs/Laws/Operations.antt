@@ -11,14 +11,31 @@ use Rattle.ground.specs.Paper.Rows.{zeros}
 use Rattle.ground.specs.Laws.Refusals.{Accepted}
 use Rattle.ground.specs.Laws.Rows.{padded_over}
 use Rattle.stopper.specs.Paper.Code.{is_word, rank_of}
-use Rattle.stopper.specs.Paper.Table.{base, stoppers, characters, good_table, rank_in, word_of, length_of, longest}
+use Rattle.stopper.specs.Paper.Table.{base, stoppers, has, characters, good_table, rank_in, word_of, length_of, longest}
 use Rattle.stopper.specs.Paper.Operations.{codeword_says, Coding, is_one, word_in, character_says}
-use Rattle.stopper.specs.Helpers.Answers.{ranked_as}
+use Rattle.stopper.specs.Helpers.Answers.{ranked_as, ranked_in}
 use Rattle.stopper.specs.declared.code.Code.{Code}
 use Rattle.stopper.specs.declared.table.Table.{Table}
 use Rattle.stopper.specs.declared.codeword_of.Codeword.{Codeword}
 
 -- ---- codeword of a character
+
+-- what a rank of a character, or none, says
+pub ranked_some : (l : List ℕ) (b : ℕ) {r : ℕ} → Some r ≡ ranked_in l b → (has b l ≡ true) × (r ≡ rank_in l b)
+unfolding ranked_in
+ranked_some l b {r} e = go (has b l) e
+  where
+    go : (t : Bool) → Some r ≡ cond t (Some (rank_in l b)) None → (t ≡ true) × (r ≡ rank_in l b)
+    go true f = (refl, cc)
+    go false f = let n : ◌≡◌ {A = ℕ} 0 1 = cc in absurd (omega arith)
+
+pub ranked_none : (l : List ℕ) (b : ℕ) → None ≡ ranked_in l b → has b l ≡ false
+unfolding ranked_in
+ranked_none l b e = go (has b l) e
+  where
+    go : (t : Bool) → None ≡ cond t (Some (rank_in l b)) None → t ≡ false
+    go true f = let n : ◌≡◌ {A = ℕ} 0 1 = cc in absurd (omega arith)
+    go false f = refl
 
 module _ {t : Table} {b : ℕ} where
   pub codeword_refused : {e : Refusal} → codeword_says t b ≡ refused (number_of e) (value_of e) → Coding t b (Err e)

@@ -1,5 +1,5 @@
 -- `find::finding::spell_pattern` meets its contract: the characters passed are in the table, and their symbols stand at the front.
-use Rattle.std.proofs.Common.{◌≡◌, sym, ap, ap₂, ◌∙◌, ℕ, ◌+◌, ◌-◌, ◌≤◌, ◌<◌, List, [], ◌++◌, append_assoc, length, take, drop, get_or, length-append, zero-add, add-one, arith, rules}
+use Rattle.std.proofs.Common.{◌≡◌, sym, ap, ap₂, ◌∙◌, ℕ, ◌+◌, ◌-◌, ◌≤◌, ◌<◌, List, ◌++◌, append_assoc, length, take, drop, get_or, length-append, zero-add, add-one, arith, rules}
 use borrow.Rule.Slice.PartMut.{mid_len, Post-is}
 use lib.Seq.{length-take-le, take_at, take_all}
 use Rattle.ground.specs.Paper.Runs.{over}
@@ -22,14 +22,14 @@ start c l pattern symbols = record { few = omega arith; foreign = sym (zero-add 
 
 -- all characters, or one that is not in the row
 module _ {c : Code} {l pattern symbols : List ℕ} {p i : ℕ} (s : Spelling c l pattern symbols p i) where
-  all : i ≡ length pattern → (p ≡ length (pattern_row c l pattern)) × (take p symbols ≡ pattern_row c l pattern)
+  all : i ≡ length pattern → (first_foreign l pattern ≡ length pattern) × (p ≡ length (pattern_row c l pattern)) × (take p symbols ≡ pattern_row c l pattern)
   all e =
       let f : first_foreign l pattern ≡ length pattern = s.foreign ∙ ap (λ (n : ℕ). n + first_foreign l (drop n pattern)) e ∙ omega (arith, foreign_end l pattern) in
       let t : take i pattern ≡ pattern = take_all i pattern (omega arith) in
-      (s.long ∙ rw (pattern_known c l pattern f, t), s.row ∙ rw (pattern_known c l pattern f, t))
+      (f, s.long ∙ rw (pattern_known c l pattern f, t), s.row ∙ rw (pattern_known c l pattern f, t))
 
-  none : i < length pattern → length l ≤ rank_in l (get_or pattern i 0) → pattern_row c l pattern ≡ []
-  none h k = pattern_foreign c l pattern (omega (arith, s.foreign, foreign_first l pattern i h k))
+  none : i < length pattern → length l ≤ rank_in l (get_or pattern i 0) → first_foreign l pattern < length pattern
+  none h k = omega (arith, s.foreign, foreign_first l pattern i h k)
 
   -- one more: its word laid after the others
   more : i < length pattern → {r n : ℕ} → r ≡ rank_in l (get_or pattern i 0) → r < length l → n ≡ length_of c r → n ≤ longest → {after ys : List ℕ} (tail : List ℕ)
@@ -74,7 +74,7 @@ returns-then-sigma-rank c =
       rank_is row c.ranks_of-ranks.ensures (get_or c.args.pattern.now c.loop-b.b-index 0) (c.type_inv.pattern c.loop-b.b-index).fits c.from.ensures,
       row_long c.args.sigma c.args.places (search rules) c.requires.1,
     )) in
-    record { length = sym (ap length e); symbols = sym e }
+    record { known = e; length = pattern_foreign c.args.code row c.args.pattern.now e; symbols = tt }
 
 pub spell_word-p-requires : goal.spell_word-p-requires
 spell_word-p-requires c =
@@ -104,4 +104,4 @@ loop-b-preserved c =
 pub returns : goal.returns
 returns c =
     let s = all c.loop-b.invariant (omega arith) in
-    record { length = s.0; symbols = s.1 }
+    record { known = s.0; length = s.1; symbols = s.2 }

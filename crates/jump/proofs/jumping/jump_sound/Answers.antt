@@ -1,10 +1,11 @@
 -- `jump::jumping::jump_sound` meets its contract.
-use Rattle.std.proofs.Common.{◌≡◌, ◌≢◌, List, ℕ, length, take, sym, ap, ◌∙◌, rules, arith}
+use Rattle.std.proofs.Common.{◌≡◌, List, ℕ, length, take, sym, ap, ◌∙◌, rules, arith}
 use Rattle.ground.specs.Laws.Limit.{limit_fits}
 use Rattle.stopper.specs.Paper.Table.{characters}
 use Rattle.stopper.specs.Laws.Table.{table_few, code_width}
 use Rattle.symbols.specs.Laws.Sizes.{room_limit}
 use Rattle.symbols.specs.Laws.Rows.{room_row}
+use Rattle.texts.specs.Paper.Characters.{first_foreign}
 use Rattle.texts.specs.Paper.Hits.{hits, listed}
 use Rattle.texts.specs.Laws.Patterns.{pattern_most}
 use Rattle.texts.specs.Laws.Finding.{listed_none}
@@ -14,7 +15,7 @@ use Rattle.sound.specs.Helpers.Held.{Held}
 use Rattle.sound.specs.Laws.Sound.{sound_code}
 use Rattle.sound.specs.Laws.Texts.{text_below}
 use Rattle.find.specs.Helpers.Finding.{word_hits, pattern_row}
-use Rattle.find.specs.Laws.Finding.{pattern_known, some_known, row_none, row_hits}
+use Rattle.find.specs.Laws.Finding.{pattern_known, no_hits, row_hits}
 use Rattle.jump.specs.Laws.Hits.{all_number, all_hits}
 use Rattle.jump.proofs.jumping.jump_sound.Goals as goal
 
@@ -23,20 +24,19 @@ row_room : {long : ℕ} {found : List ℕ} (row : List ℕ) → long ≡ length 
 row_room row e f = e ∙ sym (ap length f)
 
 -- the codewords at whose start they stand are the hits
-hits_are : {roll : Roll} {buf : List ℕ} → Held roll buf → (pattern : List ℕ) {long : ℕ} {symbols : List ℕ} → let spelled = pattern_row roll.table.code (characters roll.table) pattern in
-    long ≡ length spelled → symbols ≡ spelled → long ≢ 0 → word_hits roll buf symbols ≡ hits pattern (text_of roll buf)
-hits_are {roll} {buf} held pattern e f some =
-    ap (word_hits roll buf) f ∙ row_hits held pattern (λ z. some (e ∙ z))
+hits_are : {roll : Roll} {buf : List ℕ} → Held roll buf → (pattern : List ℕ) {symbols : List ℕ} → first_foreign (characters roll.table) pattern ≡ length pattern
+    → symbols ≡ pattern_row roll.table.code (characters roll.table) pattern → word_hits roll buf symbols ≡ hits pattern (text_of roll buf)
+hits_are {roll} {buf} held pattern known is = ap (word_hits roll buf) is ∙ row_hits held pattern known
 
-pub spell_pattern-long-requires : goal.spell_pattern-long-requires
-spell_pattern-long-requires c =
+pub spell_pattern-requires : goal.spell_pattern-requires
+spell_pattern-requires c =
     (sound_code c.requires.0, table_few c.args.roll.table c.requires.0.table, pattern_most c.args.pattern.now c.requires.1, omega arith)
 
-pub returns-then-long-eq0 : goal.returns-then-long-eq0
-returns-then-long-eq0 c =
+pub returns-in_default : goal.returns-in_default
+returns-in_default c =
     let a = c.args in
     let held : Held a.roll a.buf.now = record { sound = c.requires.0; places = search rules } in
-    let e = row_none held a.pattern.now c.requires.1 (sym c.spell_pattern-long.ensures.length ∙ c.if-long-eq0.true) in
+    let e = no_hits held a.pattern.now c.in_default.ensures.known in
     record { total = sym (ap length e); list = sym (ap (λ (found : List ℕ). listed found a.slice.now) e ∙ listed_none a.slice.now) }
 
 pub per_byte-requires : goal.per_byte-requires
@@ -44,13 +44,13 @@ per_byte-requires c = code_width c.args.roll.table.code (sound_code c.requires.0
 
 pub slice_bounds-symbols-end : goal.slice_bounds-symbols-end
 slice_bounds-symbols-end c =
-    let e = c.spell_pattern-long.ensures in row_room c.spell_pattern-long.new.symbols e.length e.symbols
+    let e = c.in-Some.ensures in row_room c.spell_pattern.new.symbols e.length e.symbols
 
 pub returns-then-long-per_byte : goal.returns-then-long-per_byte
 returns-then-long-per_byte c =
     let a = c.args in
     let held : Held a.roll a.buf.now = record { sound = c.requires.0; places = search rules } in
-    let h = hits_are held a.pattern.now c.spell_pattern-long.ensures.length c.spell_pattern-long.ensures.symbols c.if-long-eq0.false in
+    let h = hits_are held a.pattern.now c.in-Some.ensures.known c.in-Some.ensures.symbols in
     record { total = c.list_hits.ensures.total ∙ ap length h; list = c.list_hits.ensures.list ∙ ap (λ (found : List ℕ). listed found a.slice.now) h }
 
 pub stops_by_byte-stops-requires : goal.stops_by_byte-stops-requires
@@ -73,10 +73,9 @@ pub jump-requires : goal.jump-requires
 jump-requires c =
     let a = c.args in
     let t = a.roll.table in
-    let e = c.spell_pattern-long.ensures in
-    let known = some_known t.code (characters t) a.pattern.now (λ z. c.if-long-eq0.false (e.length ∙ z)) in
-    let row : take c.spell_pattern-long.result c.spell_pattern-long.new.symbols ≡ symbols_for t a.pattern.now = e.symbols ∙ pattern_known t.code (characters t) a.pattern.now known in (
-      omega (arith, c.if-long-per_byte.false, c.per_byte.ensures, row_room c.spell_pattern-long.new.symbols e.length e.symbols),
+    let e = c.in-Some.ensures in
+    let row : take c.in-Some.long c.spell_pattern.new.symbols ≡ symbols_for t a.pattern.now = e.symbols ∙ pattern_known t.code (characters t) a.pattern.now e.known in (
+      omega (arith, c.if-long-per_byte.false, c.per_byte.ensures, row_room c.spell_pattern.new.symbols e.length e.symbols),
       rw row (text_below t.code (sound_code c.requires.0) (characters t) a.pattern.now),
     )
 
@@ -84,5 +83,5 @@ pub returns : goal.returns
 returns c =
     let a = c.args in
     let held : Held a.roll a.buf.now = record { sound = c.requires.0; places = search rules } in
-    let h = all_hits c.requires.0 _ ∙ hits_are held a.pattern.now c.spell_pattern-long.ensures.length c.spell_pattern-long.ensures.symbols c.if-long-eq0.false in
+    let h = all_hits c.requires.0 _ ∙ hits_are held a.pattern.now c.in-Some.ensures.known c.in-Some.ensures.symbols in
     record { total = c.jump.ensures.total ∙ ap length h; list = c.jump.ensures.list ∙ ap (λ (found : List ℕ). listed found a.slice.now) h }

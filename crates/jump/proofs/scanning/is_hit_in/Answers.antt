@@ -16,27 +16,28 @@ bounds-searched-f c =
     let s = c.args.searched.now in
     let inside : c.args.f + c.args.v.wide ≤ length s.buf.now
     = le_of_mul-le-mul_right (omega (arith, c.requires.2, s.inside, symbols_length s.code.k s.buf.now)) (per_pos (code_width s.code s.good)) in
-    omega (arith, inside, c.if-v-gt1.true)
+    omega (arith, inside, c.requires.0.some, c.requires.0.sum)
 
-pub bounds-last-f : goal.bounds-last-f
-bounds-last-f c =
+pub bounds-row-f : goal.bounds-row-f
+bounds-row-f c =
     let s = c.args.searched.now in
     omega (arith, c.requires.0.few, c.requires.3, c.requires.4, ap (λ (n : ℕ). c.args.f * n) c.per_byte-per.ensures, per_few (code_width s.code s.good))
 
-pub returns-then-searched-f : goal.returns-then-searched-f
-returns-then-searched-f c =
+pub returns : goal.returns
+returns c =
     let s = c.args.searched.now in
     let v = c.args.v in
     let a : ℕ = c.args.a in
     let f : ℕ = c.args.f in
     let q : ℕ = per s.code.k in
     let o : ℕ = f * q + v.free - a in
+    let row = rw c.in-Some.is at c.requires.1 in
     let e : f * c.per_byte-per.result + v.free - a ≡ o = ap (λ (n : ℕ). f * n + v.free - a) c.per_byte-per.ensures in
-    let one : (f + 1) * q ≤ (f + v.wide) * q = mul-le-mul_right q (omega (arith, c.if-v-gt1.true)) in
+    let one : (f + 1) * q ≤ (f + v.wide) * q = mul-le-mul_right q (omega (arith, row.0)) in
     let lo : o < q = omega (arith, c.requires.3, c.requires.0.few) in
     let there = last_byte s.code s.good (below_all 256 s.buf.now s.bytes) s.h s.inside c.args.symbols.now v c.requires.0 a o f (omega (arith, one, c.requires.2, c.requires.4, c.requires.0.few)) in (
       (λ x. absurd x),
       (λ x.
           c.if-searched-f.true
-          (there x.0 lo (omega (arith, c.requires.4)) c.if-v-gt1.true ∙ sym (ap (λ (n : ℕ). get_or c.args.last.now n 0) e ∙ c.requires.1 c.if-v-gt1.true o lo))),
+          (there x.0 lo (omega (arith, c.requires.4)) row.0 ∙ sym (ap (λ (n : ℕ). get_or c.in-Some.row n 0) e ∙ row.1 o lo))),
     )

@@ -1,5 +1,5 @@
 -- `stopper::character_of::rank_of_word` meets its contract: `Seen` of the symbols up to the length.
-use Rattle.std.proofs.Common.{◌≡◌, sym, ◌∙◌, ℕ, ◌<◌, ◌≤◌, List, length, take, get_or, arith, rules}
+use Rattle.std.proofs.Common.{◌≡◌, sym, ◌∙◌, ℕ, ◌<◌, List, length, take, get_or, arith, rules}
 use lib.Seq.{length-take-le, get_or-take}
 use Rattle.stopper.specs.Paper.Table.{longest}
 use Rattle.stopper.specs.Laws.Seen.{seen_none, seen_small, seen_open}
