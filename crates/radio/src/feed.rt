@@ -10,6 +10,7 @@ use crate::records::Searcher;
 use ground::refusal::Refusal;
 use judge::judging::{hear_run, reader_of};
 use judge::records::{Judge, Progress};
+use stretches::alphabet::Alphabet;
 use stretches::codewords::{AT_ONCE, read_stretch};
 use symbols::bits::per_byte;
 use symbols::size::bytes_for;
@@ -66,6 +67,11 @@ fn follow(searcher: Searcher, piece: &[u8], all: usize, slice: &mut [u32]) -> Fo
         return nowhere(p, searcher.ends);
     }
     let upto = left.min(all);
+    let alphabet = Alphabet {
+        code: table.code,
+        sigma: table.sigma as u32,
+        places: &table.places,
+    };
     let length = searcher.length;
     let mut masks = [0u64; 256];
     mark_places(searcher.pattern, length as usize, &mut masks);
@@ -79,16 +85,7 @@ fn follow(searcher: Searcher, piece: &[u8], all: usize, slice: &mut [u32]) -> Fo
     let mut i: usize = 0;
     // A while: how far a turn goes comes from the stretch that it reads.
     while i < upto {
-        let Some(on) = read_stretch(
-            table.code,
-            u32::from(table.sigma),
-            &table.places,
-            r,
-            piece,
-            i,
-            upto,
-            &mut text,
-        ) else {
+        let Some(on) = read_stretch(&alphabet, r, piece, i, upto, &mut text) else {
             break;
         };
         let named = name_hits(

@@ -1,5 +1,5 @@
 -- `radio::feed::follow` meets its contract.
-use Rattle.std.proofs.Common.{◌≡◌, List, [], ℕ, ◌+◌, ◌-◌, ◌*◌, ◌%◌, ◌^◌, ◌≤◌, ◌<◌, min, cond, Option, Some, None, length, take, drop, refl, sym, ap, subst, ◌∙◌, ⊎_elim, rules, arith, one-mul, shl_exact, length-take-le}
+use Rattle.std.proofs.Common.{◌≡◌, List, [], ℕ, ◌+◌, ◌-◌, ◌*◌, ◌%◌, ◌^◌, ◌≤◌, ◌<◌, min, cond, Some, length, take, drop, refl, sym, ap, ◌∙◌, ⊎_elim, rules, arith, one-mul, shl_exact, length-take-le}
 use Rattle.std.proofs.Math.Decide.{dec_lt}
 use Rattle.ground.specs.Paper.Rows.{zeros}
 use Rattle.ground.specs.Laws.Limit.{limit_fits}
@@ -22,11 +22,6 @@ use Rattle.radio.specs.declared.records.Searcher.{Searcher}
 use Rattle.radio.specs.declared.matching.Named.{Named}
 use Rattle.radio.proofs.feed.follow.Goals as goal
 use Rattle.radio.proofs.feed.follow.Goals.{then-on, else-on, then-p-ne0-via-then-p-ne0, then-p-ne0-via-else-p-ne0+then-left-eq0, else-loop-i-test, then-loop-i-test+in_default}
-
--- a stretch, the number of characters written otherwise
-at_sigma : (c : Code) (places : List ℕ) (r : Reader) (piece : List ℕ) (i upto : ℕ) (x : Option Stretch) (text : List ℕ) {a b : ℕ} → a ≡ b
-    → ReadStretch c a places r piece i upto x text → ReadStretch c b places r piece i upto x text
-at_sigma c places r piece i upto x text e = subst (λ (σ : ℕ). ReadStretch c σ places r piece i upto x text) e
 
 module _ (s : Searcher) (piece : List ℕ) {all : ℕ} (slice : List ℕ) (f : Follows s piece all slice) where
   abbrev code : Code
@@ -90,11 +85,9 @@ module _ (s : Searcher) (piece : List ℕ) {all : ℕ} (slice : List ℕ) (f : F
       in_roll : p.read + i < h
       in_roll = omega (arith, upto_roll)
 
-      reads : {a : ℕ} → a ≡ σ → Reads code a r piece i upto
-      reads e =
+      reads : Reads code.k r piece i upto
+      reads =
           record {
-            code = table_code _ f.ready.table;
-            sigma = rw e (table_few _ f.ready.table);
             small = z.small;
             order = here;
             inside = upto_piece;
@@ -152,6 +145,11 @@ returns-then-p-ne0 c =
     (λ e. full_silent (code_in s) _ _ p w (omega arith))
     c.then-p-ne0.either))
 
+pub invariant_of-alphabet : goal.invariant_of-alphabet
+invariant_of-alphabet c =
+    let table = c.requires.ready.table in
+    record { good = table_code _ table; few = table_few _ table }
+
 pub mark_places-requires : goal.mark_places-requires
 unfolding zeros
 mark_places-requires c = (c.requires.ready.long, refl)
@@ -180,7 +178,7 @@ read_stretch-requires c =
     let long : length s.pattern ≡ 64 = search rules in
     let m = masked _ _ _ c.requires long c.mark_places.ensures in
     let z = c.loop-i.invariant.2 (pattern_in s) m in
-    reads _ _ _ c.requires c.min-upto.ensures c.loop-i-test.true z c.from.ensures
+    reads _ _ _ c.requires c.min-upto.ensures c.loop-i-test.true z
 
 pub name_hits-named-requires : goal.name_hits-named-requires
 name_hits-named-requires c =
@@ -188,7 +186,7 @@ name_hits-named-requires c =
     let long : length s.pattern ≡ 64 = search rules in
     let m = masked _ _ _ c.requires long c.mark_places.ensures in
     let z = c.loop-i.invariant.2 (pattern_in s) m in
-    let x = at_sigma (code_in s) s.judge.roll.table.places c.loop-i.r c.args.piece.now c.loop-i.i c.min-upto.result (Some c.in-Some.on) c.read_stretch.new.text c.from.ensures c.in-Some.ensures in
+    let x = c.in-Some.ensures in
     names _ _ _ c.requires c.min-upto.ensures c.loop-i-test.true z x m c.loop-i.auto.slice
 
 pub overflow_add-count : goal.overflow_add-count
@@ -197,7 +195,7 @@ overflow_add-count c =
     let long : length s.pattern ≡ 64 = search rules in
     let m = masked _ _ _ c.requires long c.mark_places.ensures in
     let z = c.loop-i.invariant.2 (pattern_in s) m in
-    let x = at_sigma (code_in s) s.judge.roll.table.places c.loop-i.r c.args.piece.now c.loop-i.i c.min-upto.result (Some c.in-Some.on) c.read_stretch.new.text c.from.ensures c.in-Some.ensures in
+    let x = c.in-Some.ensures in
     omega (arith, count_fits _ _ _ c.requires c.min-upto.ensures c.loop-i-test.true z x)
 
 pub loop-i-preserved : goal.loop-i-preserved
@@ -206,7 +204,7 @@ loop-i-preserved c =
     let long : length s.pattern ≡ 64 = search rules in
     let m = masked _ _ _ c.requires long c.mark_places.ensures in
     let z = c.loop-i.invariant.2 (pattern_in s) m in
-    let x = at_sigma (code_in s) s.judge.roll.table.places c.loop-i.r c.args.piece.now c.loop-i.i c.min-upto.result (Some c.in-Some.on) c.read_stretch.new.text c.from.ensures c.in-Some.ensures in
+    let x = c.in-Some.ensures in
     let start : c.if-on.first ≡ cond c.in-Some.on.ended (s.judge.progress.read + c.in-Some.on.to) c.loop-i.first
     = elim c.if-on.branch [ then-on w ↦ rw w.if-on.true w.first-is | else-on w ↦ rw w.if-on.false w.first-is ] in
     (x.within, x.long, λ pattern k. next _ _ _ c.requires c.min-upto.ensures c.loop-i-test.true z x pattern (c.loop-i.invariant.2 pattern k) (c.name_hits-named.ensures.named pattern k) start)
@@ -224,9 +222,9 @@ returns c =
     = elim c.loop-i-test.branch [
       | else-loop-i-test w ↦ at_end _ _ _ c.requires c.min-upto.ensures w.loop-i-test.false z
       | then-loop-i-test+in_default w ↦
-          let x = at_sigma (code_in s) s.judge.roll.table.places c.loop-i.r a.piece.now c.loop-i.i c.min-upto.result None w.read_stretch.new.text w.from.ensures w.in_default.ensures in
+          let x = w.in_default.ensures in
           along_silent (code_in s) _ s.judge.roll.table.places s.judge.roll.h s.judge.progress (pattern_in s) s.ends (row s a.piece.now) a.slice.now z
           (in_roll _ _ _ c.requires c.min-upto.ensures w.loop-i-test.true z) x.silent
     ] in
     along_went s a.piece.now a.slice.now z none
-    (progress_is (s.judge.progress.read + c.loop-i.i) c.loop-i.count c.loop-i.first c.loop-i.r s.judge.progress.stained z.going (search (rules, c.from-2.ensures)))
+    (progress_is (s.judge.progress.read + c.loop-i.i) c.loop-i.count c.loop-i.first c.loop-i.r s.judge.progress.stained z.going (search (rules, c.from.ensures)))
