@@ -5,11 +5,13 @@ ghost use Rattle.radio.specs.Helpers.Kept.{refused_fed};
 ghost use Rattle.radio.specs.Helpers.Following.{followed_none, Follows, Went};
 
 use crate::bounds::kept;
-use crate::matching::{mark_places, name_hits};
+use crate::matcher::Matcher;
+use crate::matching::{Named, mark_places, name_hits};
 use crate::records::Searcher;
 use ground::refusal::Refusal;
 use judge::judging::{hear_run, reader_of};
 use judge::records::{Judge, Progress};
+use stretches::alphabet::Alphabet;
 use stretches::codewords::{AT_ONCE, read_stretch};
 use symbols::bits::per_byte;
 use symbols::size::bytes_for;
@@ -66,50 +68,40 @@ fn follow(searcher: Searcher, piece: &[u8], all: usize, slice: &mut [u32]) -> Fo
         return nowhere(p, searcher.ends);
     }
     let upto = left.min(all);
-    let length = searcher.length;
+    let alphabet = Alphabet {
+        code: table.code,
+        sigma: table.sigma as u32,
+        places: &table.places,
+    };
+    let pattern = &searcher.pattern[..searcher.length as usize];
     let mut masks = [0u64; 256];
-    mark_places(searcher.pattern, length as usize, &mut masks);
-    let whole: u64 = 1 << (length - 1);
+    mark_places(pattern, &mut masks);
+    let matcher = Matcher {
+        pattern,
+        masks: &masks,
+        whole: 1 << (pattern.len() - 1),
+    };
     let mut text = [0u8; AT_ONCE];
-    let mut ends = searcher.ends;
+    let mut named = Named {
+        ends: searcher.ends,
+        hits: 0,
+    };
     let mut r = reader_of(p);
     let mut count = p.count;
     let mut first = p.first;
-    let mut hits: usize = 0;
     let mut i: usize = 0;
     // A while: how far a turn goes comes from the stretch that it reads.
     while i < upto {
-        let Some(on) = read_stretch(
-            table.code,
-            u32::from(table.sigma),
-            &table.places,
-            r,
-            piece,
-            i,
-            upto,
-            &mut text,
-        ) else {
+        let Some(on) = read_stretch(&alphabet, r, piece, i, upto, &mut text) else {
             break;
         };
-        let named = name_hits(
-            &masks,
-            whole,
-            length,
-            &text,
-            on.characters,
-            count,
-            ends,
-            slice,
-            hits,
-        );
+        named = name_hits(&matcher, &text[..on.characters], count, named, slice);
         i = on.to;
         r = on.reader;
         if on.ended {
             first = p.read + i as u32;
         }
         count += on.characters as u32;
-        ends = named.ends;
-        hits = named.hits;
     }
     let read = p.read + i as u32;
     Followed {
@@ -125,9 +117,9 @@ fn follow(searcher: Searcher, piece: &[u8], all: usize, slice: &mut [u32]) -> Fo
             bad: u32::from((h <= read) & (first < read)),
             stained: p.stained,
         },
-        ends,
+        ends: named.ends,
         at: i,
-        hits,
+        hits: named.hits,
     }
 }
 

@@ -4,9 +4,9 @@ ghost use Rattle.std.specs.Int.Bits.{bit_and};
 ghost use Rattle.ground.specs.Paper.Rows.{padded, zeros};
 ghost use Rattle.texts.specs.Paper.Hits.{most_pattern};
 ghost use Rattle.radio.specs.Helpers.Masks.{masks_of};
-ghost use Rattle.radio.specs.Helpers.Naming.{Names, NamedAll};
+ghost use Rattle.radio.specs.Helpers.Naming.{Names, NamedIn};
 
-use stretches::codewords::AT_ONCE;
+use crate::matcher::Matcher;
 use texts::pattern::MOST_PATTERN;
 
 // The beginnings that end at the last character, and so many hits in all.
@@ -17,11 +17,11 @@ pub struct Named {
 }
 
 // For each character the places of the pattern where it stands: bit j of entry b is 1 where character j is b. The entries are lent, all 0.
-pub fn mark_places(pattern: [u8; MOST_PATTERN], length: usize, masks: &mut [u64])
-    requires { (length ≤ most_pattern) × (masks.old ≡ zeros 256) }
-    ensures { masks.new ≡ masks_of (take length pattern) }
+pub fn mark_places(pattern: &[u8], masks: &mut [u64])
+    requires { (length pattern.now ≤ most_pattern) × (masks.old ≡ zeros 256) }
+    ensures { masks.new ≡ masks_of pattern.now }
 {
-    for (j, &b) in pattern[..length].iter().enumerate() {
+    for (j, &b) in pattern.iter().enumerate() {
         masks[usize::from(b)] += 1 << j;
     }
 }
@@ -34,24 +34,26 @@ pub fn advance(ends: u64, mask: u64) -> u64
     (2 * ends + 1) & mask
 }
 
-// The hits whose last character is among the first n of a text, `count` characters being before it; they are listed from entry `hits` on.
+// The hits whose last character is in a text, `count` characters being before it; they are listed behind those named `before`.
 pub fn name_hits(
-    masks: &[u64; 256],
-    whole: u64,
-    length: u32,
-    text: &[u8; AT_ONCE],
-    n: usize,
+    matcher: &Matcher,
+    text: &[u8],
     count: u32,
-    ends: u64,
+    before: Named,
     slice: &mut [u32],
-    hits: usize,
 ) -> Named
-    requires { Names masks.now whole length text.now n count ends slice.old hits }
-    ensures { NamedAll masks.now whole length text.now n count ends slice.old hits result slice.new }
+    requires { Names matcher.now.whole text.now count before slice.old }
+    ensures { NamedIn matcher.now.pattern.now text.now count before.ends slice.old before.hits result slice.new }
 {
-    let mut on = ends;
-    let mut at = hits;
-    for (i, &b) in text[..n].iter().enumerate() {
+    let Matcher {
+        pattern,
+        masks,
+        whole,
+    } = *matcher;
+    let length = pattern.len() as u32;
+    let mut on = before.ends;
+    let mut at = before.hits;
+    for (i, &b) in text.iter().enumerate() {
         on = advance(on, masks[usize::from(b)]);
         if whole <= on {
             on -= whole;

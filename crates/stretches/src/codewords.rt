@@ -3,13 +3,13 @@
 // With s stoppers and c continuers at every place, one number x stands for the continuers of the open codeword: 0 for none, and a
 // continuer y makes x * c + (y - s + 1) of it. A stopper y behind them ends rank x * s + y.
 ghost use Rattle.std.specs.Prelude.{◌≡◌, ◌+◌, ◌≤◌, ◌<◌, T, length, IfSome};
-ghost use Rattle.stopper.specs.Paper.Table.{good_code};
 ghost use Rattle.stopper.specs.Helpers.State.{opened};
 ghost use Rattle.symbols.specs.Paper.Symbols.{per, symbols_of};
 ghost use Rattle.symbols.specs.Helpers.Widths.{Width};
 ghost use Rattle.stretches.specs.Helpers.Codewords.{role_of, RolesOf, ByteLaid, LaidOut, Passes, PassedAll, PassedSome, Reads, ReadStretch};
 
-use stopper::code::{Code, base_of, stoppers_at};
+use crate::alphabet::Alphabet;
+use stopper::code::{base_of, stoppers_at};
 use stopper::reading::{Reader, Step, opening, read_symbol};
 use symbols::bits::{byte_of, cut_out, per_byte, place_in_byte, shift_of};
 use symbols::symbol::get;
@@ -130,17 +130,20 @@ fn last_end(s: u32, row: &[u8; AT_ONCE], from: usize, to: usize) -> Option<usize
 
 // The symbols of a row from `from` to `to`, the characters of their codewords to the text: how many. Or the place before which less can be tried.
 fn pass_all(
-    code: Code,
-    sigma: u32,
-    places: &[u8; 256],
+    alphabet: &Alphabet,
     row: &[u8; AT_ONCE],
     from: usize,
     to: usize,
     text: &mut [u8; AT_ONCE],
 ) -> Result<usize, usize>
-    requires { Passes code sigma row.now from to }
-    ensures { PassedAll code sigma places.now row.now from to result text.new }
+    requires { Passes row.now from to }
+    ensures { let a = alphabet.now in PassedAll a.code a.sigma a.places.now row.now from to result text.new }
 {
+    let Alphabet {
+        code,
+        sigma,
+        places,
+    } = *alphabet;
     let s = stoppers_at(code, 0);
     let c = base_of(code) - s;
     let roles = roles_of(s, c);
@@ -173,21 +176,20 @@ fn begins(r: Reader) -> bool
 
 // Where a codeword begins with symbol `from`: as many as end by symbol `upto`, within so many symbols as are passed at once.
 fn pass(
-    code: Code,
-    sigma: u32,
-    places: &[u8; 256],
+    alphabet: &Alphabet,
     r: Reader,
     piece: &[u8],
     from: usize,
     upto: usize,
     text: &mut [u8; AT_ONCE],
 ) -> Option<Passed>
-    requires { T (good_code code) × (sigma ≤ 256) × (from ≤ upto) × (upto ≤ length (symbols_of code.k piece.now)) }
-    ensures { PassedSome code sigma places.now r piece.now from upto result text.new }
+    requires { (from ≤ upto) × (upto ≤ length (symbols_of alphabet.now.code.k piece.now)) }
+    ensures { let a = alphabet.now in PassedSome a.code a.sigma a.places.now r piece.now from upto result text.new }
 {
     if !begins(r) {
         return None;
     }
+    let code = alphabet.code;
     let skip = place_in_byte(code.k, from);
     let mut row = [0u8; AT_ONCE];
     let laid = lay_out(code.k, piece, byte_of(code.k, from), &mut row);
@@ -195,7 +197,7 @@ fn pass(
     let mut far = (upto - from + skip).min(laid);
     // A while: how far back it goes comes from the symbols. A second turn only where a codeword is bad: those before it.
     while let Some(to) = last_end(s, &row, skip, far) {
-        match pass_all(code, sigma, places, &row, skip, to, text) {
+        match pass_all(alphabet, &row, skip, to, text) {
             Ok(characters) => {
                 return Some(Passed {
                     to: from - skip + to,
@@ -211,19 +213,17 @@ fn pass(
 // Whole codewords at once; or one symbol, of a codeword that began in an earlier piece, goes on into the next or is bad. The characters go to the text.
 // None where no codeword ends well from here on.
 pub fn read_stretch(
-    code: Code,
-    sigma: u32,
-    places: &[u8; 256],
+    alphabet: &Alphabet,
     r: Reader,
     piece: &[u8],
     at: usize,
     upto: usize,
     text: &mut [u8; AT_ONCE],
 ) -> Option<Stretch>
-    requires { Reads code sigma r piece.now at upto }
-    ensures { ReadStretch code sigma places.now r piece.now at upto result text.new }
+    requires { Reads alphabet.now.code.k r piece.now at upto }
+    ensures { let a = alphabet.now in ReadStretch a.code a.sigma a.places.now r piece.now at upto result text.new }
 {
-    if let Some(passed) = pass(code, sigma, places, r, piece, at, upto, text) {
+    if let Some(passed) = pass(alphabet, r, piece, at, upto, text) {
         return Some(Stretch {
             to: passed.to,
             reader: opening(),
@@ -231,9 +231,10 @@ pub fn read_stretch(
             characters: passed.characters,
         });
     }
-    match read_symbol(code, sigma, r, get(code.k, piece, at)) {
+    let code = alphabet.code;
+    match read_symbol(code, alphabet.sigma, r, get(code.k, piece, at)) {
         Step::Rank(rank) => {
-            text[0] = places[rank as usize];
+            text[0] = alphabet.places[rank as usize];
             Some(Stretch {
                 to: at + 1,
                 reader: opening(),

@@ -1,7 +1,7 @@
 -- A stretch of symbols read at once: whole codewords, by one number for the continuers of the open one, or a symbol.
-use Rattle.std.specs.Prelude.{◌≡◌, ◌⊎◌, Bool, true, false, cond, ◌&&◌, List, [], map, ℕ, ◌+◌, ◌-◌, ◌*◌, ◌^◌, ◌≤◌, ◌<◌, T, ltb, leb, length, take, drop, get_or, Option, Result, IfSome, IfNone, IfOk, IfErr, OnSome}
+use Rattle.std.specs.Prelude.{◌≡◌, ◌⊎◌, Bool, true, false, cond, ◌&&◌, List, [], map, ℕ, ◌+◌, ◌-◌, ◌*◌, ◌^◌, ◌≤◌, ◌<◌, ltb, leb, length, take, drop, get_or, Option, Result, IfSome, IfNone, IfOk, IfErr, OnSome}
 use Rattle.ground.specs.Paper.Runs.{run}
-use Rattle.stopper.specs.Paper.Table.{base, stoppers, good_code}
+use Rattle.stopper.specs.Paper.Table.{base, stoppers}
 use Rattle.stopper.specs.Helpers.State.{Small, opened}
 use Rattle.stopper.specs.declared.code.Code.{Code}
 use Rattle.stopper.specs.declared.reading.Reader.{Reader}
@@ -107,9 +107,7 @@ pub record LaidOut (k : ℕ) (piece : List ℕ) (first n : ℕ) (row : List ℕ)
   pub inside : first * per k + n ≤ length (symbols_of k piece)
   pub symbols : (i : ℕ) → i < n → get_or row i 0 ≡ get_or (symbols_of k piece) (first * per k + i) 0
 
-pub record Passes (c : Code) (σ : ℕ) (row : List ℕ) (from to : ℕ) : Type 0 where
-  pub code : T (good_code c)
-  pub sigma : σ ≤ 256
+pub record Passes (row : List ℕ) (from to : ℕ) : Type 0 where
   pub order : from < to
   pub near : to ≤ 256
   pub inside : to ≤ length row
@@ -130,12 +128,10 @@ pub record PassedSome (c : Code) (σ : ℕ) (places : List ℕ) (state : Reader)
   pub few : IfSome r (λ p. p.characters ≤ 256)
   pub whole : IfSome r (λ p. Through c σ places opened (run (symbols_of c.k piece) from p.to) (take p.characters text) opened true)
 
-pub record Reads (c : Code) (σ : ℕ) (r : Reader) (piece : List ℕ) (at upto : ℕ) : Type 0 where
-  pub code : T (good_code c)
-  pub sigma : σ ≤ 256
+pub record Reads (k : ℕ) (r : Reader) (piece : List ℕ) (at upto : ℕ) : Type 0 where
   pub small : Small r
   pub order : at < upto
-  pub inside : upto ≤ length (symbols_of c.k piece)
+  pub inside : upto ≤ length (symbols_of k piece)
   pub fits : upto < 2 ^ 32
 
 -- a stretch; none where no codeword ends well from here on

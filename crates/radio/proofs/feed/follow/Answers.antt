@@ -1,5 +1,5 @@
 -- `radio::feed::follow` meets its contract.
-use Rattle.std.proofs.Common.{◌≡◌, List, [], ℕ, ◌+◌, ◌-◌, ◌*◌, ◌%◌, ◌^◌, ◌≤◌, ◌<◌, min, cond, Option, Some, None, length, take, drop, refl, sym, ap, subst, ◌∙◌, ⊎_elim, rules, arith, one-mul, shl_exact, length-take-le}
+use Rattle.std.proofs.Common.{◌≡◌, List, [], ℕ, ◌+◌, ◌-◌, ◌*◌, ◌%◌, ◌^◌, ◌≤◌, ◌<◌, min, cond, Some, length, take, drop, refl, sym, ◌∙◌, ⊎_elim, rules, arith, one-mul, shl_exact, length-take-le}
 use Rattle.std.proofs.Math.Decide.{dec_lt}
 use Rattle.ground.specs.Paper.Rows.{zeros}
 use Rattle.ground.specs.Laws.Limit.{limit_fits}
@@ -14,19 +14,14 @@ use Rattle.judge.specs.declared.records.Progress.{Progress}
 use Rattle.stretches.specs.Helpers.Codewords.{bad_at, Reads, ReadStretch}
 use Rattle.stretches.specs.declared.codewords.Stretch.{Stretch}
 use Rattle.radio.specs.Paper.Operations.{code_in, pattern_in}
-use Rattle.radio.specs.Helpers.Masks.{masks_of}
-use Rattle.radio.specs.Helpers.Naming.{Masked, Names, NamedIn}
+use Rattle.radio.specs.Paper.Matching.{whole_bit}
+use Rattle.radio.specs.Helpers.Naming.{Names, NamedIn}
 use Rattle.radio.specs.Helpers.Following.{row, Follows, Along}
 use Rattle.radio.specs.Laws.Following.{progress_is, along_start, hits_few, along_on, along_silent, characters_length, went_none, along_went, silent_piece, silent_roll}
 use Rattle.radio.specs.declared.records.Searcher.{Searcher}
 use Rattle.radio.specs.declared.matching.Named.{Named}
 use Rattle.radio.proofs.feed.follow.Goals as goal
 use Rattle.radio.proofs.feed.follow.Goals.{then-on, else-on, then-p-ne0-via-then-p-ne0, then-p-ne0-via-else-p-ne0+then-left-eq0, else-loop-i-test, then-loop-i-test+in_default}
-
--- a stretch, the number of characters written otherwise
-at_sigma : (c : Code) (places : List ℕ) (r : Reader) (piece : List ℕ) (i upto : ℕ) (x : Option Stretch) (text : List ℕ) {a b : ℕ} → a ≡ b
-    → ReadStretch c a places r piece i upto x text → ReadStretch c b places r piece i upto x text
-at_sigma c places r piece i upto x text e = subst (λ (σ : ℕ). ReadStretch c σ places r piece i upto x text) e
 
 module _ (s : Searcher) (piece : List ℕ) {all : ℕ} (slice : List ℕ) (f : Follows s piece all slice) where
   abbrev code : Code
@@ -47,24 +42,17 @@ module _ (s : Searcher) (piece : List ℕ) {all : ℕ} (slice : List ℕ) (f : F
   h_fits : h < 2 ^ 32
   h_fits = omega (arith, f.ready.limited, limit_fits)
 
-  -- the pattern, and its masks
+  -- the pattern
   pattern_some : 0 < length (pattern_in s)
   pattern_some = pattern_least (pattern_in s) f.ready.pattern
 
-  module _ (long : length s.pattern ≡ 64) where
-    pattern_long : length (pattern_in s) ≡ s.length
-    pattern_long = length-take-le s.length s.pattern (omega (arith, f.ready.long))
+  whole_is : (1 * 2 ^ (length (pattern_in s) - 1)) % 2 ^ 64 ≡ whole_bit (pattern_in s)
+  whole_is =
+      let n : ℕ = length (pattern_in s) - 1 in
+      shl_exact 1 n 64 (omega arith) (omega (arith, pattern_most (pattern_in s) f.ready.pattern)) ∙ one-mul (2 ^ n)
 
-    masked : {masks : List ℕ} → masks ≡ masks_of (take s.length s.pattern) → Masked masks ((1 * 2 ^ (s.length - 1)) % 2 ^ 64) s.length (pattern_in s)
-    masked e =
-        let n = pattern_long in
-        let some = pattern_some in
-        record {
-          entries = e;
-          bit = shl_exact 1 (s.length - 1) 64 (omega arith) (omega (arith, f.ready.long)) ∙ one-mul (2 ^ (s.length - 1)) ∙ ap (λ (m : ℕ). 2 ^ (m - 1)) (sym n);
-          characters = sym n;
-          some = some;
-        }
+  pattern_long : length s.pattern ≡ 64 → s.length ≡ length (pattern_in s)
+  pattern_long long = sym (length-take-le s.length s.pattern (omega (arith, f.ready.long)))
 
   -- symbols up to the last of the roll, or of the piece
   module _ {upto : ℕ} (u : upto ≡ min (h - p.read) all) where
@@ -90,11 +78,9 @@ module _ (s : Searcher) (piece : List ℕ) {all : ℕ} (slice : List ℕ) (f : F
       in_roll : p.read + i < h
       in_roll = omega (arith, upto_roll)
 
-      reads : {a : ℕ} → a ≡ σ → Reads code a r piece i upto
-      reads e =
+      reads : Reads code.k r piece i upto
+      reads =
           record {
-            code = table_code _ f.ready.table;
-            sigma = rw e (table_few _ f.ready.table);
             small = z.small;
             order = here;
             inside = upto_piece;
@@ -117,28 +103,22 @@ module _ (s : Searcher) (piece : List ℕ) {all : ℕ} (slice : List ℕ) (f : F
         count_fits : count + on.characters < 2 ^ 32
         count_fits = omega (arith, z.counted, z.started, on_few, on_roll, h_fits)
 
-        names : {masks : List ℕ} {whole : ℕ} → Masked masks whole s.length (pattern_in s) → length after ≡ length slice → Names masks whole s.length text on.characters count ends after hits
-        names m same =
+        names : {whole : ℕ} → whole ≡ whole_bit (pattern_in s) → length after ≡ length slice → Names whole (take on.characters text) count (record { ends = ends; hits = hits }) after
+        names bit same =
+            let few = characters_length text on.characters x.long x.few in
             record {
-              pattern = pattern_in s;
-              masked = m;
-              most = pattern_most (pattern_in s) f.ready.pattern;
-              low = rw m.bit z.low;
+              low = rw bit z.low;
               ended = z.ended;
-              few = x.few;
-              inside = omega (arith, x.long, x.few);
-              fits = count_fits;
-              room = omega (arith, hits_few code σ places h p (pattern_in s) s.ends _ _ z, on_few, on_slice, same);
+              fits = omega (arith, few, count_fits);
+              room = omega (arith, few, hits_few code σ places h p (pattern_in s) s.ends _ _ z, on_few, on_slice, same);
             }
 
-      -- whatever pattern the masks are of
-      next : {on : Stretch} {text : List ℕ} → ReadStretch code σ places r piece i upto (Some on) text → (pattern : List ℕ)
-          → Along code σ places h p pattern s.ends (row s piece) slice after ends r count first hits i → {named : Named} {after' : List ℕ}
-          → NamedIn pattern (take on.characters text) count ends after hits named after' → {first' : ℕ} → first' ≡ cond on.ended (p.read + on.to) first
-          → Along code σ places h p pattern s.ends (row s piece) slice after' named.ends on.reader (count + on.characters) first' named.hits on.to
-      next {on} {text} x pattern y named e =
+      next : {on : Stretch} {text : List ℕ} → ReadStretch code σ places r piece i upto (Some on) text → {named : Named} {after' : List ℕ}
+          → NamedIn (pattern_in s) (take on.characters text) count ends after hits named after' → {first' : ℕ} → first' ≡ cond on.ended (p.read + on.to) first
+          → Along code σ places h p (pattern_in s) s.ends (row s piece) slice after' named.ends on.reader (count + on.characters) first' named.hits on.to
+      next {on} {text} x named e =
           rw (e, ← characters_length text on.characters x.long x.few)
-          (along_on code σ places h p pattern s.ends (row s piece) slice y in_roll (omega (arith, x.on)) (on_roll x) (omega (arith, x.within, upto_piece)) (on_slice x) x.through named)
+          (along_on code σ places h p (pattern_in s) s.ends (row s piece) slice z in_roll (omega (arith, x.on)) (on_roll x) (omega (arith, x.within, upto_piece)) (on_slice x) x.through named)
 
 pub returns-then-p-ne0 : goal.returns-then-p-ne0
 returns-then-p-ne0 c =
@@ -152,71 +132,60 @@ returns-then-p-ne0 c =
     (λ e. full_silent (code_in s) _ _ p w (omega arith))
     c.then-p-ne0.either))
 
+pub invariant_of-alphabet : goal.invariant_of-alphabet
+invariant_of-alphabet c =
+    let table = c.requires.ready.table in
+    record { good = table_code _ table; few = table_few _ table }
+
+pub slice_bounds-pattern-end : goal.slice_bounds-pattern-end
+slice_bounds-pattern-end c = pattern_long _ _ _ c.requires (search rules)
+
 pub mark_places-requires : goal.mark_places-requires
 unfolding zeros
-mark_places-requires c = (c.requires.ready.long, refl)
+mark_places-requires c = (pattern_most _ c.requires.ready.pattern, refl)
 
-pub overflow_sub-whole : goal.overflow_sub-whole
-overflow_sub-whole c =
-    let long : length c.args.searcher.pattern ≡ 64 = search rules in
-    omega (arith, pattern_some _ _ _ c.requires, pattern_long _ _ _ c.requires long)
+pub overflow_sub-matcher : goal.overflow_sub-matcher
+overflow_sub-matcher c = omega (arith, pattern_some _ _ _ c.requires)
+
+pub invariant_of-matcher : goal.invariant_of-matcher
+invariant_of-matcher c =
+    record { good = c.requires.ready.pattern; places = c.mark_places.ensures; bit = whole_is _ _ _ c.requires }
 
 pub loop-i-init : goal.loop-i-init
 loop-i-init c =
     let s = c.args.searcher in
-    let y = c.requires.ready in
-    let long : length s.pattern ≡ 64 = search rules in (
+    let y = c.requires.ready in (
       omega arith,
       refl,
-      λ pattern k.
-          rw c.reader_of-r.ensures
-          (along_start (code_in s) _ s.judge.roll.table.places s.judge.roll.h s.judge.progress pattern s.ends (row s c.args.piece.now) c.args.slice.now y.steady.small c.if-p-ne0.false y.going
-          y.steady.count y.steady.first (omega arith) (rw (sym k.bit ∙ (masked _ _ _ c.requires long c.mark_places.ensures).bit) y.ends) y.ended),
+      rw c.reader_of-r.ensures
+          (along_start (code_in s) _ s.judge.roll.table.places s.judge.roll.h s.judge.progress (pattern_in s) s.ends (row s c.args.piece.now) c.args.slice.now y.steady.small c.if-p-ne0.false y.going
+          y.steady.count y.steady.first (omega arith) y.ends y.ended),
     )
 
 pub read_stretch-requires : goal.read_stretch-requires
-read_stretch-requires c =
-    let s = c.args.searcher in
-    let long : length s.pattern ≡ 64 = search rules in
-    let m = masked _ _ _ c.requires long c.mark_places.ensures in
-    let z = c.loop-i.invariant.2 (pattern_in s) m in
-    reads _ _ _ c.requires c.min-upto.ensures c.loop-i-test.true z c.from.ensures
+read_stretch-requires c = reads _ _ _ c.requires c.min-upto.ensures c.loop-i-test.true c.loop-i.invariant.2
+
+pub slice_bounds-name_hits-end : goal.slice_bounds-name_hits-end
+slice_bounds-name_hits-end c = sym (characters_length c.read_stretch.new.text c.in-Some.on.characters c.in-Some.ensures.long c.in-Some.ensures.few)
 
 pub name_hits-named-requires : goal.name_hits-named-requires
-name_hits-named-requires c =
-    let s = c.args.searcher in
-    let long : length s.pattern ≡ 64 = search rules in
-    let m = masked _ _ _ c.requires long c.mark_places.ensures in
-    let z = c.loop-i.invariant.2 (pattern_in s) m in
-    let x = at_sigma (code_in s) s.judge.roll.table.places c.loop-i.r c.args.piece.now c.loop-i.i c.min-upto.result (Some c.in-Some.on) c.read_stretch.new.text c.from.ensures c.in-Some.ensures in
-    names _ _ _ c.requires c.min-upto.ensures c.loop-i-test.true z x m c.loop-i.auto.slice
+name_hits-named-requires c = names _ _ _ c.requires c.min-upto.ensures c.loop-i-test.true c.loop-i.invariant.2 c.in-Some.ensures (whole_is _ _ _ c.requires) c.loop-i.auto.slice
 
 pub overflow_add-count : goal.overflow_add-count
-overflow_add-count c =
-    let s = c.args.searcher in
-    let long : length s.pattern ≡ 64 = search rules in
-    let m = masked _ _ _ c.requires long c.mark_places.ensures in
-    let z = c.loop-i.invariant.2 (pattern_in s) m in
-    let x = at_sigma (code_in s) s.judge.roll.table.places c.loop-i.r c.args.piece.now c.loop-i.i c.min-upto.result (Some c.in-Some.on) c.read_stretch.new.text c.from.ensures c.in-Some.ensures in
-    omega (arith, count_fits _ _ _ c.requires c.min-upto.ensures c.loop-i-test.true z x)
+overflow_add-count c = omega (arith, count_fits _ _ _ c.requires c.min-upto.ensures c.loop-i-test.true c.loop-i.invariant.2 c.in-Some.ensures)
 
 pub loop-i-preserved : goal.loop-i-preserved
 loop-i-preserved c =
     let s = c.args.searcher in
-    let long : length s.pattern ≡ 64 = search rules in
-    let m = masked _ _ _ c.requires long c.mark_places.ensures in
-    let z = c.loop-i.invariant.2 (pattern_in s) m in
-    let x = at_sigma (code_in s) s.judge.roll.table.places c.loop-i.r c.args.piece.now c.loop-i.i c.min-upto.result (Some c.in-Some.on) c.read_stretch.new.text c.from.ensures c.in-Some.ensures in
+    let x = c.in-Some.ensures in
     let start : c.if-on.first ≡ cond c.in-Some.on.ended (s.judge.progress.read + c.in-Some.on.to) c.loop-i.first
     = elim c.if-on.branch [ then-on w ↦ rw w.if-on.true w.first-is | else-on w ↦ rw w.if-on.false w.first-is ] in
-    (x.within, x.long, λ pattern k. next _ _ _ c.requires c.min-upto.ensures c.loop-i-test.true z x pattern (c.loop-i.invariant.2 pattern k) (c.name_hits-named.ensures.named pattern k) start)
+    (x.within, x.long, next _ _ _ c.requires c.min-upto.ensures c.loop-i-test.true c.loop-i.invariant.2 x c.name_hits-named.ensures start)
 
 pub returns : goal.returns
 returns c =
     let s = c.args.searcher in
-    let long : length s.pattern ≡ 64 = search rules in
-    let m = masked _ _ _ c.requires long c.mark_places.ensures in
-    let z = c.loop-i.invariant.2 (pattern_in s) m in
+    let z = c.loop-i.invariant.2 in
     let a = c.args in
     let none : ranks_heard (code_in s) s.judge.roll.table.sigma s.judge.roll.h
     (progress (s.judge.progress.read + c.loop-i.i) c.loop-i.count c.loop-i.first c.loop-i.r (bad_at s.judge.roll.h (s.judge.progress.read + c.loop-i.i) c.loop-i.first) s.judge.progress.stained)
@@ -224,9 +193,9 @@ returns c =
     = elim c.loop-i-test.branch [
       | else-loop-i-test w ↦ at_end _ _ _ c.requires c.min-upto.ensures w.loop-i-test.false z
       | then-loop-i-test+in_default w ↦
-          let x = at_sigma (code_in s) s.judge.roll.table.places c.loop-i.r a.piece.now c.loop-i.i c.min-upto.result None w.read_stretch.new.text w.from.ensures w.in_default.ensures in
+          let x = w.in_default.ensures in
           along_silent (code_in s) _ s.judge.roll.table.places s.judge.roll.h s.judge.progress (pattern_in s) s.ends (row s a.piece.now) a.slice.now z
           (in_roll _ _ _ c.requires c.min-upto.ensures w.loop-i-test.true z) x.silent
     ] in
     along_went s a.piece.now a.slice.now z none
-    (progress_is (s.judge.progress.read + c.loop-i.i) c.loop-i.count c.loop-i.first c.loop-i.r s.judge.progress.stained z.going (search (rules, c.from-2.ensures)))
+    (progress_is (s.judge.progress.read + c.loop-i.i) c.loop-i.count c.loop-i.first c.loop-i.r s.judge.progress.stained z.going (search (rules, c.from.ensures)))
