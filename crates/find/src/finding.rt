@@ -42,19 +42,6 @@ pub fn spell_pattern(
     Some(p)
 }
 
-// Whether the symbols stand at symbol p of the first h.
-fn stand_at(code: Code, buf: &[u8], h: usize, symbols: &[u8], p: usize) -> bool
-    requires { (Width code.k) × (p ≤ h) × (h ≤ length (symbols_of code.k buf.now)) }
-    ensures { result ≡ stands symbols.now (drop p (row_upto code h buf.now)) }
-{
-    for (j, symbol) in symbols.iter().enumerate() {
-        if p + j == h || get(code.k, buf, p + j) != *symbol {
-            return false;
-        }
-    }
-    true
-}
-
 // From codeword to codeword: the total of those at whose start the symbols stand; the first of them are listed as far as the slice goes.
 pub fn list_hits(roll: Roll, buf: &[u8], symbols: &[u8], slice: &mut [u32]) -> u32
     requires { Sound roll buf.now }
@@ -62,10 +49,19 @@ pub fn list_hits(roll: Roll, buf: &[u8], symbols: &[u8], slice: &mut [u32]) -> u
     ensures list { slice.new ≡ listed (word_hits roll buf.now symbols.now) slice.old }
 {
     let code = roll.table.code;
+    let h = roll.h as usize;
     let mut total: u32 = 0;
     let mut p: usize = 0;
     for i in 0..roll.n {
-        if stand_at(code, buf, roll.h as usize, symbols, p) {
+        let same = 'symbols: {
+            for (j, symbol) in symbols.iter().enumerate() {
+                if p + j == h || get(code.k, buf, p + j) != *symbol {
+                    break 'symbols false;
+                }
+            }
+            true
+        };
+        if same {
             if (total as usize) < slice.len() {
                 slice[total as usize] = i;
             }

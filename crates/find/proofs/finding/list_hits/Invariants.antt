@@ -1,7 +1,8 @@
-use Rattle.std.proofs.Common.{◌≡◌, ℕ, ◌≤◌, List, length}
+use Rattle.std.proofs.Common.{◌≡◌, ℕ, ◌+◌, ◌≤◌, List, length, drop}
 use Rattle.stopper.specs.declared.code.Code.{Code}
-use Rattle.texts.specs.Paper.Hits.{listed}
+use Rattle.texts.specs.Paper.Hits.{stands, listed}
 use Rattle.texts.specs.Helpers.Passing.{passing}
+use Rattle.reading.specs.Paper.Reading.{row_upto}
 use Rattle.sound.specs.Helpers.Ends.{end_from}
 use Rattle.find.specs.Helpers.Finding.{stands_behind}
 use Rattle.find.proofs.finding.list_hits.Given as goal
@@ -18,4 +19,9 @@ pub record Before (code : Code) (buf : List ℕ) (h : ℕ) (symbols old : List �
   pub list : slice ≡ listed (found code buf h symbols i) old
 
 abbrev pub invariant-loop-i : goal.invariant-loop-i
-invariant-loop-i l = Before l.roll.table.code l.buf l.roll.h l.symbols l.initial.slice l.i l.p l.total l.slice
+invariant-loop-i l = Before l.code l.buf l.h l.symbols l.initial.slice l.i l.p l.total l.slice
+
+-- the symbols below j stand there, so all do exactly if the rest do
+abbrev pub invariant-loop-j : goal.invariant-loop-j
+invariant-loop-j l =
+    (l.p + l.j ≤ l.h) × (stands l.symbols (drop l.p (row_upto l.code l.h l.buf)) ≡ stands (drop l.j l.symbols) (drop (l.p + l.j) (row_upto l.code l.h l.buf)))
