@@ -1,125 +1,68 @@
--- `frames::read_frames::check_lines` meets its contract: the lines before place p are right, and what is said of the others is said of all.
-use mathlib.Core.Path.{◌≡◌, refl, sym, ap, ◌∙◌}
-use mathlib.Core.Logic.{◌≢◌}
-use mathlib.Core.Bool.{false}
-use Prim.Native.Nat.{ℕ, suc, ◌+◌, ◌-◌, ◌*◌, ◌≤◌}
-use native.Mathlib.Omega.{arith}
-use borrow.Author.Tests.{eq-eqb, ne_eqb}
-use lib.ListN.{length, take, drop, length-drop}
-use Rattle.ground.specs.Paper.Refusals.{refused}
+-- `frames::read_frames::check_lines` meets its contract: the lines passed are right, and what is said of the others is said of all.
+use Rattle.std.proofs.Common.{◌≡◌, refl, sym, ◌∙◌, true, false, eqb, List, ℕ, suc, ◌+◌, ◌-◌, ◌*◌, ◌≤◌, ◌<◌, length, take, drop, length-drop, take_all, le_of_eq, arith}
+use Rattle.ground.specs.Paper.Refusals.{refused, accepted}
 use Rattle.ground.specs.Laws.Tests.{true_yes}
 use Rattle.frames.specs.Paper.Frames.{later_for, bytes_next, line_of, is_later, right_line, right_before}
 use Rattle.frames.specs.Paper.Operations.{lines_say}
-use Rattle.frames.specs.Laws.Later.{long_next, next_some, right_short, right_is, all_none, before_none, before_wrong, all_wrong, all_next, before_next}
+use Rattle.frames.specs.Laws.Later.{right_short, right_is, all_none, before_none, before_wrong, all_wrong, all_next, before_next}
 use Rattle.frames.specs.Laws.Operations.{lines_15, lines_yes}
+use Rattle.frames.proofs.read_frames.check_lines.Invariants.{Passed}
 use Rattle.frames.proofs.read_frames.check_lines.Goals as goal
-use Rattle.frames.proofs.read_frames.check_lines.Lts as Places
-use Rattle.frames.proofs.read_frames.check_lines.Reads as Clauses
-use Rattle.frames.proofs.read_frames.check_lines.Tie as tie
+use Rattle.frames.proofs.read_frames.check_lines.Goals.{then-rest-long-via-then-rest-long, then-rest-long-via-else-rest-long+then-not-is_later}
 
--- what is known at these places
-abbrev After-bytes_next-next : Type 0
-After-bytes_next-next = Places.After-bytes_next tie.the-claims Clauses.Pre Clauses.Post goal.the-invariant-loop-left goal.the-decreases-loop-left
+module _ {rest text : List ℕ} {bytes left number : ℕ} (i : Passed rest bytes text left number) where
+  -- no bytes are left
+  too_many : left ≡ 0 → eqb (length text) 0 ≡ false → refused 15 number ≡ lines_say bytes rest
+  too_many e more = sym (lines_15 bytes rest (i.all ∙ rw e (all_none text ∙ more)) (i.before ∙ rw e (omega (arith, before_none text))))
 
-abbrev After-is_later : Type 0
-After-is_later = Places.After-is_later tie.the-claims Clauses.Pre Clauses.Post goal.the-invariant-loop-left goal.the-decreases-loop-left
+  over : left ≡ 0 → eqb (length text) 0 ≡ true → accepted tt ≡ lines_say bytes rest
+  over e none = sym (lines_yes bytes rest (i.all ∙ rw e (all_none text ∙ none)))
+
+  -- some are: the next line
+  module _ (h : 0 < left) where
+    wrong : right_line left (line_of text) ≡ false → refused 15 number ≡ lines_say bytes rest
+    wrong e = let z = before_wrong left text h e in sym (lines_15 bytes rest (i.all ∙ all_wrong text left 0 h e) (i.before ∙ omega arith))
+
+    module _ {next : ℕ} (n : next ≡ bytes_next left) where
+      short : length text < 2 * next + 3 → refused 15 number ≡ lines_say bytes rest
+      short l = wrong (right_short left text (rw n at l))
+
+      module _ (l : 2 * next + 3 ≤ length text) where
+        other : is_later (take (2 * next + 3) text) ≡ false → refused 15 number ≡ lines_say bytes rest
+        other e = wrong (right_is left text (rw n at l) ∙ rw n at e)
+
+        passed : is_later (take (2 * next + 3) text) ≡ true → Passed rest bytes (take (length text - (2 * next + 3)) (drop (2 * next + 3) text)) (left - next) (number + 1)
+        passed e =
+            let t = true_yes _ (rw n at e) in
+            let k = rw n at l in
+            let o : 0 + (2 * bytes_next left + 3) ≡ 2 * bytes_next left + 3 = omega arith in
+            let all = i.all ∙ rw o at (all_next text left 0 h k t) in
+            let z = rw o at (before_next text left 0 h k t) in
+            let before : suc (right_before (later_for bytes) bytes rest) ≡ number + 1 + right_before (later_for (left - bytes_next left)) (left - bytes_next left) (drop (2 * bytes_next left + 3) text) = omega (arith, i.before, z) in
+            rw (take_all (length text - (2 * next + 3)) (drop (2 * next + 3) text) (le_of_eq (length-drop (2 * next + 3) text)))
+            (record { inside = omega (arith, i.inside, l, length-drop (2 * next + 3) text); all = rw n all; before = rw n before })
 
 pub loop-left-init : goal.loop-left-init
-loop-left-init c = (omega arith, omega arith, refl, omega arith)
+loop-left-init c = record { inside = omega arith; all = refl; before = omega arith }
 
--- the next line takes some of the bytes that are left
-some : (b : After-bytes_next-next) → let next = b.bytes_next-next.result in (1 ≤ next) × (next ≤ 32) × (next ≤ b.loop-left.left)
-some b = let (x, y, z, w) = next_some b.loop-left.left b.loop-left-test.true in let e = b.bytes_next-next.ensures in (omega arith, omega arith, omega arith)
-
--- a wrong line: what is said of it is said of all
-wrong : (b : After-bytes_next-next) → let a = b.args in
-    right_line b.loop-left.left (line_of (drop b.loop-left.p a.rest.now)) ≡ false → lines_say a.bytes a.rest.now ≡ refused 15 b.loop-left.number
-wrong b e =
-    let a = b.args in
-    let h = b.loop-left-test.true in
-    let z = before_wrong b.loop-left.left (drop b.loop-left.p a.rest.now) h e in
-    lines_15 a.bytes a.rest.now (b.loop-left.invariant.2 ∙ all_wrong a.rest.now b.loop-left.left b.loop-left.p h e) (b.loop-left.invariant.3 ∙ omega arith)
-
-pub returns-then-rest-p : goal.returns-then-rest-p
-returns-then-rest-p c =
-    let rest = c.args.rest.now in
-    let e = c.bytes_next-next.ensures in
-    sym (wrong c.before.before (right_short c.loop-left.left (drop c.loop-left.p rest) (omega (arith, length-drop c.loop-left.p rest, c.if-rest-p.true))))
-
-pub overflow_add-p : goal.overflow_add-p
-overflow_add-p c = omega (arith, some c.before.before)
-
-pub slice_bounds-is_later-end : goal.slice_bounds-is_later-end
-slice_bounds-is_later-end c = omega (arith, some c.before.before, c.if-rest-p.false)
-
--- the line that was asked
-line_is : (c : After-is_later) → let rest = c.args.rest.now in
-    (long_next c.loop-left.left ≤ length (drop c.loop-left.p rest)) × (c.is_later.result ≡ is_later (take (long_next c.loop-left.left) (drop c.loop-left.p rest)))
-line_is c =
-    let rest = c.args.rest.now in
+pub returns-then-rest-long : goal.returns-then-rest-long
+returns-then-rest-long c =
+    let i = c.loop-left.invariant in
+    let h = c.loop-left-test.true in
     let n = c.bytes_next-next.ensures in
-    let d : c.loop-left.p + (2 * c.bytes_next-next.result + 3) - c.loop-left.p ≡ long_next c.loop-left.left = omega arith in
-    (omega (arith, length-drop c.loop-left.p rest, c.if-rest-p.false), c.is_later.ensures ∙ ap (λ (n : ℕ). is_later (take n (drop c.loop-left.p rest))) d)
-
-pub returns-then-not-is_later : goal.returns-then-not-is_later
-returns-then-not-is_later c =
-    let rest = c.args.rest.now in
-    let (h, e) = line_is c.before.before in
-    sym (wrong c.before.before.before.before.before (right_is c.loop-left.left (drop c.loop-left.p rest) h ∙ sym e ∙ c.if-not-is_later.true))
-
-pub overflow_add-p-in-loop-left : goal.overflow_add-p-in-loop-left
-overflow_add-p-in-loop-left c = omega (arith, some c.before.before.before.before.before, c.if-rest-p.false)
-
-pub overflow_sub-left : goal.overflow_sub-left
-overflow_sub-left c = (some c.before.before.before.before.before).2
+    elim c.then-rest-long.branch [
+      | then-rest-long-via-then-rest-long w ↦ short i h n w.if-rest-long.true
+      | then-rest-long-via-else-rest-long+then-not-is_later w ↦ other i h n w.if-rest-long.false (sym w.is_later.ensures ∙ w.if-not-is_later.true)
+    ]
 
 pub overflow_add-number : goal.overflow_add-number
-overflow_add-number c = omega (arith, some c.before.before.before.before.before, c.if-rest-p.false)
-
-pub loop-left-smaller : goal.loop-left-smaller
-loop-left-smaller c = omega (arith, some c.before.before.before.before.before)
+overflow_add-number c = omega (arith, c.loop-left.invariant.inside, c.if-rest-long.false)
 
 pub loop-left-preserved : goal.loop-left-preserved
-loop-left-preserved c =
-    let rest = c.args.rest.now in
-    let p = c.loop-left.p in
-    let left = c.loop-left.left in
-    let next = c.bytes_next-next.result in
-    let n : bytes_next left ≡ next = sym c.bytes_next-next.ensures in
-    let (h, e) = line_is c.before.before in
-    let t = true_yes _ (sym e ∙ c.if-not-is_later.false) in
-    let z = c.loop-left-test.true in
-    let m : suc (right_before (later_for (left - bytes_next left)) (left - bytes_next left) (drop (p + long_next left) rest)) ≡ right_before (later_for left) left (drop p rest) = sym (before_next rest left p z h t) in (
-      omega (arith, length-drop p rest, some c.before.before.before.before.before, c.if-rest-p.false),
-      omega arith,
-      c.loop-left.invariant.2 ∙ all_next rest left p z h t ∙ rw n,
-      omega (arith, c.loop-left.invariant.3, rw n at m),
-    )
+loop-left-preserved c = passed c.loop-left.invariant c.loop-left-test.true c.bytes_next-next.ensures c.if-rest-long.false (sym c.is_later.ensures ∙ c.if-not-is_later.false)
 
-pub returns-then-p-rest : goal.returns-then-p-rest
-returns-then-p-rest c =
-    let a = c.args in
-    let none : c.loop-left.left ≡ 0 = omega (arith, c.loop-left-test.false) in
-    let more : length (drop c.loop-left.p a.rest.now) ≢ 0 = λ e. omega (arith, length-drop c.loop-left.p a.rest.now, c.if-p-rest.true) in
-    sym (lines_15 a.bytes a.rest.now
-    (c.loop-left.invariant.2 ∙ rw none (all_none (drop c.loop-left.p a.rest.now) ∙ ne_eqb _ _ more))
-    (c.loop-left.invariant.3 ∙ rw none (omega (arith, before_none (drop c.loop-left.p a.rest.now)))))
+pub returns-then-not-is_empty : goal.returns-then-not-is_empty
+returns-then-not-is_empty c = too_many c.loop-left.invariant (omega (arith, c.loop-left-test.false)) (sym c.is_empty.ensures ∙ c.if-not-is_empty.true)
 
 pub returns : goal.returns
-returns c =
-    let a = c.args in
-    let none : c.loop-left.left ≡ 0 = omega (arith, c.loop-left-test.false) in
-    let all : length (drop c.loop-left.p a.rest.now) ≡ 0 = omega (arith, length-drop c.loop-left.p a.rest.now, c.if-p-rest.false) in
-    sym (lines_yes a.bytes a.rest.now (c.loop-left.invariant.2 ∙ rw none (all_none (drop c.loop-left.p a.rest.now) ∙ eq-eqb _ _ all)))
-
-pub bytes_next-next-requires : goal.bytes_next-next-requires
-bytes_next-next-requires c = tt
-
-pub overflow_mul-long : goal.overflow_mul-long
-overflow_mul-long c = omega (arith, some c.before)
-
-pub overflow_add-long : goal.overflow_add-long
-overflow_add-long c = omega (arith, some c.before)
-
-pub is_later-requires : goal.is_later-requires
-is_later-requires c = tt
+returns c = over c.loop-left.invariant (omega (arith, c.loop-left-test.false)) (sym c.is_empty.ensures ∙ c.if-not-is_empty.false)

@@ -1,137 +1,101 @@
--- `frames::read_frames::judge_lines` meets its contract: the judge heard the lines before place p, and the others it has still to hear.
-use mathlib.Core.Path.{◌≡◌, refl, sym, ap, subst, ◌∙◌}
-use mathlib.Core.List.{List, ◌++◌}
-use Prim.Native.Nat.{ℕ, ◌+◌, ◌-◌, ◌*◌, ◌≤◌}
+-- `frames::read_frames::judge_lines` meets its contract: the judge heard the lines that have come, and the others it has still to hear.
+use Rattle.std.proofs.Common.{◌≡◌, refl, sym, ap, subst, ◌∙◌, List, ◌++◌, ℕ, ◌+◌, ◌-◌, ◌*◌, ◌≤◌, T, length, take, drop, length-append, length-drop, length-take-le, arith}
+use Rattle.std.proofs.Math.Seq.{take_at}
+use Rattle.std.specs.Slice.Iter.{chunks_rest, chunks_size}
 use native.Mathlib.Nat.{mul-le-mul}
-use native.Mathlib.Omega.{arith}
-use lib.Dec.{T}
-use lib.ListN.{length, take, drop, length-append, length-drop}
-use lib.Seq.{length-take-le, take_at}
 use Rattle.stopper.specs.Paper.Table.{good_table}
 use Rattle.stopper.specs.Laws.Table.{code_width, table_code}
 use Rattle.symbols.specs.Paper.Symbols.{per}
 use Rattle.symbols.specs.Laws.Width.{per_few}
 use Rattle.sound.specs.declared.records.Roll.{Roll}
 use Rattle.judge.specs.Paper.Judge.{judge_after, verdict_says}
+use Rattle.judge.specs.Helpers.Steady.{Steady, Judges}
 use Rattle.judge.specs.Laws.Judged.{judge_append, judge_none, judge_roll, judge_begins, judge_steady}
 use Rattle.judge.specs.declared.records.Judge.{Judge}
-use Rattle.frames.specs.Paper.Frames.{most_bytes, packed_in}
-use Rattle.frames.specs.Laws.Later.{packed_none, Next, next_line}
+use Rattle.frames.specs.Paper.Frames.{later_for, bytes_used, most_bytes, packed_in, packed_from}
+use Rattle.frames.specs.Paper.Operations.{packed_after}
+use Rattle.frames.specs.Laws.Later.{packed_none, over_bytes, Cut, cut_chunk}
 use Rattle.frames.proofs.read_frames.judge_lines.Goals as goal
-use Rattle.frames.proofs.read_frames.judge_lines.Lts as Places
-use Rattle.frames.proofs.read_frames.judge_lines.Reads as Clauses
-use Rattle.frames.proofs.read_frames.judge_lines.Tie as tie
 
--- what is known at these places
-abbrev At-loop-left : Type 0
-At-loop-left = Places.At-loop tie.the-claims Clauses.Pre Clauses.Post goal.the-invariant-loop-left goal.the-decreases-loop-left
+-- a line's bytes, at the front of the piece
+module _ (piece : List ℕ) {bytes out : List ℕ} {many : ℕ} (o : out ≡ bytes) (n : many ≡ length bytes) where
+  front : take many (out ++ drop many piece) ≡ bytes
+  front = take_at out (drop many piece) many (ap length o ∙ sym n) ∙ o
 
-abbrev After-bytes_next-next : Type 0
-After-bytes_next-next = Places.After-bytes_next tie.the-claims Clauses.Pre Clauses.Post goal.the-invariant-loop-left goal.the-decreases-loop-left
+  whole : many ≤ most_bytes → length piece ≡ most_bytes → length (out ++ drop many piece) ≡ most_bytes
+  whole few e = omega (arith, length-append out (drop many piece), length-drop many piece, ap length o)
 
-abbrev After-take_packed : Type 0
-After-take_packed = Places.After-take_packed tie.the-claims Clauses.Pre Clauses.Post goal.the-invariant-loop-left goal.the-decreases-loop-left
+-- the judge keeps its roll
+table : (j : Judge) {roll : Roll} → T (good_table roll.table) → j.roll ≡ roll → T (good_table j.roll.table)
+table j t e = subst (λ (r : Roll). T (good_table r.table)) (sym e) t
 
--- the judge's table is good from the first line to the last
-table : (l : At-loop-left) → T (good_table l.loop-left.judge.roll.table)
-table l =
-    subst (λ (r : Roll). T (good_table r.table)) (sym (l.loop-left.invariant.3 ∙ ap (λ (q : Judge). q.roll) l.judge_of-judge.ensures)) l.requires.0
+judges : (j : Judge) {piece : List ℕ} → T (good_table j.roll.table) → Steady j.roll.h j.progress → length piece ≤ most_bytes → Judges j piece
+judges j t s few =
+    let four : per j.roll.table.code.k ≤ 4 = per_few (code_width _ (table_code _ t)) in
+    record { fits = omega (arith, mul-le-mul few four); table = t; steady = s }
 
--- the line in hand
-abbrev line : (b : After-bytes_next-next) → List ℕ
-line b =
-    let p = b.loop-left.p in
-    take (p + 2 * b.bytes_next-next.result + 3 - p) (drop p b.args.rest.now)
+pub loop-line-init : goal.loop-line-init
+unfolding packed_after
+loop-line-init c =
+    let a = c.args in
+    let it = c.into_iter-line-iterator.ensures.into_iter_gives in
+    let rest : chunks_rest c.into_iter-line-iterator.result ≡ a.rest.now = ap chunks_rest it ∙ c.chunks-line-items.ensures.rest in
+    let size : chunks_size c.into_iter-line-iterator.result ≡ 2 * most_bytes + 3 = ap chunks_size it ∙ c.chunks-line-items.ensures.size in (
+      omega arith,
+      tt,
+      size,
+      refl,
+      ap (λ (j : Judge). j.roll) c.judge_of-judge.ensures,
+      rw c.judge_of-judge.ensures (judge_begins a.roll),
+      record { bytes = bytes_used a.roll; right = rw rest c.requires.1; heard = rw rest refl },
+    )
 
-here : (b : After-bytes_next-next) → Next b.args.rest.now b.loop-left.left b.loop-left.p b.bytes_next-next.result (line b)
-here b =
-    next_line b.args.rest.now b.loop-left.left b.loop-left.p b.bytes_next-next.result b.loop-left-test.true b.loop-left.invariant.0 b.loop-left.invariant.2 b.bytes_next-next.ensures
-
-pub loop-left-init : goal.loop-left-init
-loop-left-init c =
-    (omega arith, refl, c.requires.1, refl, rw c.judge_of-judge.ensures (judge_begins c.args.roll), refl)
+pub bytes_of-many-requires : goal.bytes_of-many-requires
+bytes_of-many-requires c = let i = c.loop-line.invariant in (cut_chunk i.2 i.6.right c.in-Some.ensures.steps.1).later
 
 pub take_packed-requires : goal.take_packed-requires
 take_packed-requires c =
-    let n = here c.before.before.before in
-    (n.later, length-take-le _ c.loop-left.piece (omega (arith, n.few, c.loop-left.invariant.1)) ∙ sym n.size)
-
--- its bytes, at the front of the piece
-size : (u : After-take_packed) → length u.take_packed.new.out ≡ u.bytes_next-next.result
-size u = ap length u.take_packed.ensures ∙ (here u.before.before.before).size
-
-front : (u : After-take_packed) → take u.bytes_next-next.result (u.take_packed.new.out ++ drop u.bytes_next-next.result u.loop-left.piece) ≡ packed_in (line u.before.before.before)
-front u = take_at u.take_packed.new.out _ _ (size u) ∙ u.take_packed.ensures
-
-whole : (u : After-take_packed) → length (u.take_packed.new.out ++ drop u.bytes_next-next.result u.loop-left.piece) ≡ most_bytes
-whole u =
-    let piece = u.loop-left.piece in
-    omega (arith, length-append u.take_packed.new.out (drop u.bytes_next-next.result piece), length-drop u.bytes_next-next.result piece, size u, (here u.before.before.before).few, u.loop-left.invariant.1)
+    let i = c.loop-line.invariant in
+    let n = c.bytes_of-many.ensures in
+    ((cut_chunk i.2 i.6.right c.in-Some.ensures.steps.1).later, length-take-le _ c.loop-line.piece (omega (arith, n.few, i.3)) ∙ n.many)
 
 pub judge_piece-judge-requires : goal.judge_piece-judge-requires
 judge_piece-judge-requires c =
-    let n = here c.before.before.before.before.before.before in
-    let few : per c.loop-left.judge.roll.table.code.k ≤ 4 = per_few (code_width _ (table_code _ (table c.before.before.before.before.before.before.before.before))) in
-    record {
-      fits = rw (front c.before.before.before, n.size) (omega (arith, n.few, mul-le-mul n.few few));
-      table = table c.before.before.before.before.before.before.before.before;
-      steady = c.loop-left.invariant.4;
-    }
+    let i = c.loop-line.invariant in
+    let n = c.bytes_of-many.ensures in
+    let f = front c.loop-line.piece c.take_packed.ensures n.many in
+    judges c.loop-line.judge (table c.loop-line.judge c.requires.0 i.4) i.5 (omega (arith, ap length f, n.many, n.few))
 
-pub loop-left-preserved : goal.loop-left-preserved
-loop-left-preserved c =
-    let n = here c.before.before.before.before.before.before.before in
-    let j = c.loop-left.judge in
-    let heard : c.judge_piece-judge.result ≡ judge_after j (packed_in (line c.before.before.before.before.before.before.before)) = c.judge_piece-judge.ensures ∙ ap (judge_after j) (front c.before.before.before.before) in (
-      n.inside,
-      whole c.before.before.before.before,
-      n.all,
-      ap (λ (q : Judge). q.roll) heard ∙ judge_roll j (packed_in (line c.before.before.before.before.before.before.before)) ∙ c.loop-left.invariant.3,
-      rw (heard, judge_roll) (judge_steady j (table c.before.before.before.before.before.before.before.before.before) c.loop-left.invariant.4 (packed_in (line c.before.before.before.before.before.before.before))),
-      c.loop-left.invariant.5 ∙ rw (n.packed, heard) (judge_append j (table_code j.roll.table (table c.before.before.before.before.before.before.before.before.before)) (packed_in (line c.before.before.before.before.before.before.before)) _),
+pub loop-line-preserved : goal.loop-line-preserved
+loop-line-preserved c =
+    let i = c.loop-line.invariant in
+    let n = c.bytes_of-many.ensures in
+    let j = c.loop-line.judge in
+    let xs = packed_in c.in-Some.line.now in
+    let left = i.6.bytes in
+    let cut : Cut left (chunks_rest c.loop-line.line-iterator) c.in-Some.line.now (chunks_rest c.next.new.self) = cut_chunk i.2 i.6.right c.in-Some.ensures.steps.1 in
+    let size : chunks_size c.next.new.self ≡ 2 * most_bytes + 3 = c.in-Some.ensures.steps.0 ∙ i.2 in
+    let t = table j c.requires.0 i.4 in
+    let heard : c.judge_piece-judge.result ≡ judge_after j xs = c.judge_piece-judge.ensures ∙ ap (judge_after j) (front c.loop-line.piece c.take_packed.ensures n.many) in (
+      omega arith,
+      tt,
+      size,
+      whole c.loop-line.piece c.take_packed.ensures n.many n.few i.3,
+      ap (λ (q : Judge). q.roll) heard ∙ judge_roll j xs ∙ i.4,
+      rw (heard, judge_roll) (judge_steady j t i.5 xs),
+      record {
+        bytes = left - length xs;
+        right = cut.all;
+        heard = i.6.heard ∙ rw (cut.packed, heard) (judge_append j (table_code j.roll.table t) xs _);
+      },
     )
 
 pub returns : goal.returns
 returns c =
-    let none : c.loop-left.left ≡ 0 = omega (arith, c.loop-left-test.false) in
+    let i = c.loop-line.invariant in
+    let j = c.loop-line.judge in
+    let others = chunks_rest c.loop-line.line-iterator in
+    let none : i.6.bytes ≡ 0 = over_bytes _ others i.6.right c.in-None.ensures.steps.1.0 in
+    let all : judge_after j (packed_from (later_for i.6.bytes) others) ≡ j = ap (λ (n : ℕ). judge_after j (packed_from (later_for n) others)) none ∙ ap (judge_after j) (packed_none others) ∙ judge_none j in
     c.verdict.ensures.says
-    ∙ ap verdict_says (sym (rw c.judge_of-judge.ensures at c.loop-left.invariant.5 ∙ rw (none, packed_none) (judge_none c.loop-left.judge)))
-
-pub judge_of-judge-requires : goal.judge_of-judge-requires
-judge_of-judge-requires c = tt
-
-pub bytes_next-next-requires : goal.bytes_next-next-requires
-bytes_next-next-requires c = tt
-
-pub overflow_mul-to : goal.overflow_mul-to
-overflow_mul-to c = omega (arith, (here c.before).inside)
-
-pub overflow_add-to : goal.overflow_add-to
-overflow_add-to c = omega (arith, (here c.before).inside)
-
-pub overflow_add-to-in-loop-left : goal.overflow_add-to-in-loop-left
-overflow_add-to-in-loop-left c = omega (arith, (here c.before).inside)
-
-pub slice_bounds-take_packed-end : goal.slice_bounds-take_packed-end
-slice_bounds-take_packed-end c = omega (arith, (here c.before).inside)
-
-pub slice_bounds-piece-end : goal.slice_bounds-piece-end
-slice_bounds-piece-end c = omega (arith, (here c.before.before).few, c.loop-left.invariant.1)
-
-pub slice_bounds-take_packed-end-in-loop-left : goal.slice_bounds-take_packed-end-in-loop-left
-slice_bounds-take_packed-end-in-loop-left c = sym (length-take-le _ c.loop-left.piece (omega (arith, (here c.before.before.before).few, c.loop-left.invariant.1)))
-
-pub slice_bounds-piece-end-in-loop-left : goal.slice_bounds-piece-end-in-loop-left
-slice_bounds-piece-end-in-loop-left c = omega (arith, whole c.before.before, (here c.before.before.before.before.before).few)
-
-pub slice_bounds-judge_piece-end : goal.slice_bounds-judge_piece-end
-slice_bounds-judge_piece-end c = sym (ap length (front c.before.before.before) ∙ (here c.before.before.before.before.before.before).size)
-
-pub overflow_sub-left : goal.overflow_sub-left
-overflow_sub-left c = (here c.before.before.before.before.before.before.before).upto
-
-pub loop-left-smaller : goal.loop-left-smaller
-loop-left-smaller c = omega (arith, (here c.before.before.before.before.before.before.before).some, (here c.before.before.before.before.before.before.before).upto)
-
-pub verdict-requires : goal.verdict-requires
-verdict-requires c = tt
+    ∙ ap verdict_says (sym (ap (λ (q : Judge). judge_after q (packed_after c.args.roll c.args.rest.now)) (sym c.judge_of-judge.ensures) ∙ i.6.heard ∙ all))

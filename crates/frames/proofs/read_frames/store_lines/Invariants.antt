@@ -1,18 +1,15 @@
-use mathlib.Core.Path.{◌≡◌}
-use Prim.Native.Nat.{◌-◌, ◌≤◌}
-use lib.Dec.{T}
-use lib.ListN.{length, drop}
+use Rattle.std.proofs.Common.{◌≡◌, ◌+◌, ◌-◌, ◌*◌, ◌≤◌, T, length}
+use Rattle.std.specs.Slice.Iter.{chunks_rest, chunks_size}
 use Rattle.writing.specs.Laws.Written.{Going}
-use Rattle.frames.specs.Paper.Frames.{later_for, all_right, packed_from}
+use Rattle.frames.specs.Paper.Frames.{later_for, most_bytes, all_right, packed_from}
 use Rattle.frames.proofs.read_frames.store_lines.Given as goal
 
-abbrev pub invariant-loop-at : goal.invariant-loop-at
-invariant-loop-at l =
-    (l.p ≤ length l.rest)
-    × (l.at ≤ l.bytes)
-    × (length l.buf ≡ length l.initial.buf)
-    × T (all_right (later_for (l.bytes - l.at)) (l.bytes - l.at) (drop l.p l.rest))
-    × Going (packed_from (later_for l.bytes) l.rest) l.initial.buf 0 l.buf l.at (packed_from (later_for (l.bytes - l.at)) (drop l.p l.rest))
-
-abbrev pub decreases-loop-at : goal.decreases-loop-at
-decreases-loop-at l = l.bytes - l.at
+abbrev pub invariant-loop-line : goal.invariant-loop-line
+invariant-loop-line l =
+    (goal.iterator-loop-line).can_next l.line-iterator
+    × (goal.iterator-loop-line).is_finite l.line-iterator
+    × (chunks_size l.line-iterator ≡ 2 * most_bytes + 3)
+    × (l.at ≤ length l.initial.out)
+    × (length l.out ≡ length l.initial.out)
+    × T (all_right (later_for (length l.initial.out - l.at)) (length l.initial.out - l.at) (chunks_rest l.line-iterator))
+    × Going (packed_from (later_for (length l.initial.out)) l.rest) l.initial.out 0 l.out l.at (packed_from (later_for (length l.initial.out - l.at)) (chunks_rest l.line-iterator))
