@@ -1,4 +1,5 @@
-// Searching a roll for a pattern by jumps: what `roll::search::search` answers and writes.
+// Searching a roll for a pattern by jumps: what `roll::search::search` answers and writes. The engine alone is another, so nothing is shared but
+// `check_pattern`.
 ghost use Rattle.roll.specs.Paper.Operations.{Searching};
 
 use crate::jumping::jump_sound;

@@ -155,7 +155,8 @@ pub fn moves_by_byte(code: Code, sigma: u32) -> [u32; 256]
     t
 }
 
-// The bounds of moves in a row of their own; and the byte of each whose lowest bit is bit `low`.
+// The bounds of moves in a row of their own; and the byte of each whose lowest bit is bit `low`. Two functions: a row of any width would need a
+// conversion that can fail.
 pub fn bounds_of(t: &[u32; 256]) -> [u16; 256]
     ensures { PartIn bound_in t.now 256 result }
 {

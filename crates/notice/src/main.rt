@@ -14,11 +14,12 @@ fn main(rt: HostRuntime) -> io::Result<()> {
     answer(&rt, &input[..n])
 }
 
-// What comes, until the room is full or the input ends: how many bytes.
+// What comes, until the room is full or the input ends: how many bytes. `casebook` has the same: a program that is sold rests on no crate of cases.
 fn read_full(reader: &mut impl Read, room: &mut [u8]) -> io::Result<usize>
     ensures { IfOk result (λ n. n ≤ length room.new) }
 {
     let mut n: usize = 0;
+    // A while: how many bytes come at once is the reader's.
     while n < room.len() {
         let came = reader.read(&mut room[n..])?;
         if came == 0 {

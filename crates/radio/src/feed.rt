@@ -16,7 +16,7 @@ use stretches::codewords::{AT_ONCE, read_stretch};
 use symbols::bits::per_byte;
 use symbols::size::bytes_for;
 
-// What was answered, how many hits were written, and the searcher to go on with.
+// What was answered, how many hits were written, and the searcher to go on with: a refusal 6 comes with all three.
 #[derive(Clone, Copy)]
 pub struct Fed {
     pub answer: Result<(), Refusal>,

@@ -6,7 +6,7 @@ use crate::table::{Table, good_table, rank_of};
 use crate::word::spell_word;
 use ground::refusal::Refusal;
 
-// Symbols, one to a byte, 0 past the length.
+// Symbols, one to a byte, 0 past the length: as C holds them.
 #[repr(C)]
 #[derive(Clone, Copy)]
 pub struct Codeword {

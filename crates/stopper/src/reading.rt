@@ -7,7 +7,7 @@ use crate::code::{Code, base_of, stoppers_at};
 
 // An open codeword: the place of the next symbol (counted as far as 2, from where all places are alike), the number of shorter
 // codewords, the rows of so many continuers, and the value of those read.
-// Past: sigma is reached, and the stopper not yet read.
+// Past: sigma is reached, and the stopper not yet read. A flag beside numbers, as C holds them (`judge`'s Progress), where any may come.
 #[derive(Clone, Copy, PartialEq, Eq)]
 pub struct Reader {
     pub past: bool,

@@ -48,7 +48,7 @@ pub fn rank_of(table: Table, character: u8) -> Option<usize>
     row.iter().position(|x| *x == character)
 }
 
-// The ranks of all byte values at once, for a caller that looks up many: sigma where there is none.
+// The ranks of all byte values at once, for a caller that looks up many: sigma where there is none, so that an entry is two bytes.
 pub fn ranks_of(sigma: u16, places: [u8; 256]) -> [u16; 256]
     requires { sigma ≤ 256 }
     ensures { result ≡ ranks_of (take sigma places) }

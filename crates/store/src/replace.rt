@@ -55,7 +55,8 @@ fn grow(k: u8, words: &Words, text: &[u8], taken: usize, buf: &mut [u8], h: usiz
     clear_unused(k, buf, h + by);
 }
 
-// The new symbols are fewer than the old: the tail goes down, and what it leaves behind is cleared.
+// The new symbols are fewer than the old: the tail goes down, and what it leaves behind is cleared. Not one function with `grow`: all but the text is the
+// other way round.
 fn shrink(k: u8, words: &Words, text: &[u8], taken: usize, buf: &mut [u8], h: usize, run: Run)
     requires { Replaces k words.now.lengths words.now.symbols text.now taken buf.old h run × (taken < run.last - run.first) }
     ensures { buf.new ≡ replaced_bytes k words.now.lengths words.now.symbols text.now buf.old h run }
