@@ -1,10 +1,10 @@
 // The character of a codeword.
-ghost use Rattle.std.specs.Prelude.{◌≡◌, ◌≤◌, T, take};
-ghost use Rattle.stopper.specs.Paper.Table.{good_code, longest};
+ghost use Rattle.std.specs.Prelude.{◌≡◌, ◌≤◌, take};
+ghost use Rattle.stopper.specs.Paper.Table.{longest};
 ghost use Rattle.stopper.specs.Paper.Operations.{Decoding};
 ghost use Rattle.stopper.specs.Helpers.Answers.{ranked_as, if_last};
 
-use crate::code::{Code, LONGEST, base_of};
+use crate::code::{GoodCode, LONGEST, Ranks, base_of};
 use crate::codeword_of::Codeword;
 use crate::reading::{Step, opening, read_symbol};
 use crate::table::{Table, good_table};
@@ -18,18 +18,18 @@ fn if_last(rank: u32, read: usize, length: usize) -> Option<u32>
 }
 
 // The rank of a row of symbols, if it is one codeword of a rank below sigma.
-pub fn rank_of_word(code: Code, sigma: u32, length: usize, symbols: [u8; LONGEST]) -> Option<u32>
-    requires { T (good_code code) × (sigma ≤ 256) × (length ≤ longest) }
-    ensures { result ≡ ranked_as code sigma (take length symbols) }
+pub fn rank_of_word(ranks: Ranks, length: usize, symbols: [u8; LONGEST]) -> Option<u32>
+    requires { length ≤ longest }
+    ensures { result ≡ ranked_as ranks.good.code ranks.sigma (take length symbols) }
 {
-    let m = base_of(code);
+    let m = base_of(ranks.good);
     let mut r = opening();
     for i in 0..length {
         let y = symbols[i];
         if m <= u32::from(y) {
             return None;
         }
-        match read_symbol(code, sigma, r, y) {
+        match read_symbol(ranks, r, y) {
             Step::Rank(rank) => {
                 return if_last(rank, i + 1, length);
             }
@@ -53,7 +53,11 @@ pub fn character_of(table: Table, word: Codeword) -> Result<u8, Refusal>
     if LONGEST < word.length {
         return Err(Refusal::BadCodeword(0));
     }
-    match rank_of_word(table.code, table.sigma as u32, word.length, word.symbols) {
+    let ranks = Ranks {
+        good: GoodCode { code: table.code },
+        sigma: table.sigma as u32,
+    };
+    match rank_of_word(ranks, word.length, word.symbols) {
         Some(rank) => Ok(table.places[rank as usize]),
         None => Err(Refusal::BadCodeword(0)),
     }

@@ -11,6 +11,21 @@ pub struct Code {
     pub s: u8,
 }
 
+// A code that `good_code` accepts.
+#[derive(Clone, Copy)]
+pub struct GoodCode {
+    pub code: Code,
+    pub ghost good: { T (good_code code) },
+}
+
+// The ranks below sigma of a good code: those that codewords are read by.
+#[derive(Clone, Copy)]
+pub struct Ranks {
+    pub good: GoodCode,
+    pub sigma: u32,
+    pub ghost few: { sigma ≤ 256 },
+}
+
 // No codeword of a rank below 256 has more symbols.
 pub const LONGEST: usize = 86;
 
@@ -47,11 +62,10 @@ pub fn good_code(code: Code) -> bool
 }
 
 // The number of base symbols.
-pub fn base_of(code: Code) -> u32
-    requires { T (good_code code) }
-    ensures { result ≡ base code }
+pub fn base_of(good: GoodCode) -> u32
+    ensures { result ≡ base good.code }
 {
-    if code.k == 2 { 4 } else { 16 }
+    if good.code.k == 2 { 4 } else { 16 }
 }
 
 // How many stoppers there are at a place of a codeword.
@@ -128,14 +142,14 @@ fn border_of(one: u32, c: u32, rank: u32) -> Border
 
 // The stopper's place in the codeword of a rank, and q. From the third place on all are alike. Where the first or the second is not, which stoppers_at
 // does not have yet, these two are asked for themselves; behind them the lengths grow as in a code of their own.
-pub fn place_of(code: Code, rank: u32) -> Place
-    requires { T (good_code code) × (rank < 256) }
-    ensures { result ≡ place_of code rank }
+pub fn place_of(good: GoodCode, rank: u32) -> Place
+    requires { rank < 256 }
+    ensures { result ≡ place_of good.code rank }
 {
-    let m = base_of(code);
-    let first = stoppers_at(code, 0);
-    let second = stoppers_at(code, 1);
-    let later = stoppers_at(code, 2);
+    let m = base_of(good);
+    let first = stoppers_at(good.code, 0);
+    let second = stoppers_at(good.code, 1);
+    let later = stoppers_at(good.code, 2);
     if first == later && second == later {
         let b = border_of(later, m - later, rank);
         return Place {
@@ -159,9 +173,9 @@ pub fn place_of(code: Code, rank: u32) -> Place
 }
 
 // How many symbols the codeword of a rank has.
-pub fn length_of(code: Code, rank: u32) -> u32
-    requires { T (good_code code) × (rank < 256) }
-    ensures { result ≡ length_of code rank }
+pub fn length_of(good: GoodCode, rank: u32) -> u32
+    requires { rank < 256 }
+    ensures { result ≡ length_of good.code rank }
 {
-    place_of(code, rank).at + 1
+    place_of(good, rank).at + 1
 }

@@ -1,7 +1,7 @@
 // The codeword of a character.
 ghost use Rattle.stopper.specs.Paper.Operations.{Coding};
 
-use crate::code::LONGEST;
+use crate::code::{GoodCode, LONGEST};
 use crate::table::{Table, good_table, rank_of};
 use crate::word::spell_word;
 use ground::refusal::Refusal;
@@ -24,6 +24,6 @@ pub fn codeword_of(table: Table, character: u8) -> Result<Codeword, Refusal>
         return Err(Refusal::NotInTable(0));
     };
     let mut symbols = [0u8; LONGEST];
-    let length = spell_word(table.code, rank as u32, &mut symbols);
+    let length = spell_word(GoodCode { code: table.code }, rank as u32, &mut symbols);
     Ok(Codeword { length, symbols })
 }

@@ -1,9 +1,8 @@
 // Reading codewords symbol by symbol: a state by value.
-ghost use Rattle.std.specs.Prelude.{◌≡◌, ◌≤◌, T};
-ghost use Rattle.stopper.specs.Paper.Table.{good_code};
+ghost use Rattle.std.specs.Prelude.{◌≡◌};
 ghost use Rattle.stopper.specs.Helpers.State.{Small, opened, nearer, past_at, stepped};
 
-use crate::code::{Code, base_of, stoppers_at};
+use crate::code::{Ranks, base_of, stoppers_at};
 
 // An open codeword: the place of the next symbol (counted as far as 2, from where all places are alike), the number of shorter
 // codewords, the rows of so many continuers, and the value of those read.
@@ -56,11 +55,12 @@ fn past_at(place: u32) -> Reader
     }
 }
 
-pub fn read_symbol(code: Code, sigma: u32, r: Reader, symbol: u8) -> Step
-    requires { T (good_code code) × (sigma ≤ 256) × Small r }
-    ensures { result ≡ stepped code sigma r symbol }
+pub fn read_symbol(ranks: Ranks, r: Reader, symbol: u8) -> Step
+    requires { Small r }
+    ensures { result ≡ stepped ranks.good.code ranks.sigma r symbol }
 {
-    let s = stoppers_at(code, r.place);
+    let Ranks { good, sigma, .. } = ranks;
+    let s = stoppers_at(good.code, r.place);
     let y = u32::from(symbol);
     let shorter = r.shorter;
     let value = r.value;
@@ -78,7 +78,7 @@ pub fn read_symbol(code: Code, sigma: u32, r: Reader, symbol: u8) -> Step
     if r.past {
         return Step::Open(past_at(place));
     }
-    let c = base_of(code) - s;
+    let c = base_of(good) - s;
     let rows = r.rows;
     let least = shorter + rows * s;
     let next = value * c + (y - s);

@@ -17,11 +17,14 @@ returns-then-word-gt-LONGEST c =
     let g : good_table c.args.table ≡ true = sym c.good_table.ensures ∙ c.if-not-good_table.false in
     record { says = rw (g, lt-leb _ _ c.if-word-gt-LONGEST.true) }
 
+pub invariant_of-ranks : goal.invariant_of-ranks
+invariant_of-ranks c = record { good = table_code c.args.table (is_good c.args.table (sym c.good_table.ensures ∙ c.if-not-good_table.false)) }
+
+pub invariant_of-ranks-2 : goal.invariant_of-ranks-2
+invariant_of-ranks-2 c = record { few = table_few c.args.table (is_good c.args.table (sym c.good_table.ensures ∙ c.if-not-good_table.false)) }
+
 pub rank_of_word-requires : goal.rank_of_word-requires
-rank_of_word-requires c =
-    let t = c.args.table in
-    let g = is_good t (sym c.good_table.ensures ∙ c.if-not-good_table.false) in
-    (table_code t g, table_few t g, c.if-word-gt-LONGEST.false)
+rank_of_word-requires c = c.if-word-gt-LONGEST.false
 
 pub bounds-table-rank : goal.bounds-table-rank
 bounds-table-rank c =

@@ -21,30 +21,30 @@ pub loop-i-init : goal.loop-i-init
 loop-i-init c =
     let all : length c.args.symbols ≡ longest = search rules in
     record {
-      long = length-take-le c.args.length c.args.symbols (omega (arith, c.requires.2, all));
-      room = c.requires.2;
-      seen = rw c.opening-r.ensures (seen_none c.args.code c.args.sigma (take c.args.length c.args.symbols));
+      long = length-take-le c.args.length c.args.symbols (omega (arith, c.requires, all));
+      room = c.requires;
+      seen = rw c.opening-r.ensures (seen_none c.args.ranks.good.code c.args.ranks.sigma (take c.args.length c.args.symbols));
     }
 
 pub returns-then-m-from : goal.returns-then-m-from
 returns-then-m-from c =
     let v = c.loop-i.invariant in
-    too_big c.args.code c.requires.0 c.args.sigma _ v.seen (inside v c.loop-i-test.true) (here v c.loop-i-test.true)
+    too_big c.args.ranks.good.code c.args.ranks.good.good c.args.ranks.sigma _ v.seen (inside v c.loop-i-test.true) (here v c.loop-i-test.true)
     (omega (arith, c.base_of-m.ensures, c.if-m-from.true))
 
 pub read_symbol-requires : goal.read_symbol-requires
-read_symbol-requires c = (c.requires.0, c.requires.1, seen_small c.args.code c.requires.0 c.args.sigma _ c.loop-i.invariant.seen c.requires.1)
+read_symbol-requires c = seen_small c.args.ranks.good.code c.args.ranks.good.good c.args.ranks.sigma _ c.loop-i.invariant.seen c.args.ranks.few
 
 pub returns-in-Rank : goal.returns-in-Rank
 returns-in-Rank c =
     let v = c.loop-i.invariant in
     c.if_last.ensures
-    ∙ is_rank c.args.code c.requires.0 c.args.sigma _ v.seen (inside v c.loop-i-test.true) (here v c.loop-i-test.true) (sym c.in-Rank.is ∙ c.read_symbol.ensures) _ (sym v.long)
+    ∙ is_rank c.args.ranks.good.code c.args.ranks.good.good c.args.ranks.sigma _ v.seen (inside v c.loop-i-test.true) (here v c.loop-i-test.true) (sym c.in-Rank.is ∙ c.read_symbol.ensures) _ (sym v.long)
 
 pub returns-in-Bad : goal.returns-in-Bad
 returns-in-Bad c =
     let v = c.loop-i.invariant in
-    is_bad_lem c.args.code c.requires.0 c.args.sigma _ v.seen (inside v c.loop-i-test.true) (here v c.loop-i-test.true) (sym c.in-Bad.is ∙ c.read_symbol.ensures)
+    is_bad_lem c.args.ranks.good.code c.args.ranks.good.good c.args.ranks.sigma _ v.seen (inside v c.loop-i-test.true) (here v c.loop-i-test.true) (sym c.in-Bad.is ∙ c.read_symbol.ensures)
 
 pub loop-i-preserved : goal.loop-i-preserved
 loop-i-preserved c =
@@ -52,7 +52,7 @@ loop-i-preserved c =
     record {
       long = v.long;
       room = v.room;
-      seen = seen_open c.args.code c.requires.0 c.args.sigma _ v.seen (inside v c.loop-i-test.true) (here v c.loop-i-test.true)
+      seen = seen_open c.args.ranks.good.code c.args.ranks.good.good c.args.ranks.sigma _ v.seen (inside v c.loop-i-test.true) (here v c.loop-i-test.true)
           (omega (arith, c.base_of-m.ensures, c.if-m-from.false))
           (sym c.in-Open.is ∙ c.read_symbol.ensures);
     }
@@ -60,4 +60,4 @@ loop-i-preserved c =
 pub returns : goal.returns
 returns c =
     let v = c.loop-i.invariant in
-    ended c.args.code c.requires.0 c.args.sigma _ v.seen (omega (arith, v.long, c.loop-i-test.false))
+    ended c.args.ranks.good.code c.args.ranks.good.good c.args.ranks.sigma _ v.seen (omega (arith, v.long, c.loop-i-test.false))

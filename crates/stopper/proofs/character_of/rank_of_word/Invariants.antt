@@ -11,4 +11,4 @@ pub record At (c : Code) (σ n : ℕ) (symbols : List ℕ) (i : ℕ) (r : Reader
   pub seen : Seen c σ (take n symbols) i r
 
 abbrev pub invariant-loop-i : goal.invariant-loop-i
-invariant-loop-i l = At l.code l.sigma l.length l.symbols l.i l.r
+invariant-loop-i l = At l.ranks.good.code l.ranks.sigma l.length l.symbols l.i l.r

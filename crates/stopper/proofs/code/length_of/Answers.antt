@@ -6,8 +6,8 @@ use Rattle.stopper.proofs.code.length_of.Goals as goal
 
 pub overflow_add-result : goal.overflow_add-result
 overflow_add-result c =
-    omega (arith, ap (λ (p : Place). p.at) c.place_of.ensures, length_place c.args.code c.requires.0 c.args.rank, length_small c.args.code c.requires.0 c.args.rank c.requires.1)
+    omega (arith, ap (λ (p : Place). p.at) c.place_of.ensures, length_place c.args.good.code c.args.good.good c.args.rank, length_small c.args.good.code c.args.good.good c.args.rank c.requires)
 
 pub returns : goal.returns
 returns c =
-    ap (λ (p : Place). p.at + 1) c.place_of.ensures ∙ sym (length_place c.args.code c.requires.0 c.args.rank)
+    ap (λ (p : Place). p.at + 1) c.place_of.ensures ∙ sym (length_place c.args.good.code c.args.good.good c.args.rank)

@@ -113,8 +113,8 @@ asked : (code : Code) {m a b u : ℕ} → T (good_code code) → m ≡ base code
 asked code g m a b u = record { good = g; symbols = m; first = a; second = b; later = u }
 
 -- all places alike
-known : (c : goal.Then-second-later) → Asked c.args.code c.base_of-m.result c.stoppers_at-first.result c.stoppers_at-second.result c.stoppers_at-later.result
-known c = asked c.args.code c.requires.0 c.base_of-m.ensures c.stoppers_at-first.ensures c.stoppers_at-second.ensures c.stoppers_at-later.ensures
+known : (c : goal.Then-second-later) → Asked c.args.good.code c.base_of-m.result c.stoppers_at-first.result c.stoppers_at-second.result c.stoppers_at-later.result
+known c = asked c.args.good.code c.args.good.good c.base_of-m.ensures c.stoppers_at-first.ensures c.stoppers_at-second.ensures c.stoppers_at-later.ensures
 
 pub overflow_sub-m : goal.overflow_sub-m
 overflow_sub-m c = let s = sizes (known c) in omega arith
@@ -122,18 +122,18 @@ overflow_sub-m c = let s = sizes (known c) in omega arith
 pub border_of-b-requires : goal.border_of-b-requires
 border_of-b-requires c =
     let s = sizes (known c) in
-    (omega arith, omega arith, omega arith, omega arith, omega arith, c.requires.1)
+    (omega arith, omega arith, omega arith, omega arith, omega arith, c.requires)
 
 pub returns-then-second-later : goal.returns-then-second-later
-returns-then-second-later c = from_first (asked c.args.code c.requires.0 c.base_of-m.ensures c.stoppers_at-first.ensures c.stoppers_at-second.ensures c.stoppers_at-later.ensures) c.if-first-later.true c.if-second-later.true c.border_of-b.ensures
+returns-then-second-later c = from_first (asked c.args.good.code c.args.good.good c.base_of-m.ensures c.stoppers_at-first.ensures c.stoppers_at-second.ensures c.stoppers_at-later.ensures) c.if-first-later.true c.if-second-later.true c.border_of-b.ensures
 
 -- the first place
 pub returns-then-rank-first : goal.returns-then-rank-first
-returns-then-rank-first c = in_first (asked c.args.code c.requires.0 c.base_of-m.ensures c.stoppers_at-first.ensures c.stoppers_at-second.ensures c.stoppers_at-later.ensures) c.if-rank-first.true
+returns-then-rank-first c = in_first (asked c.args.good.code c.args.good.good c.base_of-m.ensures c.stoppers_at-first.ensures c.stoppers_at-second.ensures c.stoppers_at-later.ensures) c.if-rank-first.true
 
 -- the second place
-known_second : (c : goal.Else-rank-first) → Asked c.args.code c.base_of-m.result c.stoppers_at-first.result c.stoppers_at-second.result c.stoppers_at-later.result
-known_second c = asked c.args.code c.requires.0 c.base_of-m.ensures c.stoppers_at-first.ensures c.stoppers_at-second.ensures c.stoppers_at-later.ensures
+known_second : (c : goal.Else-rank-first) → Asked c.args.good.code c.base_of-m.result c.stoppers_at-first.result c.stoppers_at-second.result c.stoppers_at-later.result
+known_second c = asked c.args.good.code c.args.good.good c.base_of-m.ensures c.stoppers_at-first.ensures c.stoppers_at-second.ensures c.stoppers_at-later.ensures
 
 pub overflow_sub-two : goal.overflow_sub-two
 overflow_sub-two c = let s = sizes (known_second c) in omega arith
@@ -142,11 +142,11 @@ pub overflow_mul-two : goal.overflow_mul-two
 overflow_mul-two c = omega (arith, two_few (known_second c))
 
 pub returns-then-rest-two : goal.returns-then-rest-two
-returns-then-rest-two c = in_second (asked c.args.code c.requires.0 c.base_of-m.ensures c.stoppers_at-first.ensures c.stoppers_at-second.ensures c.stoppers_at-later.ensures) c.if-rank-first.false c.if-rest-two.true
+returns-then-rest-two c = in_second (asked c.args.good.code c.args.good.good c.base_of-m.ensures c.stoppers_at-first.ensures c.stoppers_at-second.ensures c.stoppers_at-later.ensures) c.if-rank-first.false c.if-rest-two.true
 
 -- a later place
-known_later : (c : goal.Else-rest-two) → Asked c.args.code c.base_of-m.result c.stoppers_at-first.result c.stoppers_at-second.result c.stoppers_at-later.result
-known_later c = asked c.args.code c.requires.0 c.base_of-m.ensures c.stoppers_at-first.ensures c.stoppers_at-second.ensures c.stoppers_at-later.ensures
+known_later : (c : goal.Else-rest-two) → Asked c.args.good.code c.base_of-m.result c.stoppers_at-first.result c.stoppers_at-second.result c.stoppers_at-later.result
+known_later c = asked c.args.good.code c.args.good.good c.base_of-m.ensures c.stoppers_at-first.ensures c.stoppers_at-second.ensures c.stoppers_at-later.ensures
 
 pub overflow_sub-m-2 : goal.overflow_sub-m-2
 overflow_sub-m-2 c = let s = sizes (known_later c) in omega arith
@@ -171,9 +171,9 @@ border_of-b-requires-2 c =
 
 pub overflow_add-result : goal.overflow_add-result
 overflow_add-result c =
-    let k = asked c.args.code c.requires.0 c.base_of-m.ensures c.stoppers_at-first.ensures c.stoppers_at-second.ensures c.stoppers_at-later.ensures in
+    let k = asked c.args.good.code c.args.good.good c.base_of-m.ensures c.stoppers_at-first.ensures c.stoppers_at-second.ensures c.stoppers_at-later.ensures in
     let s = sizes k in
     omega (arith, place_le (mul-pos (rows_pos k) (omega arith)) (omega arith) c.border_of-b-2.ensures.0)
 
 pub returns : goal.returns
-returns c = from_third (asked c.args.code c.requires.0 c.base_of-m.ensures c.stoppers_at-first.ensures c.stoppers_at-second.ensures c.stoppers_at-later.ensures) c.if-rank-first.false c.if-rest-two.false c.border_of-b-2.ensures
+returns c = from_third (asked c.args.good.code c.args.good.good c.base_of-m.ensures c.stoppers_at-first.ensures c.stoppers_at-second.ensures c.stoppers_at-later.ensures) c.if-rank-first.false c.if-rest-two.false c.border_of-b-2.ensures

@@ -38,13 +38,16 @@ pub overflow_cast-rank : goal.overflow_cast-rank
 overflow_cast-rank c =
     omega (arith, small c.args.table c.args.character (sym c.good_table.ensures ∙ c.if-not-good_table.false) (search rules) c.in-Some.ensures)
 
+pub invariant_of-spell_word : goal.invariant_of-spell_word
+invariant_of-spell_word c = record { good = table_code c.args.table (is_good c.args.table (sym c.good_table.ensures ∙ c.if-not-good_table.false)) }
+
 pub spell_word-length-requires : goal.spell_word-length-requires
 spell_word-length-requires c =
     let t = c.args.table in
     let g : good_table t ≡ true = sym c.good_table.ensures ∙ c.if-not-good_table.false in
     let h : c.in-Some.rank < 256 = small t c.args.character g (search rules) c.in-Some.ensures in
     let code = table_code t (is_good t g) in
-    (code, h, length_small t.code code c.in-Some.rank h)
+    (h, length_small t.code code c.in-Some.rank h)
 
 pub returns : goal.returns
 unfolding zeros

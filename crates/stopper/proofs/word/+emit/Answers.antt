@@ -16,7 +16,7 @@ small k i m s x g e f =
 
 digit : (t : ℕ) (c : goal.After-base_of t)
     → let m = c.base_of.result in let s = c.stoppers_at-s.result in (s < m) × (m ≤ 16) × (c.args.x % (m - s) < m - s)
-digit t c = small c.args.code _ _ _ c.args.x c.requires.0 c.stoppers_at-s.ensures c.base_of.ensures
+digit t c = small c.args.good.code _ _ _ c.args.x c.args.good.good c.stoppers_at-s.ensures c.base_of.ensures
 
 pub overflow_sub-c : goal.overflow_sub-c
 overflow_sub-c t c = let z = digit t c in omega arith
@@ -34,12 +34,12 @@ pub nonzero_div-x : goal.nonzero_div-x
 nonzero_div-x t c = let z = digit t c in omega arith
 
 pub emit-requires : goal.emit-requires
-emit-requires t c = (omega arith, (c.requires.0, simp length-set (omega arith)))
+emit-requires t c = (omega arith, simp length-set (omega arith))
 
 pub returns-then-i-gt0 : goal.returns-then-i-gt0
 returns-then-i-gt0 t c =
     let a = c.args in
-    c.emit.ensures ∙ spelt a.code _ _ a.x a.i a.out.now c.base_of.ensures c.stoppers_at-s.ensures c.if-i-gt0.true (omega arith)
+    c.emit.ensures ∙ spelt a.good.code _ _ a.x a.i a.out.now c.base_of.ensures c.stoppers_at-s.ensures c.if-i-gt0.true (omega arith)
 
 pub returns-else-i-gt0 : goal.returns-else-i-gt0
-returns-else-i-gt0 t c = let a = c.args in none a.code a.x a.i a.out.now c.if-i-gt0.false
+returns-else-i-gt0 t c = let a = c.args in none a.good.code a.x a.i a.out.now c.if-i-gt0.false

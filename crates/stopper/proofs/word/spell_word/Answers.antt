@@ -20,21 +20,21 @@ inside : (code : Code) (rank : ℕ) {p : Place} {n : ℕ} → T (good_code code)
 inside code rank g e h = omega (arith, length_place code g rank, ap (λ (x : Place). x.at) e)
 
 pub nonzero_rem-out : goal.nonzero_rem-out
-nonzero_rem-out c = (some c.args.code _ c.requires.0 c.stoppers_at-s.ensures).0
+nonzero_rem-out c = (some c.args.good.code _ c.args.good.good c.stoppers_at-s.ensures).0
 
 pub overflow_cast-out : goal.overflow_cast-out
 overflow_cast-out c =
-    let s = some c.args.code _ c.requires.0 c.stoppers_at-s.ensures in
+    let s = some c.args.good.code _ c.args.good.good c.stoppers_at-s.ensures in
     omega (arith, mod-lt c.place_of-p.result.q s.0)
 
 pub bounds-out-i : goal.bounds-out-i
-bounds-out-i c = inside c.args.code c.args.rank c.requires.0 c.place_of-p.ensures c.requires.2
+bounds-out-i c = inside c.args.good.code c.args.rank c.args.good.good c.place_of-p.ensures c.requires.1
 
 pub nonzero_div-q : goal.nonzero_div-q
-nonzero_div-q c = (some c.args.code _ c.requires.0 c.stoppers_at-s.ensures).0
+nonzero_div-q c = (some c.args.good.code _ c.args.good.good c.stoppers_at-s.ensures).0
 
 pub emit-requires : goal.emit-requires
-emit-requires c = (c.requires.0, simp length-set (omega (arith, inside c.args.code c.args.rank c.requires.0 c.place_of-p.ensures c.requires.2)))
+emit-requires c = simp length-set (omega (arith, inside c.args.good.code c.args.rank c.args.good.good c.place_of-p.ensures c.requires.1))
 
 pub shape_of-out : goal.shape_of-out
 shape_of-out c = simp length-set at c.emit.auto.out
@@ -43,8 +43,8 @@ pub returns : goal.returns
 returns c =
     let p = c.place_of-p in
     record {
-      length = ap (λ (x : Place). x.at + 1) p.ensures ∙ sym (length_place c.args.code c.requires.0 c.args.rank);
+      length = ap (λ (x : Place). x.at + 1) p.ensures ∙ sym (length_place c.args.good.code c.args.good.good c.args.rank);
       symbols = c.emit.ensures
-          ∙ written c.args.code c.requires.0 c.args.rank _ p.result c.args.out.now p.ensures c.stoppers_at-s.ensures
-          (inside c.args.code c.args.rank c.requires.0 p.ensures c.requires.2);
+          ∙ written c.args.good.code c.args.good.good c.args.rank _ p.result c.args.out.now p.ensures c.stoppers_at-s.ensures
+          (inside c.args.good.code c.args.rank c.args.good.good p.ensures c.requires.1);
     }
