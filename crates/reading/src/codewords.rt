@@ -1,10 +1,9 @@
 // Codewords where they lie: the symbols of a buffer, up to symbol h.
-ghost use Rattle.std.specs.Prelude.{◌≡◌};
-ghost use Rattle.reading.specs.Paper.Reading.{row_upto};
-ghost use Rattle.reading.specs.Helpers.Codewords.{Reads, found_at, passed_from, refused_at};
+ghost use Rattle.std.specs.Prelude.{◌≡◌, ◌≤◌};
+ghost use Rattle.reading.specs.Helpers.Codewords.{row_of, found_at, passed_from, refused_at};
 
+use crate::packed::Packed;
 use ground::refusal::Refusal;
-use stopper::code::Code;
 use stopper::reading::{Step, opening, read_symbol};
 use symbols::symbol::get;
 
@@ -30,14 +29,15 @@ impl From<BadWord> for Refusal {
 }
 
 // The codeword that starts at symbol p, if it is a good one.
-pub fn codeword_at(code: Code, sigma: u32, buf: &[u8], h: usize, p: usize) -> Option<Word>
-    requires { Reads code sigma buf.now h p }
-    ensures { result ≡ found_at code sigma (row_upto code h buf.now) p }
+pub fn codeword_at(packed: &Packed, p: usize) -> Option<Word>
+    requires { p ≤ packed.now.h }
+    ensures { let s = packed.now in result ≡ found_at s.ranks.good.code s.ranks.sigma (row_of s) p }
 {
+    let Packed { ranks, buf, h, .. } = *packed;
     let mut r = opening();
     for i in p..h {
-        let y = get(code.k, buf, i);
-        match read_symbol(code, sigma, r, y) {
+        let y = get(ranks.good.code.k, buf, i);
+        match read_symbol(ranks, r, y) {
             Step::Rank(rank) => {
                 return Some(Word { rank, next: i + 1 });
             }
@@ -57,20 +57,13 @@ pub fn codeword_at(code: Code, sigma: u32, buf: &[u8], h: usize, p: usize) -> Op
 }
 
 // The symbol after so many codewords from symbol p on.
-pub fn pass_over(
-    code: Code,
-    sigma: u32,
-    buf: &[u8],
-    h: usize,
-    p: usize,
-    count: usize,
-) -> Result<usize, BadWord>
-    requires { Reads code sigma buf.now h p }
-    ensures { result ≡ passed_from code sigma (row_upto code h buf.now) p count }
+pub fn pass_over(packed: &Packed, p: usize, count: usize) -> Result<usize, BadWord>
+    requires { p ≤ packed.now.h }
+    ensures { let s = packed.now in result ≡ passed_from s.ranks.good.code s.ranks.sigma (row_of s) p count }
 {
     let mut at = p;
     for _ in 0..count {
-        let Some(word) = codeword_at(code, sigma, buf, h, at) else {
+        let Some(word) = codeword_at(packed, at) else {
             return Err(BadWord { first: at });
         };
         at = word.next;

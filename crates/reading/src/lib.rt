@@ -2,3 +2,4 @@
 #![tactic(auto)]
 
 pub mod codewords;
+pub mod packed;

@@ -8,6 +8,8 @@ use Rattle.stopper.specs.declared.code.Code.{Code}
 use Rattle.symbols.specs.Paper.Symbols.{symbols_of}
 use Rattle.ground.specs.declared.refusal.Refusal.{Refusal}
 use Rattle.ground.specs.declared.refusal.Refusal.TheVariants.{BadCodeword}
+use Rattle.reading.specs.Paper.Reading.{row_upto}
+use Rattle.reading.specs.declared.packed.Packed.{Packed}
 use Rattle.reading.specs.declared.codewords.Word.{Word}
 use Rattle.reading.specs.declared.codewords.BadWord.{BadWord}
 
@@ -23,6 +25,10 @@ pub record Reads (c : Code) (σ : ℕ) (buf : List ℕ) (h p : ℕ) : Type 0 whe
 unfoldable pub found_in : ℕ → First → Option Word
 found_in p (whole rank n) = Some (record { rank = rank; next = p + n })
 found_in p (broken f) = None
+
+-- the symbols that are read
+abbrev pub row_of : Packed → List ℕ
+row_of s = row_upto s.ranks.good.code s.h s.buf.now
 
 -- the codeword that starts at symbol p of a row
 unfoldable pub found_at : Code → ℕ → List ℕ → ℕ → Option Word

@@ -16,10 +16,15 @@ use Rattle.stopper.specs.Laws.Table.{code_good}
 use Rattle.stopper.specs.Laws.Reading.{first_whole, first_broken}
 use Rattle.stopper.specs.declared.code.Code.{Code}
 use Rattle.reading.specs.Paper.Reading.{row_reading, ranks_read, first_bad}
-use Rattle.reading.specs.Helpers.Codewords.{found_in, found_at, pass_step, passed_from}
+use Rattle.reading.specs.Helpers.Codewords.{Reads, found_in, found_at, pass_step, passed_from}
 use Rattle.reading.specs.Laws.Reading.{ranks_ahead, bad_ahead}
+use Rattle.reading.specs.declared.packed.Packed.{Packed}
 use Rattle.reading.specs.declared.codewords.Word.{Word}
 use Rattle.reading.specs.declared.codewords.BadWord.{BadWord}
+
+-- what is read may be read from any of its symbols on
+pub packed_reads : (s : Packed) (p : ℕ) → p ≤ s.h → Reads s.ranks.good.code s.ranks.sigma s.buf.now s.h p
+packed_reads s p l = record { good = s.ranks.good.good; few = s.ranks.few; held = s.held; small = s.small; upto = l }
 
 -- ---- a codeword found, or none
 

@@ -1,5 +1,5 @@
 -- `reading::codewords::codeword_at` meets its contract: `Seen` of the symbols up to h.
-use Rattle.std.proofs.Common.{◌≡◌, sym, ap, ◌∙◌, List, ℕ, suc, ◌+◌, ◌-◌, ◌≤◌, ◌<◌, length, drop, get_or, T, arith}
+use Rattle.std.proofs.Common.{◌≡◌, sym, ap, ◌∙◌, List, ℕ, suc, ◌+◌, ◌-◌, ◌≤◌, ◌<◌, length, drop, get_or, arith}
 use native.Mathlib.Nat.{le_refl, sub_self}
 use lib.ListN.{length-drop}
 use lib.Seq.{length-take-le, get_or-take, get_or-drop}
@@ -15,7 +15,7 @@ use Rattle.symbols.specs.Paper.Symbols.{symbols_of}
 use Rattle.symbols.specs.Laws.Rows.{symbols_below}
 use Rattle.reading.specs.Paper.Reading.{row_upto}
 use Rattle.reading.specs.Helpers.Codewords.{Reads}
-use Rattle.reading.specs.Laws.Codewords.{word_found, none_found}
+use Rattle.reading.specs.Laws.Codewords.{packed_reads, word_found, none_found}
 use Rattle.reading.proofs.codewords.codeword_at.Goals as goal
 
 -- the symbols up to h from p on, and symbol i of the buffer among them
@@ -48,42 +48,42 @@ module _ {c : Code} {σ : ℕ} {buf : List ℕ} {h p : ℕ} (reads : Reads c σ 
         rw more (seen_open c reads.good σ rest seen (inside k) (here k e) (rw e b) is)
 
 pub loop-i-init : goal.loop-i-init
-loop-i-init c = (le_refl c.args.p, rw (c.opening-r.ensures, sub_self) (seen_none c.args.code c.args.sigma (rest c.requires)))
+loop-i-init c = (le_refl c.args.p, rw (c.opening-r.ensures, sub_self) (seen_none c.args.packed.now.ranks.good.code c.args.packed.now.ranks.sigma (rest (packed_reads c.args.packed.now c.args.p c.requires))))
 
 pub get-y-requires : goal.get-y-requires
-get-y-requires c = (code_width c.args.code c.requires.good, omega (arith, c.requires.held, c.loop-i-test.true))
+get-y-requires c = (code_width c.args.packed.now.ranks.good.code c.args.packed.now.ranks.good.good, omega (arith, c.args.packed.now.held, c.loop-i-test.true))
 
 pub read_symbol-requires : goal.read_symbol-requires
 read_symbol-requires c =
-    (c.requires.good, c.requires.few, seen_small c.args.code c.requires.good c.args.sigma (rest c.requires) c.loop-i.invariant.1 c.requires.few)
+    seen_small c.args.packed.now.ranks.good.code c.args.packed.now.ranks.good.good c.args.packed.now.ranks.sigma (rest (packed_reads c.args.packed.now c.args.p c.requires)) c.loop-i.invariant.1 c.args.packed.now.ranks.few
 
 pub returns-in-Rank : goal.returns-in-Rank
 returns-in-Rank c =
     let (from, seen) = c.loop-i.invariant in
-    rw (next c.requires c.loop-i.i from)
-    (word_found c.args.code c.args.sigma (row_upto c.args.code c.args.h c.args.buf.now) c.args.p
-    (seen_rank c.args.code c.requires.good c.args.sigma (rest c.requires) seen (inside c.requires c.loop-i.i from c.loop-i-test.true) (here c.requires c.loop-i.i from c.loop-i-test.true c.get-y.ensures) (sym c.in-Rank.is ∙ c.read_symbol.ensures)))
+    rw (next (packed_reads c.args.packed.now c.args.p c.requires) c.loop-i.i from)
+    (word_found c.args.packed.now.ranks.good.code c.args.packed.now.ranks.sigma (row_upto c.args.packed.now.ranks.good.code c.args.packed.now.h c.args.packed.now.buf.now) c.args.p
+    (seen_rank c.args.packed.now.ranks.good.code c.args.packed.now.ranks.good.good c.args.packed.now.ranks.sigma (rest (packed_reads c.args.packed.now c.args.p c.requires)) seen (inside (packed_reads c.args.packed.now c.args.p c.requires) c.loop-i.i from c.loop-i-test.true) (here (packed_reads c.args.packed.now c.args.p c.requires) c.loop-i.i from c.loop-i-test.true c.get-y.ensures) (sym c.in-Rank.is ∙ c.read_symbol.ensures)))
 
 pub returns-in-Bad : goal.returns-in-Bad
 returns-in-Bad c =
     let (from, seen) = c.loop-i.invariant in
-    none_found c.args.code c.args.sigma (row_upto c.args.code c.args.h c.args.buf.now) c.args.p
-    (seen_bad c.args.code c.requires.good c.args.sigma (rest c.requires) seen (inside c.requires c.loop-i.i from c.loop-i-test.true) (here c.requires c.loop-i.i from c.loop-i-test.true c.get-y.ensures) (sym c.in-Bad.is ∙ c.read_symbol.ensures))
+    none_found c.args.packed.now.ranks.good.code c.args.packed.now.ranks.sigma (row_upto c.args.packed.now.ranks.good.code c.args.packed.now.h c.args.packed.now.buf.now) c.args.p
+    (seen_bad c.args.packed.now.ranks.good.code c.args.packed.now.ranks.good.good c.args.packed.now.ranks.sigma (rest (packed_reads c.args.packed.now c.args.p c.requires)) seen (inside (packed_reads c.args.packed.now c.args.p c.requires) c.loop-i.i from c.loop-i-test.true) (here (packed_reads c.args.packed.now c.args.p c.requires) c.loop-i.i from c.loop-i-test.true c.get-y.ensures) (sym c.in-Bad.is ∙ c.read_symbol.ensures))
 
 pub returns-then-on : goal.returns-then-on
 returns-then-on c =
     let (from, seen) = c.loop-i.invariant in
-    let still = open_still c.requires c.loop-i.i from c.loop-i-test.true c.get-y.ensures seen (sym c.in-Open.is ∙ c.read_symbol.ensures) in
-    none_found c.args.code c.args.sigma (row_upto c.args.code c.args.h c.args.buf.now) c.args.p
-    (seen_past c.args.code c.requires.good c.args.sigma (rest c.requires) still c.if-on.true).1
+    let still = open_still (packed_reads c.args.packed.now c.args.p c.requires) c.loop-i.i from c.loop-i-test.true c.get-y.ensures seen (sym c.in-Open.is ∙ c.read_symbol.ensures) in
+    none_found c.args.packed.now.ranks.good.code c.args.packed.now.ranks.sigma (row_upto c.args.packed.now.ranks.good.code c.args.packed.now.h c.args.packed.now.buf.now) c.args.p
+    (seen_past c.args.packed.now.ranks.good.code c.args.packed.now.ranks.good.good c.args.packed.now.ranks.sigma (rest (packed_reads c.args.packed.now c.args.p c.requires)) still c.if-on.true).1
 
 pub loop-i-preserved : goal.loop-i-preserved
 loop-i-preserved c =
     let (from, seen) = c.loop-i.invariant in
-    (omega arith, open_still c.requires c.loop-i.i from c.loop-i-test.true c.get-y.ensures seen (sym c.in-Open.is ∙ c.read_symbol.ensures))
+    (omega arith, open_still (packed_reads c.args.packed.now c.args.p c.requires) c.loop-i.i from c.loop-i-test.true c.get-y.ensures seen (sym c.in-Open.is ∙ c.read_symbol.ensures))
 
 pub returns : goal.returns
 returns c =
     let (from, seen) = c.loop-i.invariant in
-    none_found c.args.code c.args.sigma (row_upto c.args.code c.args.h c.args.buf.now) c.args.p
-    (seen_all c.args.code c.requires.good c.args.sigma (rest c.requires) seen (omega (arith, long c.requires, from, c.loop-i-test.false)))
+    none_found c.args.packed.now.ranks.good.code c.args.packed.now.ranks.sigma (row_upto c.args.packed.now.ranks.good.code c.args.packed.now.h c.args.packed.now.buf.now) c.args.p
+    (seen_all c.args.packed.now.ranks.good.code c.args.packed.now.ranks.good.good c.args.packed.now.ranks.sigma (rest (packed_reads c.args.packed.now c.args.p c.requires)) seen (omega (arith, long (packed_reads c.args.packed.now c.args.p c.requires), from, c.loop-i-test.false)))
