@@ -1,9 +1,9 @@
 // What the symbols of a byte do to the state of a reading, which is one number (specs/Helpers/States, Moves).
-ghost use Rattle.std.specs.Prelude.{◌≡◌, List, ◌∷◌, ℕ, ◌+◌, ◌*◌, ◌≤◌, ◌<◌, T};
-ghost use Rattle.stopper.specs.Paper.Table.{base, stoppers, good_code};
+ghost use Rattle.std.specs.Prelude.{◌≡◌, List, ◌∷◌, ℕ, ◌+◌, ◌*◌, ◌≤◌, ◌<◌};
+ghost use Rattle.stopper.specs.Paper.Table.{base, stoppers};
 ghost use Rattle.moves.specs.Helpers.Moves.{Moves, Small, In, SymbolBefore, Longer, MovesByByte, bound_in, times_in, plus_in, stops_in, part_in, PartIn};
 
-use stopper::code::{Code, base_of, stoppers_at};
+use stopper::code::{GoodCode, Ranks, base_of, stoppers_at};
 use symbols::bits::per_byte;
 
 // A state below the bound becomes so many times as much, plus so much, and so many codewords end.
@@ -45,15 +45,15 @@ fn upto(n: u32, d: u32) -> u32
 }
 
 // A stopper before what m does.
-fn stop_before(code: Code, sigma: u32, y: u32, m: Move) -> Move
-    requires { T (good_code code) × (sigma ≤ 256) × (Small m) × (y < stoppers code 0) }
-    ensures { (Small result) × ((w : List ℕ) → Moves code sigma w m → Moves code sigma (y ∷ w) result) }
+fn stop_before(ranks: Ranks, y: u32, m: Move) -> Move
+    requires { (Small m) × (y < stoppers ranks.good.code 0) }
+    ensures { let c = ranks.good.code in (Small result) × ((w : List ℕ) → Moves c ranks.sigma w m → Moves c ranks.sigma (y ∷ w) result) }
 {
-    if m.bound == 0 || sigma <= y || 127 <= m.stops {
+    if m.bound == 0 || ranks.sigma <= y || 127 <= m.stops {
         return never();
     }
     Move {
-        bound: upto(sigma - y - 1, stoppers_at(code, 0)),
+        bound: upto(ranks.sigma - y - 1, stoppers_at(ranks.good.code, 0)),
         times: 0,
         plus: m.plus,
         stops: m.stops + 1,
@@ -61,12 +61,12 @@ fn stop_before(code: Code, sigma: u32, y: u32, m: Move) -> Move
 }
 
 // A continuer before what m does.
-fn more_before(code: Code, sigma: u32, y: u32, m: Move) -> Move
-    requires { T (good_code code) × (Small m) × (stoppers code 0 ≤ y) × (y < 16) }
-    ensures { (Small result) × ((w : List ℕ) → Moves code sigma w m → Moves code sigma (y ∷ w) result) }
+fn more_before(good: GoodCode, y: u32, m: Move) -> Move
+    requires { (Small m) × (stoppers good.code 0 ≤ y) × (y < 16) }
+    ensures { (Small result) × ((sigma : ℕ) (w : List ℕ) → Moves good.code sigma w m → Moves good.code sigma (y ∷ w) result) }
 {
-    let s = stoppers_at(code, 0);
-    let c = base_of(code) - s;
+    let s = stoppers_at(good.code, 0);
+    let c = base_of(good) - s;
     let d = y - s + 1;
     let times = c * m.times;
     let plus = d * m.times + m.plus;
@@ -82,14 +82,14 @@ fn more_before(code: Code, sigma: u32, y: u32, m: Move) -> Move
 }
 
 // A symbol before what m does.
-fn before(code: Code, sigma: u32, y: u32, m: Move) -> Move
-    requires { T (good_code code) × (sigma ≤ 256) × (Small m) × (y < 16) }
-    ensures { (Small result) × ((w : List ℕ) → Moves code sigma w m → Moves code sigma (y ∷ w) result) }
+fn before(ranks: Ranks, y: u32, m: Move) -> Move
+    requires { (Small m) × (y < 16) }
+    ensures { let c = ranks.good.code in (Small result) × ((w : List ℕ) → Moves c ranks.sigma w m → Moves c ranks.sigma (y ∷ w) result) }
 {
-    if y < stoppers_at(code, 0) {
-        stop_before(code, sigma, y, m)
+    if y < stoppers_at(ranks.good.code, 0) {
+        stop_before(ranks, y, m)
     } else {
-        more_before(code, sigma, y, m)
+        more_before(ranks.good, y, m)
     }
 }
 
@@ -113,33 +113,32 @@ fn out_of(e: u32) -> Move
 }
 
 // Symbol y before what the move e does.
-fn symbol_before(code: Code, sigma: u32, y: u32, e: u32) -> u32
-    requires { T (good_code code) × (sigma ≤ 256) × (y < 16) }
-    ensures { SymbolBefore code sigma y e result }
+fn symbol_before(ranks: Ranks, y: u32, e: u32) -> u32
+    requires { y < 16 }
+    ensures { SymbolBefore ranks.good.code ranks.sigma y e result }
 {
-    in_one(before(code, sigma, y, out_of(e)))
+    in_one(before(ranks, y, out_of(e)))
 }
 
 // The moves of all rows of one symbol more: t has those of `size` rows.
-fn longer(code: Code, sigma: u32, size: usize, t: &[u32; 256]) -> [u32; 256]
-    requires { T (good_code code) × (sigma ≤ 256) × (0 < size) × (size * base code ≤ 256) }
-    ensures { Longer code sigma size t.now result }
+fn longer(ranks: Ranks, size: usize, t: &[u32; 256]) -> [u32; 256]
+    requires { (0 < size) × (size * base ranks.good.code ≤ 256) }
+    ensures { Longer ranks.good.code ranks.sigma size t.now result }
 {
     let mut r = [0u32; 256];
-    for y in 0..base_of(code) {
+    for y in 0..base_of(ranks.good) {
         for w in 0..size {
-            r[y as usize * size + w] = symbol_before(code, sigma, y, t[w]);
+            r[y as usize * size + w] = symbol_before(ranks, y, t[w]);
         }
     }
     r
 }
 
 // The move of each byte value: of no symbols first, and then of one symbol more at a time.
-pub fn moves_by_byte(code: Code, sigma: u32) -> [u32; 256]
-    requires { T (good_code code) × (sigma ≤ 256) }
-    ensures { MovesByByte code sigma result }
+pub fn moves_by_byte(ranks: Ranks) -> [u32; 256]
+    ensures { MovesByByte ranks.good.code ranks.sigma result }
 {
-    let base = base_of(code) as usize;
+    let base = base_of(ranks.good) as usize;
     let mut t = [0u32; 256];
     t[0] = in_one(Move {
         bound: 256,
@@ -148,8 +147,8 @@ pub fn moves_by_byte(code: Code, sigma: u32) -> [u32; 256]
         stops: 0,
     });
     let mut size: usize = 1;
-    for _n in 0..per_byte(code.k) {
-        t = longer(code, sigma, size, &t);
+    for _n in 0..per_byte(ranks.good.code.k) {
+        t = longer(ranks, size, &t);
         size *= base;
     }
     t

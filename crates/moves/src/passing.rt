@@ -1,16 +1,15 @@
 // All codewords from the first on: whole bytes by their moves, other symbols one by one.
-ghost use Rattle.std.specs.Prelude.{◌≡◌, ◌*◌, ◌≤◌, ◌<◌, T, length, take, drop};
-ghost use Rattle.stopper.specs.Paper.Table.{even_code, good_code};
+ghost use Rattle.std.specs.Prelude.{◌≡◌, ◌*◌, ◌≤◌, ◌<◌, length, take, drop};
 ghost use Rattle.symbols.specs.Paper.Symbols.{per, symbols_of};
-ghost use Rattle.reading.specs.Paper.Reading.{row_upto, row_reading};
-ghost use Rattle.reading.specs.Helpers.Codewords.{Reads, scanned};
+ghost use Rattle.reading.specs.Paper.Reading.{row_reading};
+ghost use Rattle.reading.specs.Helpers.Codewords.{row_of, scanned};
 ghost use Rattle.moves.specs.Helpers.States.{open_from, Stuck};
-ghost use Rattle.moves.specs.Helpers.Moves.{row_of, Rows, Here};
+ghost use Rattle.moves.specs.Helpers.Moves.{Rows, Here};
 
 use crate::byte::{Parts, bounds_of, moved, moved_twice, moves_by_byte, part_of};
-use crate::packed::Packed;
 use reading::codewords::BadWord;
-use stopper::code::{Code, base_of};
+use reading::packed::Packed;
+use stopper::code::{GoodCode, Ranks, base_of};
 use symbols::bits::{byte_of, per_byte};
 use symbols::symbol::get;
 
@@ -30,9 +29,9 @@ pub struct Way {
 
 // Whole bytes, from byte way.at on, two by two: as far as their moves take the state.
 fn by_moves(packed: &Packed, parts: &Parts, whole: usize, way: Way) -> Way
-    requires { let s = packed.now in (whole * per s.code.k ≤ s.h) × (Rows s.code s.sigma parts.now)
-        × (way.at ≤ whole) × (Here s.code s.sigma (row_of s) (way.at * per s.code.k) way.x way.n) × (way.x < 131072) }
-    ensures { let s = packed.now in (result.at ≤ whole) × (Here s.code s.sigma (row_of s) (result.at * per s.code.k) result.x result.n) × (result.x < 131072) }
+    requires { let s = packed.now in (whole * per s.ranks.good.code.k ≤ s.h) × (Rows s.ranks.good.code s.ranks.sigma parts.now)
+        × (way.at ≤ whole) × (Here s.ranks.good.code s.ranks.sigma (row_of s) (way.at * per s.ranks.good.code.k) way.x way.n) × (way.x < 131072) }
+    ensures { let s = packed.now in (result.at ≤ whole) × (Here s.ranks.good.code s.ranks.sigma (row_of s) (result.at * per s.ranks.good.code.k) result.x result.n) × (result.x < 131072) }
 {
     let buf = packed.buf;
     let Parts {
@@ -66,22 +65,18 @@ fn by_moves(packed: &Packed, parts: &Parts, whole: usize, way: Way) -> Way
 
 // Symbols one by one, up to symbol `upto`, or up to one at which the open codeword is bad whatever follows.
 fn by_symbols(packed: &Packed, upto: usize, way: Way) -> Way
-    requires { let s = packed.now in (upto ≤ s.h) × (way.at ≤ upto) × (Here s.code s.sigma (row_of s) way.at way.x way.n) × (way.x < 131072) }
-    ensures { let s = packed.now in (result.at ≤ upto) × (Here s.code s.sigma (row_of s) result.at result.x result.n) × (result.x < 131072)
-        × (result.at < upto → Stuck s.code s.sigma result.x (drop result.at (row_of s))) }
+    requires { let s = packed.now in (upto ≤ s.h) × (way.at ≤ upto) × (Here s.ranks.good.code s.ranks.sigma (row_of s) way.at way.x way.n) × (way.x < 131072) }
+    ensures { let s = packed.now in (result.at ≤ upto) × (Here s.ranks.good.code s.ranks.sigma (row_of s) result.at result.x result.n) × (result.x < 131072)
+        × (result.at < upto → Stuck s.ranks.good.code s.ranks.sigma result.x (drop result.at (row_of s))) }
 {
-    let Packed {
-        code,
-        sigma,
-        buf,
-        ..
-    } = *packed;
-    let few = u32::from(code.s);
-    let many = base_of(code) - few;
+    let Packed { ranks, buf, .. } = *packed;
+    let Ranks { good, sigma, .. } = ranks;
+    let few = u32::from(good.code.s);
+    let many = base_of(good) - few;
     let mut x = way.x;
     let mut n = way.n;
     for at in way.at..upto {
-        let y = u32::from(get(code.k, buf, at));
+        let y = u32::from(get(good.code.k, buf, at));
         if y < few {
             if sigma <= x * few + y {
                 return Way { at, x, n };
@@ -100,12 +95,12 @@ fn by_symbols(packed: &Packed, upto: usize, way: Way) -> Way
 }
 
 // The first symbol of the codeword that is open before symbol `at`: behind the last stopper before it.
-fn opened(code: Code, buf: &[u8], at: usize) -> usize
-    requires { T (good_code code) × (at ≤ length (symbols_of code.k buf.now)) }
-    ensures { result ≡ open_from code 0 0 (take at (symbols_of code.k buf.now)) }
+fn opened(good: GoodCode, buf: &[u8], at: usize) -> usize
+    requires { at ≤ length (symbols_of good.code.k buf.now) }
+    ensures { result ≡ open_from good.code 0 0 (take at (symbols_of good.code.k buf.now)) }
 {
     for p in (0..at).rev() {
-        if get(code.k, buf, p) < code.s {
+        if get(good.code.k, buf, p) < good.code.s {
             return p + 1;
         }
     }
@@ -114,11 +109,11 @@ fn opened(code: Code, buf: &[u8], at: usize) -> usize
 
 // The whole bytes from byte way.at on.
 fn by_bytes(packed: &Packed, whole: usize, way: Way) -> Way
-    requires { let s = packed.now in (whole * per s.code.k ≤ s.h)
-        × (way.at ≤ whole) × (Here s.code s.sigma (row_of s) (way.at * per s.code.k) way.x way.n) × (way.x < 131072) }
-    ensures { let s = packed.now in (result.at ≤ whole) × (Here s.code s.sigma (row_of s) (result.at * per s.code.k) result.x result.n) × (result.x < 131072) }
+    requires { let s = packed.now in (whole * per s.ranks.good.code.k ≤ s.h)
+        × (way.at ≤ whole) × (Here s.ranks.good.code s.ranks.sigma (row_of s) (way.at * per s.ranks.good.code.k) way.x way.n) × (way.x < 131072) }
+    ensures { let s = packed.now in (result.at ≤ whole) × (Here s.ranks.good.code s.ranks.sigma (row_of s) (result.at * per s.ranks.good.code.k) result.x result.n) × (result.x < 131072) }
 {
-    let t = moves_by_byte(packed.code, packed.sigma);
+    let t = moves_by_byte(packed.ranks);
     let parts = Parts {
         bound: &bounds_of(&t),
         times: &part_of(&t, 8),
@@ -130,24 +125,24 @@ fn by_bytes(packed: &Packed, whole: usize, way: Way) -> Way
 
 // What a way says that went as far as it could.
 fn told(packed: &Packed, way: Way) -> Result<usize, BadWord>
-    requires { let s = packed.now in (way.at ≤ s.h) × (Here s.code s.sigma (row_of s) way.at way.x way.n)
-        × (way.at < s.h → Stuck s.code s.sigma way.x (drop way.at (row_of s))) }
-    ensures { let s = packed.now in result ≡ scanned (row_reading s.code s.sigma (row_of s) 0) }
+    requires { let s = packed.now in (way.at ≤ s.h) × (Here s.ranks.good.code s.ranks.sigma (row_of s) way.at way.x way.n)
+        × (way.at < s.h → Stuck s.ranks.good.code s.ranks.sigma way.x (drop way.at (row_of s))) }
+    ensures { let s = packed.now in result ≡ scanned (row_reading s.ranks.good.code s.ranks.sigma (row_of s) 0) }
 {
     if way.at == packed.h && way.x == 0 {
         return Ok(way.n);
     }
     Err(BadWord {
-        first: opened(packed.code, packed.buf, way.at),
+        first: opened(packed.ranks.good, packed.buf, way.at),
     })
 }
 
 // As read_all, where there are so many symbols.
 fn read_bytes(packed: &Packed) -> Result<usize, BadWord>
     requires { 1024 ≤ packed.now.h }
-    ensures { let s = packed.now in result ≡ scanned (row_reading s.code s.sigma (row_of s) 0) }
+    ensures { let s = packed.now in result ≡ scanned (row_reading s.ranks.good.code s.ranks.sigma (row_of s) 0) }
 {
-    let k = packed.code.k;
+    let k = packed.ranks.good.code.k;
     let few = by_symbols(packed, FIRST, Way { at: 0, x: 0, n: 0 });
     if few.at < FIRST {
         return told(packed, few);
@@ -166,19 +161,12 @@ fn read_bytes(packed: &Packed) -> Result<usize, BadWord>
 }
 
 // All codewords from the first on: how many, or where the first bad one begins.
-pub fn read_all(code: Code, sigma: u32, buf: &[u8], h: usize) -> Result<usize, BadWord>
-    requires { Reads code sigma buf.now h 0 }
-    ensures { result ≡ scanned (row_reading code sigma (row_upto code h buf.now) 0) }
+pub fn read_all(packed: &Packed) -> Result<usize, BadWord>
+    ensures { let s = packed.now in result ≡ scanned (row_reading s.ranks.good.code s.ranks.sigma (row_of s) 0) }
 {
-    let packed = Packed {
-        code,
-        sigma,
-        buf,
-        h,
-    };
-    if FEW <= h {
-        return read_bytes(&packed);
+    if FEW <= packed.h {
+        return read_bytes(packed);
     }
-    let all = by_symbols(&packed, h, Way { at: 0, x: 0, n: 0 });
-    told(&packed, all)
+    let all = by_symbols(packed, packed.h, Way { at: 0, x: 0, n: 0 });
+    told(packed, all)
 }

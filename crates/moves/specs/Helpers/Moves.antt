@@ -5,11 +5,9 @@ use Rattle.stopper.specs.Paper.Table.{base}
 use Rattle.stopper.specs.declared.code.Code.{Code}
 use Rattle.symbols.specs.Paper.Symbols.{symbols_of}
 use Rattle.symbols.specs.Helpers.Gathered.{digits}
-use Rattle.reading.specs.Paper.Reading.{row_upto}
 use Rattle.moves.specs.Helpers.States.{state_after, ranks_ended}
 use Rattle.moves.specs.declared.byte.Move.{Move}
 use Rattle.moves.specs.declared.byte.Parts.{Parts}
-use Rattle.moves.specs.declared.packed.Packed.{Packed}
 
 -- the symbols w move each state X below the bound to X * times + add, and end so many codewords, all good: wherever they stand
 pub record Goes (c : Code) (σ : ℕ) (w : List ℕ) (bound times add stops : ℕ) : Type 0 where
@@ -76,10 +74,6 @@ PartIn part t n r = (b : ℕ) → b < n → get_or r b 0 ≡ part (get_or t b 0)
 pub record Rows (c : Code) (σ : ℕ) (p : Parts) : Type 0 where
   pub low : (b : ℕ) → b < 256 → get_or p.bound.now b 0 < 512
   pub moves : (b : ℕ) → b < 256 → Goes c σ (symbols_of c.k (b ∷ [])) (get_or p.bound.now b 0) (get_or p.times.now b 0) (get_or p.plus.now b 0) (get_or p.stops.now b 0)
-
--- the symbols that are read
-abbrev pub row_of : Packed → List ℕ
-row_of s = row_upto s.code s.h s.buf.now
 
 -- before symbol q of a row the state is x, after n codewords, all good
 pub record Here (c : Code) (σ : ℕ) (row : List ℕ) (q x n : ℕ) : Type 0 where

@@ -29,20 +29,20 @@ few : (size b y w : ℕ) → size * b ≤ 256 → y < b → w < size → y * siz
 few size b y w h l k = omega (arith, mul-le-mul_right size l)
 
 pub symbol_before-requires : goal.symbol_before-requires
-symbol_before-requires c = (c.requires.0, c.requires.1, omega (arith, code_base c.args.code c.requires.0))
+symbol_before-requires c = omega (arith, code_base c.args.ranks.good.code c.args.ranks.good.good)
 
 pub loop-w-preserved : goal.loop-w-preserved
 loop-w-preserved c =
-    let code = c.args.code in
+    let code = c.args.ranks.good.code in
     let y : c.loop-y.y < base code = omega arith in (
       simp length-set c.loop-w.invariant.0,
-      one_more code c.args.sigma c.args.size c.args.t.now c.loop-w.r c.loop-y.y c.loop-w.w c.symbol_before.result y c.loop-w-test.true
-          (omega (arith, few c.args.size (base code) c.loop-y.y c.loop-w.w c.requires.3 y c.loop-w-test.true, c.loop-w.invariant.0)) c.symbol_before.ensures c.loop-w.invariant.1,
+      one_more code c.args.ranks.sigma c.args.size c.args.t.now c.loop-w.r c.loop-y.y c.loop-w.w c.symbol_before.result y c.loop-w-test.true
+          (omega (arith, few c.args.size (base code) c.loop-y.y c.loop-w.w c.requires.1 y c.loop-w-test.true, c.loop-w.invariant.0)) c.symbol_before.ensures c.loop-w.invariant.1,
     )
 
 pub returns : goal.returns
 returns c = λ n e m u h.
-    let b = base c.args.code in
+    let b = base c.args.ranks.good.code in
     let s : b ^ suc n ≡ c.args.size * b = pow-suc b n ∙ ap (λ (k : ℕ). k * b) (sym e) in
     let l : b * c.args.size ≤ c.loop-y.y * c.args.size = mul-le-mul_right c.args.size (omega arith) in
     c.loop-y.invariant.1 n e m u (omega (arith, s))

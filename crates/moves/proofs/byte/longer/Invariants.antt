@@ -11,7 +11,7 @@ Done code sigma size t r v =
     (n : ℕ) → size ≡ base code ^ n → MovesOf code sigma n t → (u : ℕ) → u < v → MoveIn code sigma (digits (base code) (suc n) u) (get_or r u 0)
 
 abbrev pub invariant-loop-y : goal.invariant-loop-y
-invariant-loop-y l = (length l.r ≡ 256) × Done l.code l.sigma l.size l.t l.r (l.y * l.size)
+invariant-loop-y l = (length l.r ≡ 256) × Done l.ranks.good.code l.ranks.sigma l.size l.t l.r (l.y * l.size)
 
 abbrev pub invariant-loop-w : goal.invariant-loop-w
-invariant-loop-w l = (length l.r ≡ 256) × Done l.code l.sigma l.size l.t l.r (l.y * l.size + l.w)
+invariant-loop-w l = (length l.r ≡ 256) × Done l.ranks.good.code l.ranks.sigma l.size l.t l.r (l.y * l.size + l.w)

@@ -11,22 +11,22 @@ high : (code : Code) → T (good_code code) → {b s : ℕ} → b ≡ base code 
 high code g e f = omega (arith, (code_good code g).high 0)
 
 pub overflow_sub-c : goal.overflow_sub-c
-overflow_sub-c c = omega (arith, high c.args.code c.requires.0 c.base_of.ensures c.stoppers_at-s.ensures)
+overflow_sub-c c = omega (arith, high c.args.good.code c.args.good.good c.base_of.ensures c.stoppers_at-s.ensures)
 
 pub overflow_mul-times : goal.overflow_mul-times
 overflow_mul-times c =
     omega (
       arith,
-      mul-le-mul {n₁ = c.base_of.result - c.stoppers_at-s.result} {m₁ = c.args.m.times} {n₂ = 16} {m₂ = 255} (omega (arith, c.base_of.ensures, code_base c.args.code c.requires.0)) c.requires.1.times,
+      mul-le-mul {n₁ = c.base_of.result - c.stoppers_at-s.result} {m₁ = c.args.m.times} {n₂ = 16} {m₂ = 255} (omega (arith, c.base_of.ensures, code_base c.args.good.code c.args.good.good)) c.requires.0.times,
     )
 
 pub upto-requires : goal.upto-requires
-upto-requires c = (omega arith, omega (arith, high c.args.code c.requires.0 c.base_of.ensures c.stoppers_at-s.ensures))
+upto-requires c = (omega arith, omega (arith, high c.args.good.code c.args.good.good c.base_of.ensures c.stoppers_at-s.ensures))
 
 pub returns : goal.returns
 returns c =
     let good = c.upto.ensures.0 in (
-      record { bound = omega arith; times = c.if-times-gt255.false; plus = c.if-plus-gt255.false; stops = c.requires.1.stops },
-      λ w h. rw (c.stoppers_at-s.ensures, c.base_of.ensures) (goes_more c.args.code c.args.sigma c.args.y c.upto.result h c.requires.2
+      record { bound = omega arith; times = c.if-times-gt255.false; plus = c.if-plus-gt255.false; stops = c.requires.0.stops },
+      λ sigma w h. rw (c.stoppers_at-s.ensures, c.base_of.ensures) (goes_more c.args.good.code sigma c.args.y c.upto.result h c.requires.1
           (λ x l. rw (← c.stoppers_at-s.ensures, ← c.base_of.ensures) (omega (arith, good x l)))),
     )

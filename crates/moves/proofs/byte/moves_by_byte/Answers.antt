@@ -19,35 +19,35 @@ room code g n h =
     (omega (arith, pow-zero (base code), start), omega (arith, pow-suc (base code) n, end, byte_values code g))
 
 pub per_byte-n-end-requires : goal.per_byte-n-end-requires
-per_byte-n-end-requires c = code_width c.args.code c.requires.0
+per_byte-n-end-requires c = code_width c.args.ranks.good.code c.args.ranks.good.good
 
 pub loop-n-init : goal.loop-n-init
 unfolding zeros
 loop-n-init c =
-    let code = c.args.code in
+    let code = c.args.ranks.good.code in
     let one = c.in_one.result in
-    (sym (pow-zero (base code)), moves_start code c.args.sigma (set (zeros 256) 0 one) (move_in code c.args.sigma [] one _ c.in_one.ensures (goes_none code c.args.sigma 256)))
+    (sym (pow-zero (base code)), moves_start code c.args.ranks.sigma (set (zeros 256) 0 one) (move_in code c.args.ranks.sigma [] one _ c.in_one.ensures (goes_none code c.args.ranks.sigma 256)))
 
 pub longer-t-requires : goal.longer-t-requires
 longer-t-requires c =
-    let (some, few) = room c.args.code c.requires.0 c.loop-n._n (omega (arith, c.per_byte-n-end.ensures)) in
-    (c.requires.0, c.requires.1, rw c.loop-n.invariant.0 some, rw c.loop-n.invariant.0 few)
+    let (some, few) = room c.args.ranks.good.code c.args.ranks.good.good c.loop-n._n (omega (arith, c.per_byte-n-end.ensures)) in
+    (rw c.loop-n.invariant.0 some, rw c.loop-n.invariant.0 few)
 
 pub overflow_mul-size : goal.overflow_mul-size
 overflow_mul-size c =
-    let (_, few) = room c.args.code c.requires.0 c.loop-n._n (omega (arith, c.per_byte-n-end.ensures)) in
+    let (_, few) = room c.args.ranks.good.code c.args.ranks.good.good c.loop-n._n (omega (arith, c.per_byte-n-end.ensures)) in
     rw (c.loop-n.invariant.0, c.base_of-base.ensures) (omega (arith, few))
 
 pub loop-n-preserved : goal.loop-n-preserved
 loop-n-preserved c =
     let n = c.loop-n._n in
     rw (add-one n) (
-      rw (c.loop-n.invariant.0, c.base_of-base.ensures) (sym (pow-suc (base c.args.code) n)),
+      rw (c.loop-n.invariant.0, c.base_of-base.ensures) (sym (pow-suc (base c.args.ranks.good.code) n)),
       c.longer-t.ensures n c.loop-n.invariant.0 c.loop-n.invariant.1,
     )
 
 pub returns : goal.returns
 returns c =
-    let code = c.args.code in
+    let code = c.args.ranks.good.code in
     let all : c.loop-n._n ≡ per code.k = omega (arith, c.per_byte-n-end.ensures) in
-    moves_bytes code c.args.sigma c.requires.0 c.loop-n.t (subst (λ (n : ℕ). MovesOf code c.args.sigma n c.loop-n.t) all c.loop-n.invariant.1)
+    moves_bytes code c.args.ranks.sigma c.args.ranks.good.good c.loop-n.t (subst (λ (n : ℕ). MovesOf code c.args.ranks.sigma n c.loop-n.t) all c.loop-n.invariant.1)

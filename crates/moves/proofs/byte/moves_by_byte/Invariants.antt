@@ -4,4 +4,4 @@ use Rattle.moves.specs.Helpers.Moves.{MovesOf}
 use Rattle.moves.proofs.byte.moves_by_byte.Given as goal
 
 abbrev pub invariant-loop-n : goal.invariant-loop-n
-invariant-loop-n l = (l.size ≡ base l.code ^ l._n) × MovesOf l.code l.sigma l._n l.t
+invariant-loop-n l = (l.size ≡ base l.ranks.good.code ^ l._n) × MovesOf l.ranks.good.code l.ranks.sigma l._n l.t

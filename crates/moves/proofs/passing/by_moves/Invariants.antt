@@ -1,6 +1,7 @@
 use Rattle.std.proofs.Common.{◌-◌, ◌*◌, ◌≤◌, ◌<◌}
 use Rattle.symbols.specs.Paper.Symbols.{per}
-use Rattle.moves.specs.Helpers.Moves.{row_of, Here}
+use Rattle.reading.specs.Helpers.Codewords.{row_of}
+use Rattle.moves.specs.Helpers.Moves.{Here}
 use Rattle.moves.proofs.passing.by_moves.Given as goal
 
 abbrev pub invariant-loop-at : goal.invariant-loop-at
@@ -9,7 +10,7 @@ invariant-loop-at l =
     record {
       inside : l.at ≤ l.whole;
       small : l.x < 131072;
-      here : Here s.code s.sigma (row_of s) (l.at * per s.code.k) l.x l.n;
+      here : Here s.ranks.good.code s.ranks.sigma (row_of s) (l.at * per s.ranks.good.code.k) l.x l.n;
     }
 
 abbrev pub decreases-loop-at : goal.decreases-loop-at

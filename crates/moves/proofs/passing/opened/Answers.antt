@@ -7,11 +7,11 @@ use Rattle.moves.specs.Laws.States.{open_last_stop, open_last_more}
 use Rattle.moves.proofs.passing.opened.Goals as goal
 
 pub get-requires : goal.get-requires
-get-requires c = (code_width c.args.code c.requires.0, omega arith)
+get-requires c = (code_width c.args.good.code c.args.good.good, omega arith)
 
-pub returns-then-get-code : goal.returns-then-get-code
-returns-then-get-code c =
-    let code = c.args.code in
+pub returns-then-get-good : goal.returns-then-get-good
+returns-then-get-good c =
+    let code = c.args.good.code in
     let all = symbols_of code.k c.args.buf.now in
     let p = c.loop-p.p in
     let e : suc (p - 1) ≡ p = omega arith in
@@ -20,7 +20,7 @@ returns-then-get-code c =
 
 pub loop-p-preserved : goal.loop-p-preserved
 loop-p-preserved c =
-    let code = c.args.code in
+    let code = c.args.good.code in
     let all = symbols_of code.k c.args.buf.now in
     let p = c.loop-p.p in
     let e : suc (p - 1) ≡ p = omega arith in

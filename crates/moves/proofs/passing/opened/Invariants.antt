@@ -5,4 +5,4 @@ use Rattle.moves.proofs.passing.opened.Given as goal
 
 -- no codeword starts between symbol p and symbol `at`
 abbrev pub invariant-loop-p : goal.invariant-loop-p
-invariant-loop-p l = open_from l.code 0 0 (take l.at (symbols_of l.code.k l.buf)) ≡ open_from l.code 0 0 (take l.p (symbols_of l.code.k l.buf))
+invariant-loop-p l = open_from l.good.code 0 0 (take l.at (symbols_of l.good.code.k l.buf)) ≡ open_from l.good.code 0 0 (take l.p (symbols_of l.good.code.k l.buf))

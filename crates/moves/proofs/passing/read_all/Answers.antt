@@ -1,6 +1,6 @@
 -- `moves::passing::read_all` meets its contract.
 use native.Mathlib.Omega.{arith}
-use Rattle.reading.specs.Paper.Reading.{row_upto}
+use Rattle.reading.specs.Helpers.Codewords.{row_of}
 use Rattle.moves.specs.Laws.Moves.{here_start}
 use Rattle.moves.proofs.passing.read_all.Goals as goal
 
@@ -8,7 +8,7 @@ pub by_symbols-all-requires : goal.by_symbols-all-requires
 by_symbols-all-requires c = (
   omega arith,
   omega arith,
-  here_start c.args.code c.args.sigma (row_upto c.args.code c.args.h c.args.buf.now),
+  here_start c.args.packed.now.ranks.good.code c.args.packed.now.ranks.sigma (row_of c.args.packed.now),
   omega arith,
 )
 
