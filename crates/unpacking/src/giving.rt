@@ -1,11 +1,11 @@
 // What characters the symbols of a byte give (specs/Helpers/Gives).
-ghost use Rattle.std.specs.Prelude.{◌≡◌, List, ◌∷◌, [], ℕ, ◌≤◌, ◌<◌, T, length, IfSome};
-ghost use Rattle.stopper.specs.Paper.Table.{stoppers, good_code};
+ghost use Rattle.std.specs.Prelude.{◌≡◌, List, ◌∷◌, [], ℕ, ◌≤◌, ◌<◌, length, IfSome};
+ghost use Rattle.stopper.specs.Paper.Table.{stoppers};
 ghost use Rattle.symbols.specs.Paper.Symbols.{symbols_of};
 ghost use Rattle.unpacking.specs.Helpers.Gives.{Says, KnownByByte, first_times, first_plus, later_in};
 
 use moves::byte::moves_by_byte;
-use stopper::code::{Code, base_of, stoppers_at};
+use stopper::code::{GoodCode, Ranks, base_of, stoppers_at};
 use symbols::bits::per_byte;
 use symbols::symbol::get;
 
@@ -27,11 +27,11 @@ pub struct AllKnown {
 }
 
 // A stopper before what g says.
-fn stop_gives(code: Code, places: &[u8; 256], y: u8, g: Gives) -> Gives
-    requires { T (good_code code) × (y < stoppers code 0) }
-    ensures { (w : List ℕ) → length w ≤ 3 → Says code places.now w g → Says code places.now (y ∷ w) result }
+fn stop_gives(good: GoodCode, places: &[u8; 256], y: u8, g: Gives) -> Gives
+    requires { y < stoppers good.code 0 }
+    ensures { (w : List ℕ) → length w ≤ 3 → Says good.code places.now w g → Says good.code places.now (y ∷ w) result }
 {
-    let times = stoppers_at(code, 0) as u8;
+    let times = stoppers_at(good.code, 0) as u8;
     Gives {
         times,
         plus: y,
@@ -42,12 +42,12 @@ fn stop_gives(code: Code, places: &[u8; 256], y: u8, g: Gives) -> Gives
 }
 
 // A continuer before what g says: it is not known where its numbers are too great for bytes.
-fn more_gives(code: Code, y: u8, g: Gives) -> Option<Gives>
-    requires { T (good_code code) × (stoppers code 0 ≤ y) × (y < 16) }
-    ensures { (places w : List ℕ) → Says code places w g → IfSome result (Says code places (y ∷ w)) }
+fn more_gives(good: GoodCode, y: u8, g: Gives) -> Option<Gives>
+    requires { (stoppers good.code 0 ≤ y) × (y < 16) }
+    ensures { (places w : List ℕ) → Says good.code places w g → IfSome result (Says good.code places (y ∷ w)) }
 {
-    let s = stoppers_at(code, 0);
-    let c = base_of(code) - s;
+    let s = stoppers_at(good.code, 0);
+    let c = base_of(good) - s;
     let d = u32::from(y) - s + 1;
     let times = u8::try_from(c * u32::from(g.times)).ok()?;
     let plus = u8::try_from(d * u32::from(g.times) + u32::from(g.plus)).ok()?;
@@ -55,21 +55,20 @@ fn more_gives(code: Code, y: u8, g: Gives) -> Option<Gives>
 }
 
 // A symbol before what g says.
-fn gives_before(code: Code, places: &[u8; 256], y: u8, g: Gives) -> Option<Gives>
-    requires { T (good_code code) × (y < 16) }
-    ensures { (w : List ℕ) → length w ≤ 3 → Says code places.now w g → IfSome result (Says code places.now (y ∷ w)) }
+fn gives_before(good: GoodCode, places: &[u8; 256], y: u8, g: Gives) -> Option<Gives>
+    requires { y < 16 }
+    ensures { (w : List ℕ) → length w ≤ 3 → Says good.code places.now w g → IfSome result (Says good.code places.now (y ∷ w)) }
 {
-    if u32::from(y) < stoppers_at(code, 0) {
-        Some(stop_gives(code, places, y, g))
+    if u32::from(y) < stoppers_at(good.code, 0) {
+        Some(stop_gives(good, places, y, g))
     } else {
-        more_gives(code, y, g)
+        more_gives(good, y, g)
     }
 }
 
 // What byte b gives, from its last symbol to the first.
-fn gives_of(code: Code, places: &[u8; 256], b: u8) -> Option<Gives>
-    requires { T (good_code code) }
-    ensures { IfSome result (Says code places.now (symbols_of code.k (b ∷ []))) }
+fn gives_of(good: GoodCode, places: &[u8; 256], b: u8) -> Option<Gives>
+    ensures { IfSome result (Says good.code places.now (symbols_of good.code.k (b ∷ []))) }
 {
     let mut g = Gives {
         times: 0,
@@ -78,8 +77,9 @@ fn gives_of(code: Code, places: &[u8; 256], b: u8) -> Option<Gives>
         third: 0,
         fourth: 0,
     };
-    for t in (0..per_byte(code.k)).rev() {
-        g = gives_before(code, places, get(code.k, &[b], t), g)?;
+    let k = good.code.k;
+    for t in (0..per_byte(k)).rev() {
+        g = gives_before(good, places, get(k, &[b], t), g)?;
     }
     Some(g)
 }
@@ -92,14 +92,13 @@ fn gives_in_one(g: Gives) -> u64
 }
 
 // Those of all byte values. Where it is not known what a byte gives, its move is 0: of no state.
-pub fn known_by_byte(code: Code, sigma: u32, places: &[u8; 256]) -> AllKnown
-    requires { T (good_code code) × (sigma ≤ 256) }
-    ensures { KnownByByte code sigma places.now result.go result.gives }
+pub fn known_by_byte(ranks: Ranks, places: &[u8; 256]) -> AllKnown
+    ensures { KnownByByte ranks.good.code ranks.sigma places.now result.go result.gives }
 {
     let mut go = [0u32; 256];
     let mut gives = [0u64; 256];
-    for (b, e) in moves_by_byte(code, sigma).iter().enumerate() {
-        if let Some(g) = gives_of(code, places, b as u8) {
+    for (b, e) in moves_by_byte(ranks).iter().enumerate() {
+        if let Some(g) = gives_of(ranks.good, places, b as u8) {
             go[b] = *e;
             gives[b] = gives_in_one(g);
         }

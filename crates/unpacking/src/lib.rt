@@ -3,4 +3,4 @@
 
 pub mod giving;
 pub mod range;
-mod task;
+pub mod task;

@@ -31,31 +31,31 @@ module _ (code : Code) (g : T (good_code code)) (b : ℕ) where
     short = omega (arith, length-drop t all, symbols_length code.k (b ∷ []), per_few (code_width code g))
 
 pub per_byte-t-requires : goal.per_byte-t-requires
-per_byte-t-requires c = code_width c.args.code c.requires
+per_byte-t-requires c = code_width c.args.good.code c.args.good.good
 
 pub loop-t-init : goal.loop-t-init
 loop-t-init c =
-    let all = symbols_of c.args.code.k (c.args.b ∷ []) in
-    let none : drop c.per_byte-t.result all ≡ [] = drop_of_length-le all (omega (arith, symbols_length c.args.code.k (c.args.b ∷ []), c.per_byte-t.ensures)) in
-    rw none (spells_none c.args.code c.args.places.now _)
+    let all = symbols_of c.args.good.code.k (c.args.b ∷ []) in
+    let none : drop c.per_byte-t.result all ≡ [] = drop_of_length-le all (omega (arith, symbols_length c.args.good.code.k (c.args.b ∷ []), c.per_byte-t.ensures)) in
+    rw none (spells_none c.args.good.code c.args.places.now _)
 
 pub get-requires : goal.get-requires
-get-requires c = (code_width c.args.code c.requires, inside c.args.code c.requires c.args.b c.loop-t.t c.loop-t-test.true (omega (arith, c.per_byte-t.ensures)))
+get-requires c = (code_width c.args.good.code c.args.good.good, inside c.args.good.code c.args.good.good c.args.b c.loop-t.t c.loop-t-test.true (omega (arith, c.per_byte-t.ensures)))
 
 pub gives_before-requires : goal.gives_before-requires
 gives_before-requires c =
-    (c.requires, omega (arith, c.get.ensures, small c.args.code c.requires c.args.b c.loop-t.t c.loop-t-test.true (omega (arith, c.per_byte-t.ensures))))
+    omega (arith, c.get.ensures, small c.args.good.code c.args.good.good c.args.b c.loop-t.t c.loop-t-test.true (omega (arith, c.per_byte-t.ensures)))
 
 pub loop-t-preserved : goal.loop-t-preserved
 loop-t-preserved c =
-    let code = c.args.code in
+    let code = c.args.good.code in
     let b = c.args.b in
     let t = c.loop-t.t in
     let some = c.loop-t-test.true in
     let l : t ≤ per code.k = omega (arith, c.per_byte-t.ensures) in
     let rest = drop t (symbols_of code.k (b ∷ [])) in
-    let e = split code c.requires b t some l ∙ ap (λ (y : ℕ). y ∷ rest) (sym c.get.ensures) in
-    rw e (c.in_ok-g.ensures rest (short code c.requires b t some l) c.loop-t.invariant)
+    let e = split code c.args.good.good b t some l ∙ ap (λ (y : ℕ). y ∷ rest) (sym c.get.ensures) in
+    rw e (c.in_ok-g.ensures rest (short code c.args.good.good b t some l) c.loop-t.invariant)
 
 pub returns : goal.returns
 returns c =

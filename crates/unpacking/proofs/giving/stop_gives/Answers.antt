@@ -5,7 +5,7 @@ use Rattle.unpacking.specs.Laws.Gives.{spells_stop}
 use Rattle.unpacking.proofs.giving.stop_gives.Goals as goal
 
 pub overflow_cast-times : goal.overflow_cast-times
-overflow_cast-times c = omega (arith, c.stoppers_at-times.ensures, (code_good c.args.code c.requires.0).high 0, code_base c.args.code c.requires.0)
+overflow_cast-times c = omega (arith, c.stoppers_at-times.ensures, (code_good c.args.good.code c.args.good.good).high 0, code_base c.args.good.code c.args.good.good)
 
 pub returns : goal.returns
-returns c = λ w l f. rw (c.stoppers_at-times.ensures, c.from.ensures) (spells_stop c.args.code c.args.places.now c.args.y c.requires.1 l f)
+returns c = λ w l f. rw (c.stoppers_at-times.ensures, c.from.ensures) (spells_stop c.args.good.code c.args.places.now c.args.y c.requires l f)

@@ -13,24 +13,24 @@ use Rattle.unpacking.specs.declared.task.Task.{Task}
 use Rattle.unpacking.specs.Laws.Gives.{ranks_few, spells_first, wrote_byte, wrote_as, back_kept}
 use Rattle.unpacking.proofs.range.write_known.Goals as goal
 
-module _ (s : Task) (j whole : ℕ) (v : whole * per s.code.k ≤ s.h) (l : j < whole) where
+module _ (s : Task) (j whole : ℕ) (v : whole * per s.packed.ranks.good.code.k ≤ s.packed.h) (l : j < whole) where
   -- byte j is whole
-  inside : suc j * per s.code.k ≤ s.h
-  inside = omega (arith, mul-le-mul_right (per s.code.k) l)
+  inside : suc j * per s.packed.ranks.good.code.k ≤ s.packed.h
+  inside = omega (arith, mul-le-mul_right (per s.packed.ranks.good.code.k) l)
 
-  in_buffer : j < length s.buf.now
-  in_buffer = let w = code_width s.code s.unpacks.reads.good in starts_within w s.buf.now j (omega (arith, inside, per_pos w, s.unpacks.reads.held))
+  in_buffer : j < length s.packed.buf.now
+  in_buffer = let w = code_width s.packed.ranks.good.code s.unpacks.reads.good in starts_within w s.packed.buf.now j (omega (arith, inside, per_pos w, s.unpacks.reads.held))
 
   -- it is b, and what b gives is known at the state x
-  module _ (t u : List ℕ) (known : KnownByByte s.code s.sigma s.places.now t u) {b x : ℕ} (e : b ≡ get_or s.buf.now j 0) (taken : x < bound_in (get_or t b 0)) where
-    short : length (symbols_of s.code.k (b ∷ [])) ≤ 4
-    short = omega (arith, symbols_length s.code.k (b ∷ []), per_few (code_width s.code s.unpacks.reads.good))
+  module _ (t u : List ℕ) (known : KnownByByte s.packed.ranks.good.code s.packed.ranks.sigma s.places.now t u) {b x : ℕ} (e : b ≡ get_or s.packed.buf.now j 0) (taken : x < bound_in (get_or t b 0)) where
+    short : length (symbols_of s.packed.ranks.good.code.k (b ∷ [])) ≤ 4
+    short = omega (arith, symbols_length s.packed.ranks.good.code.k (b ∷ []), per_few (code_width s.packed.ranks.good.code s.unpacks.reads.good))
 
     ended_few : stops_in (get_or t b 0) ≤ 4
-    ended_few = omega (arith, (known b).0.ends x taken, ranks_few s.code (symbols_of s.code.k (b ∷ [])) x, short)
+    ended_few = omega (arith, (known b).0.ends x taken, ranks_few s.packed.ranks.good.code (symbols_of s.packed.ranks.good.code.k (b ∷ [])) x, short)
 
     rank_small : x * first_times (get_or u b 0) + first_plus (get_or u b 0) < 256
-    rank_small = spells_first s.code s.places.now ((known b).1 (omega (arith, taken))) x ((known b).0.good x taken) s.unpacks.reads.few
+    rank_small = spells_first s.packed.ranks.good.code s.places.now ((known b).1 (omega (arith, taken))) x ((known b).0.good x taken) s.unpacks.reads.few
 
     one_byte : {out : List ℕ} {n : ℕ} → WrittenBytes s out (record { at = j; x = x; n = n }) → n + 4 ≤ length out
         → let g = get_or u b 0 in
@@ -38,10 +38,10 @@ module _ (s : Task) (j whole : ℕ) (v : whole * per s.code.k ≤ s.h) (l : j < 
         WrittenBytes s (set (set (set (set out n first) (n + 1) (part_in 16 g)) (n + 2) (part_in 24 g)) (n + 3) (part_in 32 g))
         (record { at = j + 1; x = x * times_in (get_or t b 0) + plus_in (get_or t b 0); n = n + stops_in (get_or t b 0) })
     one_byte w room =
-        let rest = drop (suc j * per s.code.k) (row_upto s.code s.h s.buf.now) in
-        let split : drop (j * per s.code.k) (row_upto s.code s.h s.buf.now) ≡ symbols_of s.code.k (b ∷ []) ++ rest
-        = byte_split s.code s.unpacks.reads.good s.buf.now s.h j inside s.unpacks.reads.held ∙ ap (λ (y : ℕ). symbols_of s.code.k (y ∷ []) ++ rest) (sym e) in
-        let at : (j + 1) * per s.code.k ≡ j * per s.code.k + length (symbols_of s.code.k (b ∷ [])) = omega (arith, symbols_length s.code.k (b ∷ [])) in
+        let rest = drop (suc j * per s.packed.ranks.good.code.k) (row_upto s.packed.ranks.good.code s.packed.h s.packed.buf.now) in
+        let split : drop (j * per s.packed.ranks.good.code.k) (row_upto s.packed.ranks.good.code s.packed.h s.packed.buf.now) ≡ symbols_of s.packed.ranks.good.code.k (b ∷ []) ++ rest
+        = byte_split s.packed.ranks.good.code s.unpacks.reads.good s.packed.buf.now s.packed.h j inside s.unpacks.reads.held ∙ ap (λ (y : ℕ). symbols_of s.packed.ranks.good.code.k (y ∷ []) ++ rest) (sym e) in
+        let at : (j + 1) * per s.packed.ranks.good.code.k ≡ j * per s.packed.ranks.good.code.k + length (symbols_of s.packed.ranks.good.code.k (b ∷ [])) = omega (arith, symbols_length s.packed.ranks.good.code.k (b ∷ [])) in
         wrote_as at refl refl (wrote_byte w rest split (known b).0 taken ((known b).1 (omega (arith, taken))) short room)
 
 pub bounds-buf-at : goal.bounds-buf-at

@@ -17,20 +17,20 @@ use Rattle.unpacking.proofs.range.write_symbols.Goals.{then-y-few, else-y-few}
 few_is : (code : Code) {s : ℕ} → s ≡ code.s → s ≡ few code
 few_is code e = e ∙ sym (one_number code 0)
 
-module _ (t : Task) (at : ℕ) (l : at < t.h) where
+module _ (t : Task) (at : ℕ) (l : at < t.packed.h) where
   -- symbol `at` is one of the row's
-  inside : at < length (row_upto t.code t.h t.buf.now)
-  inside = omega (arith, length-take-le t.h (symbols_of t.code.k t.buf.now) t.unpacks.reads.held)
+  inside : at < length (row_upto t.packed.ranks.good.code t.packed.h t.packed.buf.now)
+  inside = omega (arith, length-take-le t.packed.h (symbols_of t.packed.ranks.good.code.k t.packed.buf.now) t.unpacks.reads.held)
 
-  symbol_is : get_or (symbols_of t.code.k t.buf.now) at 0 ≡ get_or (row_upto t.code t.h t.buf.now) at 0
-  symbol_is = sym (get_or-take t.h (symbols_of t.code.k t.buf.now) at 0 l)
+  symbol_is : get_or (symbols_of t.packed.ranks.good.code.k t.packed.buf.now) at 0 ≡ get_or (row_upto t.packed.ranks.good.code t.packed.h t.packed.buf.now) at 0
+  symbol_is = sym (get_or-take t.packed.h (symbols_of t.packed.ranks.good.code.k t.packed.buf.now) at 0 l)
 
   -- it is y, of a code with s stoppers among b symbols
   module _ {out : List ℕ} {x n b s y : ℕ} (w : Written t out (record { at = at; x = x; n = n }))
-      (e : b ≡ base t.code) (f : s ≡ few t.code) (i : y ≡ get_or (symbols_of t.code.k t.buf.now) at 0) where
+      (e : b ≡ base t.packed.ranks.good.code) (f : s ≡ few t.packed.ranks.good.code) (i : y ≡ get_or (symbols_of t.packed.ranks.good.code.k t.packed.buf.now) at 0) where
     many_small : x * (b - s) ≤ 255 * 16
     many_small =
-        mul-le-mul {n₁ = x} {m₁ = b - s} {n₂ = 255} {m₂ = 16} (omega (arith, way_small t.unpacks w)) (omega (arith, e, code_base t.code t.unpacks.reads.good))
+        mul-le-mul {n₁ = x} {m₁ = b - s} {n₂ = 255} {m₂ = 16} (omega (arith, way_small t.unpacks w)) (omega (arith, e, code_base t.packed.ranks.good.code t.unpacks.reads.good))
 
     rank_small : y < s → x * s + y < 256
     rank_small k =
@@ -47,40 +47,40 @@ module _ (t : Task) (at : ℕ) (l : at < t.h) where
 
 pub overflow_sub-many : goal.overflow_sub-many
 overflow_sub-many c =
-    let code = c.args.task.now.code in
+    let code = c.args.task.now.packed.ranks.good.code in
     omega (arith, few_is code c.from-few.ensures, (code_good code c.args.task.now.unpacks.reads.good).high 0)
 
 pub get-requires : goal.get-requires
 get-requires c =
     let z = c.args.task.now.unpacks.reads in
-    (code_width c.args.task.now.code z.good, omega (arith, z.held))
+    (code_width c.args.task.now.packed.ranks.good.code z.good, omega (arith, z.held))
 
 pub overflow_mul-out : goal.overflow_mul-out
 overflow_mul-out c =
-    omega (arith, rank_small c.args.task.now c.loop-at.at (omega arith) c.loop-at.invariant.wrote c.base_of.ensures (few_is c.args.task.now.code c.from-few.ensures) (c.from-y.ensures ∙ c.get.ensures) c.if-y-few.true)
+    omega (arith, rank_small c.args.task.now c.loop-at.at (omega arith) c.loop-at.invariant.wrote c.base_of.ensures (few_is c.args.task.now.packed.ranks.good.code c.from-few.ensures) (c.from-y.ensures ∙ c.get.ensures) c.if-y-few.true)
 
 pub overflow_add-out : goal.overflow_add-out
 overflow_add-out c =
-    omega (arith, rank_small c.args.task.now c.loop-at.at (omega arith) c.loop-at.invariant.wrote c.base_of.ensures (few_is c.args.task.now.code c.from-few.ensures) (c.from-y.ensures ∙ c.get.ensures) c.if-y-few.true)
+    omega (arith, rank_small c.args.task.now c.loop-at.at (omega arith) c.loop-at.invariant.wrote c.base_of.ensures (few_is c.args.task.now.packed.ranks.good.code c.from-few.ensures) (c.from-y.ensures ∙ c.get.ensures) c.if-y-few.true)
 
 pub bounds-places-x : goal.bounds-places-x
 bounds-places-x c =
-    rank_small c.args.task.now c.loop-at.at (omega arith) c.loop-at.invariant.wrote c.base_of.ensures (few_is c.args.task.now.code c.from-few.ensures) (c.from-y.ensures ∙ c.get.ensures) c.if-y-few.true
+    rank_small c.args.task.now c.loop-at.at (omega arith) c.loop-at.invariant.wrote c.base_of.ensures (few_is c.args.task.now.packed.ranks.good.code c.from-few.ensures) (c.from-y.ensures ∙ c.get.ensures) c.if-y-few.true
 
 pub overflow_mul-x : goal.overflow_mul-x
 overflow_mul-x c =
-    omega (arith, many_small c.args.task.now c.loop-at.at (omega arith) c.loop-at.invariant.wrote c.base_of.ensures (few_is c.args.task.now.code c.from-few.ensures) (c.from-y.ensures ∙ c.get.ensures))
+    omega (arith, many_small c.args.task.now c.loop-at.at (omega arith) c.loop-at.invariant.wrote c.base_of.ensures (few_is c.args.task.now.packed.ranks.good.code c.from-few.ensures) (c.from-y.ensures ∙ c.get.ensures))
 
 pub overflow_add-x-else-y-few : goal.overflow_add-x-else-y-few
 overflow_add-x-else-y-few c =
-    omega (arith, many_small c.args.task.now c.loop-at.at (omega arith) c.loop-at.invariant.wrote c.base_of.ensures (few_is c.args.task.now.code c.from-few.ensures) (c.from-y.ensures ∙ c.get.ensures))
+    omega (arith, many_small c.args.task.now c.loop-at.at (omega arith) c.loop-at.invariant.wrote c.base_of.ensures (few_is c.args.task.now.packed.ranks.good.code c.from-few.ensures) (c.from-y.ensures ∙ c.get.ensures))
 
 pub loop-at-preserved : goal.loop-at-preserved
 loop-at-preserved c =
     let t = c.args.task.now in
     let at = c.loop-at.at in
-    let l : at < t.h = omega arith in
-    let f = few_is t.code c.from-few.ensures in
+    let l : at < t.packed.h = omega arith in
+    let f = few_is t.packed.ranks.good.code c.from-few.ensures in
     let y = c.from-y.ensures ∙ c.get.ensures in
     let wrote = c.loop-at.invariant.wrote in
     elim c.if-y-few.branch [
