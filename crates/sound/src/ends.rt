@@ -1,11 +1,11 @@
 // Where codewords end, by their stoppers alone: enough in a sound roll.
-ghost use Rattle.std.specs.Prelude.{◌≡◌, [], ◌∷◌, ◌*◌, ◌/◌, ◌≤◌, ◌<◌, T};
+ghost use Rattle.std.specs.Prelude.{◌≡◌, [], ◌∷◌, ◌*◌, ◌/◌, ◌≤◌, ◌<◌};
 ghost use Rattle.ground.specs.Paper.Rows.{tab};
-ghost use Rattle.stopper.specs.Paper.Table.{stoppers, good_code};
+ghost use Rattle.stopper.specs.Paper.Table.{stoppers};
 ghost use Rattle.symbols.specs.Paper.Symbols.{per, symbols_of};
 ghost use Rattle.sound.specs.Helpers.Ends.{Ending, Passing, end_from, stops, stops_of_two, stops_by_byte};
 
-use stopper::code::{Code, stoppers_at};
+use stopper::code::{Code, GoodCode, stoppers_at};
 use stopper::reading::next_place;
 use symbols::bits::{byte_of, per_byte, place_in_byte};
 use symbols::symbol::get;
@@ -26,11 +26,11 @@ pub fn end_at(code: Code, buf: &[u8], p: usize) -> usize
 }
 
 // How many of the two symbols of a byte are stoppers, each of four bits, by no branch: a loop over bytes counts many at once.
-pub fn stops_of_four(code: Code, b: u8) -> u8
-    requires { T (good_code code) × (code.k ≡ 4) }
-    ensures { (result ≡ stops (stoppers code) 0 (symbols_of code.k (b ∷ []))) × (result ≤ 2) }
+pub fn stops_of_four(good: GoodCode, b: u8) -> u8
+    requires { good.code.k ≡ 4 }
+    ensures { (result ≡ stops (stoppers good.code) 0 (symbols_of good.code.k (b ∷ []))) × (result ≤ 2) }
 {
-    let s = stoppers_at(code, 0) as u8;
+    let s = stoppers_at(good.code, 0) as u8;
     u8::from(b < 16 * s) + u8::from(b % 16 < s)
 }
 
@@ -81,26 +81,25 @@ fn stops_listed(s: u8) -> [u8; 256]
 }
 
 // How many symbols of four bits are stoppers, for each byte value.
-fn stops_counted(code: Code) -> [u8; 256]
-    requires { T (good_code code) × (code.k ≡ 4) }
-    ensures { result ≡ stops_by_byte code }
+fn stops_counted(good: GoodCode) -> [u8; 256]
+    requires { good.code.k ≡ 4 }
+    ensures { result ≡ stops_by_byte good.code }
 {
     let mut row = [0u8; 256];
     for (b, stops) in row.iter_mut().enumerate() {
-        *stops = stops_of_four(code, b as u8);
+        *stops = stops_of_four(good, b as u8);
     }
     row
 }
 
 // How many codewords end in a byte, for each byte value.
-pub fn stops_by_byte(code: Code) -> [u8; 256]
-    requires { T (good_code code) }
-    ensures { result ≡ stops_by_byte code }
+pub fn stops_by_byte(good: GoodCode) -> [u8; 256]
+    ensures { result ≡ stops_by_byte good.code }
 {
-    if code.k == 2 {
-        stops_listed(stoppers_at(code, 0) as u8)
+    if good.code.k == 2 {
+        stops_listed(stoppers_at(good.code, 0) as u8)
     } else {
-        stops_counted(code)
+        stops_counted(good)
     }
 }
 
@@ -168,6 +167,6 @@ pub fn pass_first(code: Code, buf: &[u8], count: usize) -> usize
     if count == 0 {
         return 0;
     }
-    let stops = stops_by_byte(code);
+    let stops = stops_by_byte(GoodCode { code });
     pass_ends(code, &stops, buf, 0, count)
 }

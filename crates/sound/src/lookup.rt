@@ -2,19 +2,20 @@
 ghost use Rattle.std.specs.Prelude.{◌≡◌, ◌-◌, ◌≤◌, ◌<◌, MatchOption};
 ghost use Rattle.texts.specs.Paper.Directory.{entries, start_at, directory_of, first_wrong};
 ghost use Rattle.sound.specs.Paper.Lengths.{lengths_of, Right};
-ghost use Rattle.sound.specs.Paper.Roll.{Sound};
 
 use crate::ends::{end_at, pass_ends, stops_by_byte};
-use crate::records::Roll;
+use crate::records::SoundRoll;
+use stopper::code::GoodCode;
 use texts::entries::entries_for;
 
 // The number of the first entry that is missing or wrong; none where all are right.
-pub fn first_wrong(roll: Roll, buf: &[u8], dir: &[u32]) -> Option<usize>
-    requires { Sound roll buf.now }
-    ensures { MatchOption result (Right roll buf.now dir.now) (λ e. (e ≡ first_wrong (directory_of (lengths_of roll buf.now)) dir.now) × (e < entries roll.n)) }
+pub fn first_wrong(sound: &SoundRoll, dir: &[u32]) -> Option<usize>
+    ensures { let roll = sound.now.roll in let buf = sound.now.buf.now in
+        MatchOption result (Right roll buf dir.now) (λ e. (e ≡ first_wrong (directory_of (lengths_of roll buf)) dir.now) × (e < entries roll.n)) }
 {
+    let SoundRoll { roll, buf, .. } = *sound;
     let code = roll.table.code;
-    let stops = stops_by_byte(code);
+    let stops = stops_by_byte(GoodCode { code });
     let last = entries_for(roll.n);
     let mut p: usize = 0;
     let mut j: usize = 0;
@@ -32,10 +33,11 @@ pub fn first_wrong(roll: Roll, buf: &[u8], dir: &[u32]) -> Option<usize>
 }
 
 // The first symbol of character j, or the roll's end for j = n.
-pub fn start_of(roll: Roll, buf: &[u8], dir: &[u32], j: usize) -> usize
-    requires { Sound roll buf.now × Right roll buf.now dir.now × (j ≤ roll.n) }
-    ensures { result ≡ start_at (lengths_of roll buf.now) j }
+pub fn start_of(sound: &SoundRoll, dir: &[u32], j: usize) -> usize
+    requires { let s = sound.now in Right s.roll s.buf.now dir.now × (j ≤ s.roll.n) }
+    ensures { result ≡ start_at (lengths_of sound.now.roll sound.now.buf.now) j }
 {
+    let SoundRoll { roll, buf, .. } = *sound;
     if roll.n as usize <= j {
         return roll.h as usize;
     }

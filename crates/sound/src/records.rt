@@ -1,4 +1,6 @@
-// The record of a roll: its table, how many characters it has and how many symbols.
+// The record of a roll: its table, how many characters it has and how many symbols. A sound roll in its buffer.
+ghost use Rattle.sound.specs.Paper.Roll.{Sound};
+
 use stopper::table::Table;
 
 #[repr(C)]
@@ -7,4 +9,12 @@ pub struct Roll {
     pub table: Table,
     pub n: u32,
     pub h: u32,
+}
+
+// Made where a roll is checked, and where one is written.
+#[derive(Clone, Copy)]
+pub struct SoundRoll<'a> {
+    pub roll: Roll,
+    pub buf: &'a [u8],
+    pub ghost sound: { Sound roll buf.now },
 }

@@ -3,10 +3,12 @@ use Rattle.std.specs.Prelude.{◌≡◌, ℕ, suc, ◌+◌, ◌*◌, ◌/◌, �
 use Rattle.std.proofs.Math.Path.{sym, ap}
 use Rattle.std.proofs.Common.{◌∙◌, le_refl, length-take, take_all, get_or-take, take-take, length-take-le}
 use mathlib.Core.List.{List}
+use Prim.Native.Nat.{zero-le}
 use native.Mathlib.Omega.{arith}
 use Rattle.std.proofs.Math.ListN.{length, length-map}
 use Rattle.ground.specs.Paper.Rows.{tab}
 use Rattle.ground.specs.Paper.Runs.{over, run}
+use Rattle.ground.specs.Helpers.Bound.{limit_bound}
 use Rattle.ground.specs.Helpers.Moved.{laid}
 use Rattle.ground.specs.Laws.Rows.{tab_at, tab_ext}
 use Rattle.ground.specs.Laws.Runs.{run_slice}
@@ -24,8 +26,9 @@ use Rattle.sound.specs.Paper.Roll.{reading, Sound}
 use Rattle.sound.specs.Paper.Lengths.{lengths_of, Right}
 use Rattle.sound.specs.Helpers.Ends.{Ending, end_from}
 use Rattle.sound.specs.Laws.Starts.{start_at_lem, passed_ranks}
-use Rattle.sound.specs.Laws.Sound.{row_length, sound_code, sound_length, sound_below, sound_row, sound_found, sound_start}
-use Rattle.sound.specs.Laws.Ends.{sound_end, sound_ends, sound_ending}
+use Rattle.sound.specs.Laws.Sound.{row_length, sound_code, sound_length, sound_below, sound_row, sound_found, sound_start, sound_reads}
+use Rattle.sound.specs.Laws.Ends.{sound_first, sound_end, sound_ends, sound_ending}
+use Rattle.sound.specs.Laws.Stops.{passing_first, passing_few}
 use Rattle.sound.specs.declared.records.Roll.{Roll}
 
 -- ---- the directory of a sound roll
@@ -54,6 +57,12 @@ module _ {r : Roll} {buf : List ℕ} (s : Sound r buf) where
       ∙ ap (λ (rs : List ℕ). length (write (base c) (stoppers c) rs)) (take_all r.n (ranks r buf) (omega (arith, s.count)))
       ∙ ap length (sym (sound_row s))
       ∙ sound_length s
+
+  -- no more characters than symbols, and these are few
+  pub sound_few : r.n ≤ limit_bound
+  sound_few =
+      let p = passing_first (sound_first s r.n (le_refl r.n)) in
+      omega (arith, passing_few p, sound_end s r.n (le_refl r.n), sound_start s r.n, (sound_reads s 0 zero-le).small)
 
 -- ---- a right directory: by its entry a character's codeword is reached
 

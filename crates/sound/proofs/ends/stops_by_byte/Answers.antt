@@ -21,13 +21,13 @@ module _ (code : Code) (good : T (good_code code)) (two : code.k ≡ 2) {s : ℕ
   listed = rw (sym two, is) (stops_table code)
 
 pub overflow_cast-stoppers_at : goal.overflow_cast-stoppers_at
-overflow_cast-stoppers_at c = omega (arith, bounds c.args.code c.requires c.if-code-eq2.true c.stoppers_at.ensures)
+overflow_cast-stoppers_at c = omega (arith, bounds c.args.good.code c.args.good.good c.if-good-eq2.true c.stoppers_at.ensures)
 
 pub stops_listed-requires : goal.stops_listed-requires
-stops_listed-requires c = bounds c.args.code c.requires c.if-code-eq2.true c.stoppers_at.ensures
+stops_listed-requires c = bounds c.args.good.code c.args.good.good c.if-good-eq2.true c.stoppers_at.ensures
 
-pub returns-then-code-eq2 : goal.returns-then-code-eq2
-returns-then-code-eq2 c = c.stops_listed.ensures ∙ listed c.args.code c.requires c.if-code-eq2.true c.stoppers_at.ensures
+pub returns-then-good-eq2 : goal.returns-then-good-eq2
+returns-then-good-eq2 c = c.stops_listed.ensures ∙ listed c.args.good.code c.args.good.good c.if-good-eq2.true c.stoppers_at.ensures
 
 pub stops_counted-requires : goal.stops_counted-requires
-stops_counted-requires c = (c.requires, ⊎_elim (λ e. absurd (c.if-code-eq2.false e)) (λ e. e) (code_width c.args.code c.requires))
+stops_counted-requires c = ⊎_elim (λ e. absurd (c.if-good-eq2.false e)) (λ e. e) (code_width c.args.good.code c.args.good.good)

@@ -8,13 +8,13 @@ use Rattle.sound.proofs.ends.stops_counted.Goals as goal
 
 pub loop-b-init : goal.loop-b-init
 unfolding zeros
-loop-b-init c = filled_none (entry c.args.code) 256
+loop-b-init c = filled_none (entry c.args.good.code) 256
 
 pub loop-b-preserved : goal.loop-b-preserved
 loop-b-preserved c =
     ap (λ (r : List ℕ). set r c.loop-b.b c.stops_of_four.result) c.loop-b.invariant
-    ∙ filled_more (entry c.args.code) 256 c.loop-b.b c.stops_of_four.result c.loop-b-test.true c.stops_of_four.ensures.0
+    ∙ filled_more (entry c.args.good.code) 256 c.loop-b.b c.stops_of_four.result c.loop-b-test.true c.stops_of_four.ensures.0
 
 pub returns : goal.returns
 unfolding stops_by_byte
-returns c = c.loop-b.invariant ∙ filled_all (entry c.args.code) 256 c.loop-b.b c.loop-b-test.false
+returns c = c.loop-b.invariant ∙ filled_all (entry c.args.good.code) 256 c.loop-b.b c.loop-b-test.false

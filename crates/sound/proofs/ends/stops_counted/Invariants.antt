@@ -11,4 +11,4 @@ abbrev pub entry : Code → ℕ → ℕ
 entry code b = stops (stoppers code) 0 (symbols_of code.k (b ∷ []))
 
 abbrev pub invariant-loop-b : goal.invariant-loop-b
-invariant-loop-b l = l.stops-items ≡ tab (filled (entry l.code) l.b) 0 256
+invariant-loop-b l = l.stops-items ≡ tab (filled (entry l.good.code) l.b) 0 256

@@ -24,10 +24,10 @@ module _ (code : Code) {s : ℕ} (good : T (good_code code)) (four : code.k ≡ 
       ∙ ap (λ (k : ℕ). stops (stoppers code) 0 (symbols_of k (b ∷ []))) (sym four)
 
 pub overflow_cast-s : goal.overflow_cast-s
-overflow_cast-s c = omega (arith, below c.args.code c.requires.0 c.requires.1 c.stoppers_at-s.ensures)
+overflow_cast-s c = omega (arith, below c.args.good.code c.args.good.good c.requires c.stoppers_at-s.ensures)
 
 pub overflow_mul-s : goal.overflow_mul-s
-overflow_mul-s c = omega (arith, below c.args.code c.requires.0 c.requires.1 c.stoppers_at-s.ensures)
+overflow_mul-s c = omega (arith, below c.args.good.code c.args.good.good c.requires c.stoppers_at-s.ensures)
 
 pub returns : goal.returns
 returns c =
@@ -35,6 +35,6 @@ returns c =
     let b = c.args.b in
     let first = flag (ltb b (16 * s)) in
     let second = flag (ltb (b % 16) s) in (
-      omega (arith, c.from.ensures, c.from-2.ensures, even c.args.code c.requires.0 c.requires.1 c.stoppers_at-s.ensures b, stops_four s b c.ranges.b.fits),
+      omega (arith, c.from.ensures, c.from-2.ensures, even c.args.good.code c.args.good.good c.requires c.stoppers_at-s.ensures b, stops_four s b c.ranges.b.fits),
       omega (arith, c.from.ensures, c.from-2.ensures),
     )

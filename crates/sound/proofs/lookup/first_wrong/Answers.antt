@@ -7,7 +7,7 @@ use Rattle.sound.specs.Paper.Lengths.{lengths_of, Right}
 use Rattle.sound.specs.Paper.Roll.{Sound}
 use Rattle.sound.specs.Helpers.Ends.{Ending, end_of, end_from}
 use Rattle.sound.specs.Laws.Sound.{sound_code}
-use Rattle.sound.specs.Laws.Directory.{by_stops, stops_entry, stops_directory, entry_ending, entry_ends, none_right}
+use Rattle.sound.specs.Laws.Directory.{sound_few, by_stops, stops_entry, stops_directory, entry_ending, entry_ends, none_right}
 use Rattle.sound.specs.declared.records.Roll.{Roll}
 use Rattle.sound.proofs.lookup.first_wrong.Invariants.{Before}
 use Rattle.sound.proofs.lookup.first_wrong.Goals as goal
@@ -62,33 +62,33 @@ module _ {roll : Roll} {buf dir : List ℕ} {last e j p : ℕ} (sound : Sound ro
       agrees is =
           record { ordered = omega arith; starts = starts; agree = agree_more wanted dir e before.agree (omega (arith, long)) there (is ∙ sym entry_is) }
 
-pub stops_by_byte-stops-requires : goal.stops_by_byte-stops-requires
-stops_by_byte-stops-requires c = sound_code c.requires
+pub invariant_of-stops_by_byte : goal.invariant_of-stops_by_byte
+invariant_of-stops_by_byte c = record { good = sound_code c.args.sound.now.sound }
 
 pub loop-e-init : goal.loop-e-init
 unfolding end_from end_of
 loop-e-init c = record { ordered = omega arith; starts = refl; agree = refl }
 
 pub returns-then-dir-e : goal.returns-then-dir-e
-returns-then-dir-e c = missing c.requires c.entries_for-last.ensures c.loop-e.invariant c.loop-e-test.true c.if-dir-e.true
+returns-then-dir-e c = missing c.args.sound.now.sound c.entries_for-last.ensures c.loop-e.invariant c.loop-e-test.true c.if-dir-e.true
 
 pub overflow_mul-e : goal.overflow_mul-e
-overflow_mul-e c = omega (arith, inside c.entries_for-last.ensures c.loop-e-test.true, c.well_formed.0)
+overflow_mul-e c = omega (arith, inside c.entries_for-last.ensures c.loop-e-test.true, sound_few c.args.sound.now.sound)
 
 pub pass_ends-p-requires : goal.pass_ends-p-requires
 pass_ends-p-requires c =
-    (ending c.requires c.entries_for-last.ensures c.loop-e.invariant c.loop-e-test.true, c.stops_by_byte-stops.ensures)
+    (ending c.args.sound.now.sound c.entries_for-last.ensures c.loop-e.invariant c.loop-e-test.true, c.stops_by_byte-stops.ensures)
 
 pub overflow_mul-j : goal.overflow_mul-j
-overflow_mul-j c = omega (arith, inside c.entries_for-last.ensures c.loop-e-test.true, c.well_formed.0)
+overflow_mul-j c = omega (arith, inside c.entries_for-last.ensures c.loop-e-test.true, sound_few c.args.sound.now.sound)
 
 pub returns-then-dir-e-2 : goal.returns-then-dir-e-2
 returns-then-dir-e-2 c =
-    differs c.requires c.entries_for-last.ensures c.loop-e.invariant c.loop-e-test.true c.if-dir-e.false c.pass_ends-p.ensures c.if-dir-e-2.true
+    differs c.args.sound.now.sound c.entries_for-last.ensures c.loop-e.invariant c.loop-e-test.true c.if-dir-e.false c.pass_ends-p.ensures c.if-dir-e-2.true
 
 pub loop-e-preserved : goal.loop-e-preserved
 loop-e-preserved c =
-    agrees c.requires c.entries_for-last.ensures c.loop-e.invariant c.loop-e-test.true c.if-dir-e.false c.pass_ends-p.ensures c.if-dir-e-2.false
+    agrees c.args.sound.now.sound c.entries_for-last.ensures c.loop-e.invariant c.loop-e-test.true c.if-dir-e.false c.pass_ends-p.ensures c.if-dir-e-2.false
 
 pub returns : goal.returns
-returns c = none c.requires c.entries_for-last.ensures c.loop-e.invariant (omega arith)
+returns c = none c.args.sound.now.sound c.entries_for-last.ensures c.loop-e.invariant (omega arith)

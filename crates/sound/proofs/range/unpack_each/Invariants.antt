@@ -14,5 +14,5 @@ characters places rs = map (λ rank. get_or places rank 0) rs
 
 abbrev pub invariant-loop-i : goal.invariant-loop-i
 invariant-loop-i l =
-    (l.p ≡ start_at (map (length_of l.table.code) (ranks l.table.code l.table.sigma l.buf l.h)) (l.start + l.i))
-    × (l.out ≡ take l.i (drop l.start (characters l.table.places (ranks l.table.code l.table.sigma l.buf l.h))) ++ drop l.i l.initial.out)
+    (l.p ≡ start_at (map (length_of l.table.code) (ranks l.table.code l.table.sigma l.sound.buf.now l.sound.roll.h)) (l.start + l.i))
+    × (l.out ≡ take l.i (drop l.start (characters l.table.places (ranks l.table.code l.table.sigma l.sound.buf.now l.sound.roll.h))) ++ drop l.i l.initial.out)
