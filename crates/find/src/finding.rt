@@ -1,53 +1,49 @@
 // The places of a sound roll where a pattern stands.
 ghost use Rattle.std.specs.Prelude.{◌≡◌, ◌*◌, ◌≤◌, ◌<◌, T, [], length, take, drop, IfSome, MatchOption};
-ghost use Rattle.stopper.specs.Paper.Table.{good_code, longest};
+ghost use Rattle.stopper.specs.Paper.Table.{longest};
+ghost use Rattle.stopper.specs.Helpers.Alphabets.{characters_in};
 ghost use Rattle.symbols.specs.Paper.Symbols.{symbols_of};
 ghost use Rattle.symbols.specs.Helpers.Widths.{Width};
 ghost use Rattle.texts.specs.Paper.Characters.{first_foreign};
 ghost use Rattle.texts.specs.Paper.Hits.{hits, good_pattern, listed, most_pattern, stands};
 ghost use Rattle.reading.specs.Paper.Reading.{row_upto};
-ghost use Rattle.sound.specs.Paper.Roll.{text_of, Sound};
+ghost use Rattle.sound.specs.Paper.Roll.{text_of};
 ghost use Rattle.find.specs.Helpers.Finding.{pattern_row, word_hits};
 
 use sound::ends::end_at;
-use sound::records::Roll;
-use stopper::code::{Code, LONGEST};
-use stopper::table::ranks_of;
+use sound::records::SoundRoll;
+use stopper::code::{GoodCode, LONGEST, Ranks};
+use stopper::table::{Alphabet, ranks_of};
 use stopper::word::spell_word;
 use symbols::symbol::get;
 use texts::pattern::MOST_PATTERN;
 
 // The symbols of a pattern, one a byte, from the front of symbols: how many. None if a character is not in the table.
-pub fn spell_pattern(
-    code: Code,
-    sigma: u16,
-    places: [u8; 256],
-    pattern: &[u8],
-    symbols: &mut [u8],
-) -> Option<usize>
-    requires { T (good_code code) × (sigma ≤ 256) × (length pattern.now ≤ most_pattern) × (length symbols.old ≡ most_pattern * longest) }
-    ensures known { let row = take sigma places in MatchOption result (first_foreign row pattern.now < length pattern.now) (λ long. first_foreign row pattern.now ≡ length pattern.now) }
-    ensures length { let found = pattern_row code (take sigma places) pattern.now in MatchOption result (found ≡ []) (λ long. long ≡ length found) }
-    ensures symbols { IfSome result (λ long. take long symbols.new ≡ pattern_row code (take sigma places) pattern.now) }
+pub fn spell_pattern(alphabet: &Alphabet, pattern: &[u8], symbols: &mut [u8]) -> Option<usize>
+    requires { (length pattern.now ≤ most_pattern) × (length symbols.old ≡ most_pattern * longest) }
+    ensures known { let row = characters_in alphabet.now in MatchOption result (first_foreign row pattern.now < length pattern.now) (λ long. first_foreign row pattern.now ≡ length pattern.now) }
+    ensures length { let found = pattern_row alphabet.now.ranks.good.code (characters_in alphabet.now) pattern.now in MatchOption result (found ≡ []) (λ long. long ≡ length found) }
+    ensures symbols { IfSome result (λ long. take long symbols.new ≡ pattern_row alphabet.now.ranks.good.code (characters_in alphabet.now) pattern.now) }
 {
-    let ranks = ranks_of(sigma, places);
+    let Ranks { good, sigma, .. } = alphabet.ranks;
+    let ranks = ranks_of(sigma as u16, *alphabet.places);
     let mut p: usize = 0;
     for b in pattern {
-        let rank = ranks[usize::from(*b)];
+        let rank = u32::from(ranks[usize::from(*b)]);
         if sigma <= rank {
             return None;
         }
-        p += spell_word(code, u32::from(rank), &mut symbols[p..p + LONGEST]);
+        p += spell_word(good, rank, &mut symbols[p..p + LONGEST]);
     }
     Some(p)
 }
 
 // From codeword to codeword: the total of those at whose start the symbols stand; the first of them are listed as far as the slice goes.
-pub fn list_hits(roll: Roll, buf: &[u8], symbols: &[u8], slice: &mut [u32]) -> u32
-    requires { Sound roll buf.now }
-    ensures total { result ≡ length (word_hits roll buf.now symbols.now) }
-    ensures list { slice.new ≡ listed (word_hits roll buf.now symbols.now) slice.old }
+pub fn list_hits(sound: &SoundRoll, symbols: &[u8], slice: &mut [u32]) -> u32
+    ensures total { result ≡ length (word_hits sound.now.roll sound.now.buf.now symbols.now) }
+    ensures list { slice.new ≡ listed (word_hits sound.now.roll sound.now.buf.now symbols.now) slice.old }
 {
+    let SoundRoll { roll, buf, .. } = *sound;
     let code = roll.table.code;
     let h = roll.h as usize;
     let mut total: u32 = 0;
@@ -73,16 +69,22 @@ pub fn list_hits(roll: Roll, buf: &[u8], symbols: &[u8], slice: &mut [u32]) -> u
 }
 
 // Searching a sound roll: the total of all hits; the first of them are listed as far as the slice goes.
-pub fn search_sound(roll: Roll, buf: &[u8], pattern: &[u8], slice: &mut [u32]) -> u32
-    requires { Sound roll buf.now × T (good_pattern pattern.now) }
-    ensures total { result ≡ length (hits pattern.now (text_of roll buf.now)) }
-    ensures list { slice.new ≡ listed (hits pattern.now (text_of roll buf.now)) slice.old }
+pub fn search_sound(sound: &SoundRoll, pattern: &[u8], slice: &mut [u32]) -> u32
+    requires { T (good_pattern pattern.now) }
+    ensures total { result ≡ length (hits pattern.now (text_of sound.now.roll sound.now.buf.now)) }
+    ensures list { slice.new ≡ listed (hits pattern.now (text_of sound.now.roll sound.now.buf.now)) slice.old }
 {
-    let table = roll.table;
+    let table = &sound.roll.table;
+    let alphabet = Alphabet {
+        ranks: Ranks {
+            good: GoodCode { code: table.code },
+            sigma: table.sigma as u32,
+        },
+        places: &table.places,
+    };
     let mut symbols = [0u8; MOST_PATTERN * LONGEST];
-    let Some(long) = spell_pattern(table.code, table.sigma, table.places, pattern, &mut symbols)
-    else {
+    let Some(long) = spell_pattern(&alphabet, pattern, &mut symbols) else {
         return 0;
     };
-    list_hits(roll, buf, &symbols[..long], slice)
+    list_hits(sound, &symbols[..long], slice)
 }

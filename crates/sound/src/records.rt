@@ -1,4 +1,5 @@
 // The record of a roll: its table, how many characters it has and how many symbols. A sound roll in its buffer.
+ghost use Rattle.std.specs.Prelude.{◌≡◌, length};
 ghost use Rattle.sound.specs.Paper.Roll.{Sound};
 
 use stopper::table::Table;
@@ -17,4 +18,5 @@ pub struct SoundRoll<'a> {
     pub roll: Roll,
     pub buf: &'a [u8],
     pub ghost sound: { Sound roll buf.now },
+    pub ghost places: { length roll.table.places ≡ 256 },
 }

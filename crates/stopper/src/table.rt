@@ -1,9 +1,9 @@
 // A table: a code and the characters in rank order.
-ghost use Rattle.std.specs.Prelude.{◌≡◌, ◌≤◌, take};
+ghost use Rattle.std.specs.Prelude.{◌≡◌, ◌≤◌, length, take};
 ghost use Rattle.stopper.specs.Paper.Table.{good_characters, good_table, characters};
 ghost use Rattle.stopper.specs.Helpers.Answers.{ranked_in, ranks_of};
 
-use crate::code::{Code, good_code};
+use crate::code::{Code, Ranks, good_code};
 
 #[repr(C)]
 #[derive(Clone, Copy)]
@@ -11,6 +11,14 @@ pub struct Table {
     pub code: Code,
     pub sigma: u16,
     pub places: [u8; 256],
+}
+
+// The characters of the ranks of a good code, the one of each rank.
+#[derive(Clone, Copy)]
+pub struct Alphabet<'a> {
+    pub ranks: Ranks,
+    pub places: &'a [u8; 256],
+    pub ghost all: { length places.now ≡ 256 },
 }
 
 // From the last character to the first, each marked as it is met.

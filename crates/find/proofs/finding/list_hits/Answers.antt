@@ -100,49 +100,49 @@ loop-i-init c = record { starts = refl; few = omega arith; count = refl; list = 
 
 pub loop-j-init : goal.loop-j-init
 loop-j-init c =
-    let row = row_upto c.args.roll.table.code c.args.roll.h c.args.buf.now in (
-      omega (arith, starts c.requires c.loop-i.invariant c.loop-i-test.true),
+    let row = row_upto c.args.sound.now.roll.table.code c.args.sound.now.roll.h c.args.sound.now.buf.now in (
+      omega (arith, starts c.args.sound.now.sound c.loop-i.invariant c.loop-i-test.true),
       ap (λ (n : ℕ). stands c.args.symbols.now (drop n row)) (sym (add-zero c.loop-i.p)),
     )
 
 pub overflow_add-p : goal.overflow_add-p
-overflow_add-p c = omega (arith, c.loop-j.invariant.0, (sound_reads c.requires 0 (omega arith)).small)
+overflow_add-p c = omega (arith, c.loop-j.invariant.0, (sound_reads c.args.sound.now.sound 0 (omega arith)).small)
 
 pub overflow_add-p-else-p-j : goal.overflow_add-p-else-p-j
-overflow_add-p-else-p-j c = omega (arith, c.loop-j.invariant.0, (sound_reads c.requires 0 (omega arith)).small)
+overflow_add-p-else-p-j c = omega (arith, c.loop-j.invariant.0, (sound_reads c.args.sound.now.sound 0 (omega arith)).small)
 
 pub get-requires : goal.get-requires
-get-requires c = (sound_width c.requires, omega (arith, c.if-p-j.false, c.loop-j.invariant.0, held c.args.roll c.args.buf.now c.requires))
+get-requires c = (sound_width c.args.sound.now.sound, omega (arith, c.if-p-j.false, c.loop-j.invariant.0, held c.args.sound.now.roll c.args.sound.now.buf.now c.args.sound.now.sound))
 
 pub loop-j-preserved : goal.loop-j-preserved
 loop-j-preserved c =
-    let roll = c.args.roll in
+    let roll = c.args.sound.now.roll in
     let inside : c.loop-i.p + c.loop-j.j < roll.h = omega (arith, c.if-p-j.false, c.loop-j.invariant.0) in (
       omega (arith, inside),
       c.loop-j.invariant.1
-          ∙ same roll.table.code c.args.buf.now c.args.symbols.now roll.h c.loop-i.p c.loop-j.j (held roll c.args.buf.now c.requires) c.loop-j-test.true inside c.get.ensures c.if-get-symbol.false,
+          ∙ same roll.table.code c.args.sound.now.buf.now c.args.symbols.now roll.h c.loop-i.p c.loop-j.j (held roll c.args.sound.now.buf.now c.args.sound.now.sound) c.loop-j-test.true inside c.get.ensures c.if-get-symbol.false,
     )
 
 pub overflow_add-total : goal.overflow_add-total
 overflow_add-total c = omega (arith, c.loop-i.invariant.few, c.loop-i-test.true, c.loop-i.auto.i-end)
 
 pub end_at-p-requires : goal.end_at-p-requires
-end_at-p-requires c = rw c.loop-i.invariant.starts (sound_one c.requires c.loop-i.i c.loop-i-test.true)
+end_at-p-requires c = rw c.loop-i.invariant.starts (sound_one c.args.sound.now.sound c.loop-i.i c.loop-i-test.true)
 
 -- whether the symbols stand at the codeword
-stood : (c : Joined-same) → c.loop-j-test.same ≡ stands c.args.symbols.now (drop c.loop-i.p (row_upto c.args.roll.table.code c.args.roll.h c.args.buf.now))
+stood : (c : Joined-same) → c.loop-j-test.same ≡ stands c.args.symbols.now (drop c.loop-i.p (row_upto c.args.sound.now.roll.table.code c.args.sound.now.roll.h c.args.sound.now.buf.now))
 stood c =
-    let roll = c.args.roll in
-    let row = row_upto roll.table.code roll.h c.args.buf.now in
+    let roll = c.args.sound.now.roll in
+    let row = row_upto roll.table.code roll.h c.args.sound.now.buf.now in
     let symbols = c.args.symbols.now in
-    let kept = held roll c.args.buf.now c.requires in
+    let kept = held roll c.args.sound.now.buf.now c.args.sound.now.sound in
     elim c.loop-j-test.branch [
       | then-loop-j-test+then-p-j w ↦
           w.same-is
           ∙ sym (c.loop-j.invariant.1 ∙ elim w.then-p-j.branch [
-            | then-p-j-via-then-p-j v ↦ past roll.table.code c.args.buf.now symbols roll.h c.loop-i.p c.loop-j.j kept w.loop-j-test.true (omega (arith, v.if-p-j.true))
+            | then-p-j-via-then-p-j v ↦ past roll.table.code c.args.sound.now.buf.now symbols roll.h c.loop-i.p c.loop-j.j kept w.loop-j-test.true (omega (arith, v.if-p-j.true))
             | then-p-j-via-else-p-j+then-get-symbol v ↦
-                differs roll.table.code c.args.buf.now symbols roll.h c.loop-i.p c.loop-j.j kept w.loop-j-test.true (omega (arith, v.if-p-j.false, c.loop-j.invariant.0)) v.get.ensures v.if-get-symbol.true
+                differs roll.table.code c.args.sound.now.buf.now symbols roll.h c.loop-i.p c.loop-j.j kept w.loop-j-test.true (omega (arith, v.if-p-j.false, c.loop-j.invariant.0)) v.get.ensures v.if-get-symbol.true
           ])
       | else-loop-j-test w ↦
           let e : c.loop-j.j ≡ length symbols = omega (arith, w.loop-j-test.false, c.loop-j.auto.j-end) in
@@ -160,21 +160,21 @@ loop-i-preserved c =
           (elim w.if-total-slice.branch [
             | then-total-slice v ↦
                 rw v.slice-is
-                (hit_listed c.requires c.loop-i.invariant h s c.end_at-p.ensures w.if-same.true (omega (arith, v.if-total-slice.true, c.loop-i.auto.slice)))
+                (hit_listed c.args.sound.now.sound c.loop-i.invariant h s c.end_at-p.ensures w.if-same.true (omega (arith, v.if-total-slice.true, c.loop-i.auto.slice)))
             | else-total-slice v ↦
                 rw v.slice-is
-                (hit_full c.requires c.loop-i.invariant h s c.end_at-p.ensures w.if-same.true (omega (arith, v.if-total-slice.false, c.loop-i.auto.slice)))
+                (hit_full c.args.sound.now.sound c.loop-i.invariant h s c.end_at-p.ensures w.if-same.true (omega (arith, v.if-total-slice.false, c.loop-i.auto.slice)))
           ])
       | else-same w ↦
-          rw (w.total-is, w.slice-is) (missed c.requires c.loop-i.invariant h s c.end_at-p.ensures w.if-same.false)
+          rw (w.total-is, w.slice-is) (missed c.args.sound.now.sound c.loop-i.invariant h s c.end_at-p.ensures w.if-same.false)
     ]
 
 pub returns-clause-total : goal.returns-clause-total
 returns-clause-total c =
-    let e : c.loop-i.i ≡ c.args.roll.n = omega arith in
-    c.loop-i.invariant.count ∙ ap length (all c.requires c.loop-i.invariant e)
+    let e : c.loop-i.i ≡ c.args.sound.now.roll.n = omega arith in
+    c.loop-i.invariant.count ∙ ap length (all c.args.sound.now.sound c.loop-i.invariant e)
 
 pub returns-clause-list : goal.returns-clause-list
 returns-clause-list c =
-    let e : c.loop-i.i ≡ c.args.roll.n = omega arith in
-    c.loop-i.invariant.list ∙ ap (λ (xs : List ℕ). listed xs c.args.slice.now) (all c.requires c.loop-i.invariant e)
+    let e : c.loop-i.i ≡ c.args.sound.now.roll.n = omega arith in
+    c.loop-i.invariant.list ∙ ap (λ (xs : List ℕ). listed xs c.args.slice.now) (all c.args.sound.now.sound c.loop-i.invariant e)

@@ -19,9 +19,9 @@ pub record Before (code : Code) (buf : List ℕ) (h : ℕ) (symbols old : List �
   pub list : slice ≡ listed (found code buf h symbols i) old
 
 abbrev pub invariant-loop-i : goal.invariant-loop-i
-invariant-loop-i l = Before l.code l.buf l.h l.symbols l.initial.slice l.i l.p l.total l.slice
+invariant-loop-i l = Before l.code l.sound.buf.now l.h l.symbols l.initial.slice l.i l.p l.total l.slice
 
 -- the symbols below j stand there, so all do exactly if the rest do
 abbrev pub invariant-loop-j : goal.invariant-loop-j
 invariant-loop-j l =
-    (l.p + l.j ≤ l.h) × (stands l.symbols (drop l.p (row_upto l.code l.h l.buf)) ≡ stands (drop l.j l.symbols) (drop (l.p + l.j) (row_upto l.code l.h l.buf)))
+    (l.p + l.j ≤ l.h) × (stands l.symbols (drop l.p (row_upto l.code l.h l.sound.buf.now)) ≡ stands (drop l.j l.symbols) (drop (l.p + l.j) (row_upto l.code l.h l.sound.buf.now)))

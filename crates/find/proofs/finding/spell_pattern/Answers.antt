@@ -1,10 +1,11 @@
 -- `find::finding::spell_pattern` meets its contract: the characters passed are in the table, and their symbols stand at the front.
-use Rattle.std.proofs.Common.{◌≡◌, sym, ap, ap₂, ◌∙◌, ℕ, ◌+◌, ◌-◌, ◌≤◌, ◌<◌, List, ◌++◌, append_assoc, length, take, drop, get_or, length-append, zero-add, add-one, arith, rules}
+use Rattle.std.proofs.Common.{◌≡◌, sym, ap, ap₂, ◌∙◌, ℕ, ◌+◌, ◌-◌, ◌≤◌, ◌<◌, List, ◌++◌, append_assoc, length, take, drop, get_or, length-append, zero-add, add-one, arith}
 use borrow.Rule.Slice.PartMut.{mid_len, Post-is}
 use lib.Seq.{length-take-le, take_at, take_all}
 use Rattle.ground.specs.Paper.Runs.{over}
 use Rattle.ground.specs.Laws.Rows.{tab_at}
 use Rattle.stopper.specs.Paper.Table.{rank_in, word_of, length_of, longest}
+use Rattle.stopper.specs.Helpers.Alphabets.{characters_in}
 use Rattle.stopper.specs.Helpers.Answers.{ranks_of}
 use Rattle.stopper.specs.Laws.Table.{length_small}
 use Rattle.stopper.specs.declared.code.Code.{Code}
@@ -62,43 +63,43 @@ part_long : (p : ℕ) (symbols : List ℕ) → p + longest ≤ length symbols �
 part_long p symbols h = mid_len p (p + longest) symbols h ∙ omega arith
 
 pub loop-b-init : goal.loop-b-init
-loop-b-init c = start c.args.code (take c.args.sigma c.args.places) c.args.pattern.now c.args.symbols.now
+loop-b-init c = start c.args.alphabet.now.ranks.good.code (characters_in c.args.alphabet.now) c.args.pattern.now c.args.symbols.now
 
 pub returns-then-sigma-rank : goal.returns-then-sigma-rank
 returns-then-sigma-rank c =
-    let row = take c.args.sigma c.args.places in
+    let row = characters_in c.args.alphabet.now in
     let e = none c.loop-b.invariant c.loop-b-test.true
     (omega (
       arith,
       c.if-sigma-rank.true,
       rank_is row c.ranks_of-ranks.ensures (get_or c.args.pattern.now c.loop-b.b-index 0) (c.type_inv.pattern c.loop-b.b-index).fits c.from.ensures,
-      row_long c.args.sigma c.args.places (search rules) c.requires.1,
+      row_long c.args.alphabet.now.ranks.sigma c.args.alphabet.now.places.now c.args.alphabet.now.all c.args.alphabet.now.ranks.few,
     )) in
-    record { known = e; length = pattern_foreign c.args.code row c.args.pattern.now e; symbols = tt }
+    record { known = e; length = pattern_foreign c.args.alphabet.now.ranks.good.code row c.args.pattern.now e; symbols = tt }
 
 pub spell_word-p-requires : goal.spell_word-p-requires
 spell_word-p-requires c =
-    let few : c.from-in-loop-b.result < 256 = omega (arith, c.from-in-loop-b.ensures, c.if-sigma-rank.false, c.requires.1) in
-    (c.requires.0, few, omega (arith, length_small c.args.code c.requires.0 c.from-in-loop-b.result few, part_long c.loop-b.p c.loop-b.symbols (omega (arith, c.loop-b.invariant.few, c.requires.2, c.requires.3))))
+    let few : c.from-rank.result < 256 = omega (arith, c.from-rank.ensures, c.if-sigma-rank.false, c.args.alphabet.now.ranks.few) in
+    (few, omega (arith, length_small c.args.alphabet.now.ranks.good.code c.args.alphabet.now.ranks.good.good c.from-rank.result few, part_long c.loop-b.p c.loop-b.symbols (omega (arith, c.loop-b.invariant.few, c.requires.0, c.requires.1))))
 
 pub overflow_add-p-in-loop-b : goal.overflow_add-p-in-loop-b
 overflow_add-p-in-loop-b c =
-    let few : c.from-in-loop-b.result < 256 = omega (arith, c.from-in-loop-b.ensures, c.if-sigma-rank.false, c.requires.1) in
-    omega (arith, c.spell_word-p.ensures.length, length_small c.args.code c.requires.0 c.from-in-loop-b.result few, c.loop-b.invariant.few, c.requires.2)
+    let few : c.from-rank.result < 256 = omega (arith, c.from-rank.ensures, c.if-sigma-rank.false, c.args.alphabet.now.ranks.few) in
+    omega (arith, c.spell_word-p.ensures.length, length_small c.args.alphabet.now.ranks.good.code c.args.alphabet.now.ranks.good.good c.from-rank.result few, c.loop-b.invariant.few, c.requires.0)
 
 pub loop-b-preserved : goal.loop-b-preserved
 loop-b-preserved c =
     let p = c.loop-b.p in
-    let row = take c.args.sigma c.args.places in
-    let r = c.from-in-loop-b.result in
-    let few : r < 256 = omega (arith, c.from-in-loop-b.ensures, c.if-sigma-rank.false, c.requires.1) in
+    let row = characters_in c.args.alphabet.now in
+    let r = c.from-rank.result in
+    let few : r < 256 = omega (arith, c.from-rank.ensures, c.if-sigma-rank.false, c.args.alphabet.now.ranks.few) in
     more c.loop-b.invariant c.loop-b-test.true
-    (c.from-in-loop-b.ensures ∙ rank_is row c.ranks_of-ranks.ensures (get_or c.args.pattern.now c.loop-b.b-index 0) (c.type_inv.pattern c.loop-b.b-index).fits c.from.ensures)
-    (omega (arith, c.from-in-loop-b.ensures, c.if-sigma-rank.false, row_long c.args.sigma c.args.places (search rules) c.requires.1))
+    (c.from-rank.ensures ∙ rank_is row c.ranks_of-ranks.ensures (get_or c.args.pattern.now c.loop-b.b-index 0) (c.type_inv.pattern c.loop-b.b-index).fits c.from.ensures)
+    (omega (arith, c.from-rank.ensures, c.if-sigma-rank.false, row_long c.args.alphabet.now.ranks.sigma c.args.alphabet.now.places.now c.args.alphabet.now.all c.args.alphabet.now.ranks.few))
     c.spell_word-p.ensures.length
-    (omega (arith, c.spell_word-p.ensures.length, length_small c.args.code c.requires.0 r few))
+    (omega (arith, c.spell_word-p.ensures.length, length_small c.args.alphabet.now.ranks.good.code c.args.alphabet.now.ranks.good.good r few))
     _
-    (ap (λ (l : List ℕ). take p c.loop-b.symbols ++ (c.spell_word-p.new.out ++ l)) (Post-is p (p + longest) c.loop-b.symbols (omega (arith, c.loop-b.invariant.few, c.requires.2, c.requires.3))))
+    (ap (λ (l : List ℕ). take p c.loop-b.symbols ++ (c.spell_word-p.new.out ++ l)) (Post-is p (p + longest) c.loop-b.symbols (omega (arith, c.loop-b.invariant.few, c.requires.0, c.requires.1))))
     c.spell_word-p.ensures.symbols
 
 pub returns : goal.returns

@@ -1,6 +1,7 @@
 use Rattle.std.proofs.Common.{◌≡◌, ℕ, ◌+◌, ◌*◌, ◌≤◌, List, length, take, drop}
 use Rattle.stopper.specs.Paper.Table.{longest}
 use Rattle.stopper.specs.declared.code.Code.{Code}
+use Rattle.stopper.specs.Helpers.Alphabets.{characters_in}
 use Rattle.texts.specs.Paper.Characters.{first_foreign}
 use Rattle.sound.specs.Paper.Roll.{text_row}
 use Rattle.find.proofs.finding.spell_pattern.Given as goal
@@ -13,4 +14,4 @@ pub record Spelling (c : Code) (l pattern symbols : List ℕ) (p i : ℕ) : Type
   pub row : take p symbols ≡ text_row c l (take i pattern)
 
 abbrev pub invariant-loop-b : goal.invariant-loop-b
-invariant-loop-b l = Spelling l.code (take l.sigma l.fn.places) l.pattern l.symbols l.p l.b-index
+invariant-loop-b l = Spelling l.alphabet.ranks.good.code (characters_in l.alphabet) l.pattern l.symbols l.p l.b-index
