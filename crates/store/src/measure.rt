@@ -6,7 +6,8 @@ ghost use Rattle.store.specs.Helpers.Measured.{Measured, refused_for};
 
 use crate::words::{Words, first_foreign, fitting, spell_all};
 use ground::refusal::Refusal;
-use stopper::table::Table;
+use stopper::code::{GoodCode, Ranks};
+use stopper::table::{Alphabet, Table};
 
 // Why a text is not stored: the place of the first character that is not in the table; or, all being in it, of the first that does not fit.
 #[derive(Clone, Copy, Debug, PartialEq, Eq)]
@@ -35,10 +36,14 @@ pub fn measure(table: Table, room: usize, text: &[u8], words: &mut Words) -> Res
     if text.is_empty() {
         return Ok(0);
     }
-    let code = table.code;
-    let sigma = table.sigma;
-    let places = table.places;
-    spell_all(code, sigma, places, words);
+    let alphabet = Alphabet {
+        ranks: Ranks {
+            good: GoodCode { code: table.code },
+            sigma: table.sigma as u32,
+        },
+        places: &table.places,
+    };
+    spell_all(&alphabet, words);
     let fit = fitting(words, room, text);
     let upto = fit.upto;
     if text.len() <= upto {

@@ -3,7 +3,7 @@ ghost use Rattle.std.specs.Prelude.{◌≡◌, ◌+◌, ◌-◌, ◌≤◌, ◌<
 ghost use Rattle.stopper.specs.Paper.Table.{characters};
 ghost use Rattle.texts.specs.Paper.Directory.{start_at};
 ghost use Rattle.texts.specs.Paper.Edited.{edited};
-ghost use Rattle.sound.specs.Paper.Roll.{record_of, text_of, Sound};
+ghost use Rattle.sound.specs.Paper.Roll.{record_of, text_of};
 ghost use Rattle.sound.specs.Paper.Lengths.{lengths_of};
 ghost use Rattle.store.specs.Paper.Fitting.{first_over};
 ghost use Rattle.store.specs.Paper.Stored.{bytes_after, directory_after};
@@ -12,7 +12,7 @@ ghost use Rattle.store.specs.Helpers.Replacing.{replaced_bytes, Replaces, change
 use crate::mending::mend;
 use crate::words::{Words, write_text};
 use sound::ends::end_at;
-use sound::records::Roll;
+use sound::records::{Roll, SoundRoll};
 use symbols::run::{clear, clear_unused, down, up};
 use texts::entries::{clear_entries, entries_for};
 
@@ -26,10 +26,11 @@ pub struct Run {
 }
 
 // The number of the first character from `from`, which starts at symbol first, whose codeword does not fit in the room left; or n.
-pub fn first_over(roll: Roll, buf: &[u8], from: usize, first: usize, room: usize) -> usize
-    requires { Sound roll buf.now × (from ≤ roll.n) × (first ≡ start_at (lengths_of roll buf.now) from) }
-    ensures { result ≡ from + first_over roll.table.code (characters roll.table) room (drop from (text_of roll buf.now)) }
+pub fn first_over(sound: &SoundRoll, from: usize, first: usize, room: usize) -> usize
+    requires { let s = sound.now in (from ≤ s.roll.n) × (first ≡ start_at (lengths_of s.roll s.buf.now) from) }
+    ensures { let s = sound.now in result ≡ from + first_over s.roll.table.code (characters s.roll.table) room (drop from (text_of s.roll s.buf.now)) }
 {
+    let SoundRoll { roll, buf, .. } = *sound;
     let n = roll.n as usize;
     let mut left = room;
     let mut p = first;
@@ -129,7 +130,12 @@ pub fn replace(
         h: (run.first + taken + (h - run.last)) as u32,
     };
     let upto = changed_upto(run, text.len(), taken, count);
-    mend(after, buf, dir, run.start, upto, run.first);
+    let now: &[u8] = buf;
+    let sound = SoundRoll {
+        roll: after,
+        buf: now,
+    };
+    mend(&sound, dir, run.start, upto, run.first);
     clear_entries(dir, entries_for(after.n), entries_for(roll.n));
     after
 }

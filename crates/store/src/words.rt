@@ -2,12 +2,14 @@
 ghost use Rattle.std.specs.Prelude.{◌≡◌, ◌*◌, ◌+◌, ◌≤◌, ◌<◌, IfSome, MatchOption, T, length, take, drop};
 ghost use Rattle.ground.specs.Paper.Rows.{zeros, first_where};
 ghost use Rattle.ground.specs.Helpers.Moved.{laid_from};
-ghost use Rattle.stopper.specs.Paper.Table.{good_code, longest};
+ghost use Rattle.stopper.specs.Paper.Table.{longest};
+ghost use Rattle.stopper.specs.Helpers.Alphabets.{characters_in};
 ghost use Rattle.symbols.specs.Paper.Symbols.{symbols_of};
 ghost use Rattle.symbols.specs.Helpers.Gathered.{Waiting, Added};
 ghost use Rattle.store.specs.Helpers.Words.{Spelt, goes_on, fit_of, absent, next_foreign, word_at, WordsLaid, Numbers, Laid, row_of};
 
-use stopper::code::{Code, LONGEST};
+use stopper::code::{LONGEST, Ranks};
+use stopper::table::Alphabet;
 use stopper::word::spell_word;
 use symbols::gather::{Gather, add, add_each, begin, finish, join_all};
 
@@ -32,14 +34,15 @@ impl Words {
 }
 
 // From the last character to the first.
-pub fn spell_all(code: Code, sigma: u16, places: [u8; 256], words: &mut Words)
-    requires { T (good_code code) × (sigma ≤ 256) × (words.old.lengths ≡ zeros 256) }
-    ensures { Spelt code (take sigma places) words.new.lengths words.new.symbols }
+pub fn spell_all(alphabet: &Alphabet, words: &mut Words)
+    requires { words.old.lengths ≡ zeros 256 }
+    ensures { let a = alphabet.now in Spelt a.ranks.good.code (characters_in a) words.new.lengths words.new.symbols }
 {
-    for i in (0..usize::from(sigma)).rev() {
-        let b = usize::from(places[i]);
+    let Ranks { good, sigma, .. } = alphabet.ranks;
+    for i in (0..sigma).rev() {
+        let b = usize::from(alphabet.places[i as usize]);
         let at = b * LONGEST;
-        let long = spell_word(code, i as u32, &mut words.symbols[at..at + LONGEST]);
+        let long = spell_word(good, i, &mut words.symbols[at..at + LONGEST]);
         words.lengths[b] = long as u8;
     }
 }

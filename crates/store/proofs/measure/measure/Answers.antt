@@ -12,8 +12,17 @@ returns-then-is_empty c =
     measured_none c.args.table c.requires.0 c.args.room c.args.text.now c.args.words.now.symbols none c.requires.1 (search rules)
 
 pub spell_all-requires : goal.spell_all-requires
-spell_all-requires c =
-    (table_code c.args.table c.requires.0, table_few c.args.table c.requires.0, c.requires.1)
+spell_all-requires c = c.requires.1
+
+-- what is spelled
+pub overflow_cast-alphabet : goal.overflow_cast-alphabet
+overflow_cast-alphabet c = omega (arith, table_few c.args.table c.requires.0)
+
+pub invariant_of-alphabet : goal.invariant_of-alphabet
+invariant_of-alphabet c = record { good = table_code c.args.table c.requires.0 }
+
+pub invariant_of-alphabet-2 : goal.invariant_of-alphabet-2
+invariant_of-alphabet-2 c = record { few = table_few c.args.table c.requires.0 }
 
 pub returns-then-text-upto : goal.returns-then-text-upto
 returns-then-text-upto c =

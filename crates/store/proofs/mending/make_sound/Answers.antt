@@ -8,10 +8,10 @@ use Rattle.store.proofs.mending.make_sound.Goals as goal
 
 pub mend-requires : goal.mend-requires
 unfolding start_at sum
-mend-requires c = let p = c.requires in (p.0, omega arith, omega arith, p.1, refl)
+mend-requires c = (omega arith, omega arith, c.requires, refl)
 
 pub returns : goal.returns
 unfolding entries
 returns c =
     c.mend.ensures
-    ∙ laid_whole c.args.dir.now (directory_of (lengths_of c.args.roll c.args.buf.now)) (entries c.args.roll.n) (sound_entries c.requires.0)
+    ∙ laid_whole c.args.dir.now (directory_of (lengths_of c.args.sound.now.roll c.args.sound.now.buf.now)) (entries c.args.sound.now.roll.n) (sound_entries c.args.sound.now.sound)

@@ -9,7 +9,7 @@ use Rattle.sound.specs.Helpers.Ends.{Ending, end_from}
 use Rattle.sound.specs.Paper.Roll.{Sound}
 use Rattle.sound.specs.Laws.Sound.{sound_code, sound_reads, sound_start}
 use Rattle.sound.specs.Laws.Ends.{sound_end}
-use Rattle.sound.specs.Laws.Directory.{by_stops, stops_entry, stops_laid, entry_ending, entry_ends}
+use Rattle.sound.specs.Laws.Directory.{sound_few, by_stops, stops_entry, stops_laid, entry_ending, entry_ends}
 use Rattle.sound.specs.declared.records.Roll.{Roll}
 use Rattle.store.proofs.mending.mend_entries.Invariants.{Before}
 use Rattle.store.proofs.mending.mend_entries.Goals as goal
@@ -44,8 +44,14 @@ module _ {roll : Roll} {buf old dir : List ℕ} {from upto e j p : ℕ} (sound :
               ∙ laid_more old wanted (entries from) e from_le (omega (arith, length_tab (λ i. end_from roll.table.code buf 0 (i * 32)) 0 (entries upto))) (omega arith);
         }
 
-pub stops_by_byte-stops-requires : goal.stops_by_byte-stops-requires
-stops_by_byte-stops-requires c = sound_code c.requires.0
+pub overflow_cast-from : goal.overflow_cast-from
+overflow_cast-from c = omega (arith, c.requires.0, c.requires.1, sound_few c.args.sound.now.sound)
+
+pub overflow_cast-upto : goal.overflow_cast-upto
+overflow_cast-upto c = omega (arith, c.requires.1, sound_few c.args.sound.now.sound)
+
+pub invariant_of-stops_by_byte : goal.invariant_of-stops_by_byte
+invariant_of-stops_by_byte c = record { good = sound_code c.args.sound.now.sound }
 
 pub loop-e-init : goal.loop-e-init
 loop-e-init c =
@@ -53,7 +59,7 @@ loop-e-init c =
     let is = c.entries_for-e.ensures in
     record {
       ordered = omega (arith, is, entries_behind from 0);
-      starts = c.requires.4 ∙ sym (sound_end c.requires.0 from (omega (arith, c.requires.1, c.requires.2)));
+      starts = c.requires.3 ∙ sym (sound_end c.args.sound.now.sound from (omega (arith, c.requires.0, c.requires.1)));
       written = sym (ap (laid c.args.dir.now _ (entries from)) is ∙ laid_none c.args.dir.now _ (entries from));
     }
 
@@ -62,22 +68,22 @@ overflow_mul-e c = omega (arith, before_upto c.entries_for-e-end.ensures c.loop-
 
 pub pass_ends-p-requires : goal.pass_ends-p-requires
 pass_ends-p-requires c =
-    (ending c.requires.0 c.requires.2 c.loop-e.invariant c.entries_for-e-end.ensures c.loop-e-test.true, c.stops_by_byte-stops.ensures)
+    (ending c.args.sound.now.sound c.requires.1 c.loop-e.invariant c.entries_for-e-end.ensures c.loop-e-test.true, c.stops_by_byte-stops.ensures)
 
 pub overflow_mul-j : goal.overflow_mul-j
 overflow_mul-j c = omega (arith, before_upto c.entries_for-e-end.ensures c.loop-e-test.true)
 
 pub overflow_cast-dir : goal.overflow_cast-dir
 overflow_cast-dir c =
-    omega (arith, small c.requires.0 c.requires.2 c.loop-e.invariant c.entries_for-e-end.ensures c.loop-e-test.true c.pass_ends-p.ensures)
+    omega (arith, small c.args.sound.now.sound c.requires.1 c.loop-e.invariant c.entries_for-e-end.ensures c.loop-e-test.true c.pass_ends-p.ensures)
 
 pub loop-e-preserved : goal.loop-e-preserved
 loop-e-preserved c =
-    more c.requires.0 c.requires.2 c.loop-e.invariant c.entries_for-e-end.ensures c.loop-e-test.true c.pass_ends-p.ensures (omega (arith, c.entries_for-e.ensures)) c.requires.3
+    more c.args.sound.now.sound c.requires.1 c.loop-e.invariant c.entries_for-e-end.ensures c.loop-e-test.true c.pass_ends-p.ensures (omega (arith, c.entries_for-e.ensures)) c.requires.2
 
 pub returns : goal.returns
 returns c =
-    let e : c.loop-e.e ≡ entries c.args.upto = omega (arith, c.entries_for-e.ensures, c.entries_for-e-end.ensures, entries_upto c.args.from c.requires.1) in
+    let e : c.loop-e.e ≡ entries c.args.upto = omega (arith, c.entries_for-e.ensures, c.entries_for-e-end.ensures, entries_upto c.args.from c.requires.0) in
     c.loop-e.invariant.written
-    ∙ ap (laid c.args.dir.now (by_stops c.args.roll.table.code c.args.buf.now (entries c.args.upto)) (entries c.args.from)) e
-    ∙ stops_laid c.requires.0 c.args.dir.now (entries c.args.from) c.args.upto c.requires.2
+    ∙ ap (laid c.args.dir.now (by_stops c.args.sound.now.roll.table.code c.args.sound.now.buf.now (entries c.args.upto)) (entries c.args.from)) e
+    ∙ stops_laid c.args.sound.now.sound c.args.dir.now (entries c.args.from) c.args.upto c.requires.1

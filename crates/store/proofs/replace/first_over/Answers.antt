@@ -1,6 +1,6 @@
 -- `store::replace::first_over` meets its contract: before character j the symbol is where its codeword starts, and what is left of the room
 -- is the room without the codewords passed.
-use Rattle.std.proofs.Common.{◌≡◌, sym, ap, ◌∙◌, ℕ, suc, ◌+◌, ◌≤◌, ◌<◌, List, add-one, arith, rules}
+use Rattle.std.proofs.Common.{◌≡◌, sym, ap, ◌∙◌, ℕ, suc, ◌+◌, ◌≤◌, ◌<◌, List, add-one, arith}
 use Rattle.texts.specs.Paper.Directory.{start_at}
 use Rattle.reading.specs.Paper.Reading.{ranks_read}
 use Rattle.sound.specs.Paper.Roll.{reading, Sound}
@@ -33,35 +33,35 @@ module _ {roll : Roll} {buf : List ℕ} (sound : Sound roll buf) where
       grows = omega (arith, here, next_starts, start_next roll.table.code (ranks_read (reading roll buf)) j (omega (arith, sound.count)))
 
 pub loop-j-init : goal.loop-j-init
-loop-j-init c = (c.requires.2 ∙ sym (sound_end c.requires.0 c.args.from c.requires.1), omega arith)
+loop-j-init c = (c.requires.1 ∙ sym (sound_end c.args.sound.now.sound c.args.from c.requires.0), omega arith)
 
 pub end_at-next-requires : goal.end_at-next-requires
-end_at-next-requires c = rw c.loop-j.invariant.0 (sound_one c.requires.0 c.loop-j.j c.loop-j-test.true)
+end_at-next-requires c = rw c.loop-j.invariant.0 (sound_one c.args.sound.now.sound c.loop-j.j c.loop-j-test.true)
 
 pub overflow_sub-next : goal.overflow_sub-next
-overflow_sub-next c = grows c.requires.0 c.loop-j-test.true c.loop-j.invariant.0 c.end_at-next.ensures
+overflow_sub-next c = grows c.args.sound.now.sound c.loop-j-test.true c.loop-j.invariant.0 c.end_at-next.ensures
 
 pub returns-then-left-next : goal.returns-then-left-next
 returns-then-left-next c =
-    let sound = c.requires.0 in
+    let sound = c.args.sound.now.sound in
     let p = c.loop-j.invariant.0 in
     let h = c.loop-j-test.true in
-    over_from (record { sound = sound; places = search rules }) c.args.room c.args.from c.loop-j.j (omega arith) (omega arith)
-    (omega (arith, here sound h p, c.loop-j.invariant.1, c.requires.2))
-    (λ _. omega (arith, c.if-left-next.true, grows sound h p c.end_at-next.ensures, next_starts sound h p c.end_at-next.ensures, c.loop-j.invariant.1, c.requires.2))
+    over_from (record { sound = sound; places = c.args.sound.now.places }) c.args.room c.args.from c.loop-j.j (omega arith) (omega arith)
+    (omega (arith, here sound h p, c.loop-j.invariant.1, c.requires.1))
+    (λ _. omega (arith, c.if-left-next.true, grows sound h p c.end_at-next.ensures, next_starts sound h p c.end_at-next.ensures, c.loop-j.invariant.1, c.requires.1))
 
 pub overflow_sub-left : goal.overflow_sub-left
-overflow_sub-left c = grows c.requires.0 c.loop-j-test.true c.loop-j.invariant.0 c.end_at-next.ensures
+overflow_sub-left c = grows c.args.sound.now.sound c.loop-j-test.true c.loop-j.invariant.0 c.end_at-next.ensures
 
 pub loop-j-preserved : goal.loop-j-preserved
 loop-j-preserved c =
     let h = c.loop-j-test.true in
     let p = c.loop-j.invariant.0 in
-    (next_is c.requires.0 h p c.end_at-next.ensures, omega (arith, c.if-left-next.false, grows c.requires.0 h p c.end_at-next.ensures, c.loop-j.invariant.1))
+    (next_is c.args.sound.now.sound h p c.end_at-next.ensures, omega (arith, c.if-left-next.false, grows c.args.sound.now.sound h p c.end_at-next.ensures, c.loop-j.invariant.1))
 
 pub returns : goal.returns
 returns c =
-    let sound = c.requires.0 in
-    let e : c.loop-j.j ≡ c.args.roll.n = omega arith in
-    let p : c.loop-j.p ≡ starts sound c.args.roll.n = c.loop-j.invariant.0 ∙ sound_end sound c.loop-j.j (omega arith) ∙ ap (starts sound) e in
-    over_from (record { sound = sound; places = search rules }) c.args.room c.args.from c.args.roll.n c.requires.1 (omega arith) (omega (arith, c.loop-j.invariant.1, c.requires.2)) (λ h. absurd (omega arith))
+    let sound = c.args.sound.now.sound in
+    let e : c.loop-j.j ≡ c.args.sound.now.roll.n = omega arith in
+    let p : c.loop-j.p ≡ starts sound c.args.sound.now.roll.n = c.loop-j.invariant.0 ∙ sound_end sound c.loop-j.j (omega arith) ∙ ap (starts sound) e in
+    over_from (record { sound = sound; places = c.args.sound.now.places }) c.args.room c.args.from c.args.sound.now.roll.n c.requires.0 (omega arith) (omega (arith, c.loop-j.invariant.1, c.requires.1)) (λ h. absurd (omega arith))

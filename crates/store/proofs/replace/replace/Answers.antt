@@ -28,7 +28,15 @@ changed_upto-upto-requires c = let p = c.requires.located in (p.ordered, run_ord
 
 pub mend-requires : goal.mend-requires
 mend-requires c =
-    replaced.mends c.requires (replaced.roll_after_lem c.requires refl refl) (replaced.bytes_after_lem c.requires c.replace_symbols.ensures) c.changed_upto-upto.ensures
+    let (_, ordered, inside, room, first) = replaced.mends c.requires (replaced.roll_after_lem c.requires refl refl) (replaced.bytes_after_lem c.requires c.replace_symbols.ensures) c.changed_upto-upto.ensures in
+    (ordered, inside, room, first)
+
+-- the roll that is left is sound
+pub invariant_of-sound : goal.invariant_of-sound
+invariant_of-sound c =
+    let p = c.requires in
+    let (sound, _, _, _, _) = replaced.mends p (replaced.roll_after_lem p refl refl) (replaced.bytes_after_lem p c.replace_symbols.ensures) c.changed_upto-upto.ensures in
+    record { sound = sound; places = p.located.held.places }
 
 pub clear_entries-requires : goal.clear_entries-requires
 clear_entries-requires c =

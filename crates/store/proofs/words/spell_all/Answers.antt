@@ -8,6 +8,7 @@ use Rattle.ground.specs.Paper.Runs.{over}
 use Rattle.ground.specs.Laws.Rows.{length_tab, tab_at, tab_ext, tab_set, tab_zeros}
 use Rattle.ground.specs.Laws.Runs.{over_length, drop_over, run_before, run_after}
 use Rattle.stopper.specs.Paper.Table.{good_code, has, rank_in, word_of, length_of, longest}
+use Rattle.stopper.specs.Helpers.Alphabets.{characters_in}
 use Rattle.stopper.specs.Laws.Characters.{has_rank, rank_here, rank_next, has_next, has_end}
 use Rattle.stopper.specs.Laws.Table.{length_small}
 use Rattle.stopper.specs.declared.code.Code.{Code}
@@ -107,25 +108,25 @@ part_long b words h long = mid_len (b * longest) (b * longest + longest) words (
 
 pub loop-i-init : goal.loop-i-init
 loop-i-init c =
-    rw c.from-i.ensures (start c.args.code c.args.places _ _ c.args.sigma (search rules) c.requires.1 c.requires.2 (search rules))
+    start c.args.alphabet.now.ranks.good.code c.args.alphabet.now.places.now _ _ c.args.alphabet.now.ranks.sigma c.args.alphabet.now.all c.args.alphabet.now.ranks.few c.requires (search rules)
 
 pub spell_word-long-requires : goal.spell_word-long-requires
 spell_word-long-requires c =
     let h : c.from-b.result < 256 = omega (arith, c.from-b.ensures) in
-    (c.requires.0, omega arith, omega (arith, part_long c.from-b.result c.loop-i.words.symbols h c.loop-i.invariant.long, length_small c.args.code c.requires.0 (c.loop-i.i - 1) (omega arith)))
+    (omega arith, omega (arith, part_long c.from-b.result c.loop-i.words.symbols h c.loop-i.invariant.long, length_small c.args.alphabet.now.ranks.good.code c.args.alphabet.now.ranks.good.good (c.loop-i.i - 1) (omega arith)))
 
 pub overflow_cast-words : goal.overflow_cast-words
 overflow_cast-words c =
-    omega (arith, c.spell_word-long.ensures.length, length_small c.args.code c.requires.0 (c.loop-i.i - 1) (omega arith))
+    omega (arith, c.spell_word-long.ensures.length, length_small c.args.alphabet.now.ranks.good.code c.args.alphabet.now.ranks.good.good (c.loop-i.i - 1) (omega arith))
 
 pub loop-i-preserved : goal.loop-i-preserved
 loop-i-preserved c =
     let b = c.from-b.result in
     let at : ℕ = b * longest in
     let h : b < 256 = omega (arith, c.from-b.ensures) in
-    down c.requires.0
-    (subst (λ (i : ℕ). From c.args.code (take c.args.sigma c.args.places) i c.loop-i.words.lengths c.loop-i.words.symbols) {y = suc (c.loop-i.i - 1)} (omega arith) c.loop-i.invariant)
-    (get_or-take c.args.sigma c.args.places (c.loop-i.i - 1) 0 (omega (arith, c.from-i.ensures)) ∙ sym c.from-b.ensures)
+    down c.args.alphabet.now.ranks.good.good
+    (subst (λ (i : ℕ). From c.args.alphabet.now.ranks.good.code (characters_in c.args.alphabet.now) i c.loop-i.words.lengths c.loop-i.words.symbols) {y = suc (c.loop-i.i - 1)} (omega arith) c.loop-i.invariant)
+    (get_or-take c.args.alphabet.now.ranks.sigma c.args.alphabet.now.places.now (c.loop-i.i - 1) 0 (omega arith) ∙ sym c.from-b.ensures)
     h
     c.spell_word-long.ensures.length
     _

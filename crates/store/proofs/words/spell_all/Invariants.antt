@@ -1,6 +1,7 @@
 use Rattle.std.proofs.Common.{◌≡◌, true, cond, ℕ, ◌+◌, ◌*◌, ◌≤◌, ◌<◌, List, length, take, drop}
 use Rattle.ground.specs.Paper.Rows.{tab}
 use Rattle.stopper.specs.Paper.Table.{has, rank_in, word_of, length_of, longest}
+use Rattle.stopper.specs.Helpers.Alphabets.{characters_in}
 use Rattle.stopper.specs.declared.code.Code.{Code}
 use Rattle.store.proofs.words.spell_all.Given as goal
 
@@ -19,4 +20,4 @@ pub record From (c : Code) (l : List ℕ) (i : ℕ) (lengths words : List ℕ) :
   pub word : (b : ℕ) → b < 256 → has b (drop i l) ≡ true → take (length_of c (rank_from l i b)) (drop (b * longest) words) ≡ word_of c (rank_from l i b)
 
 abbrev pub invariant-loop-i : goal.invariant-loop-i
-invariant-loop-i l = From l.code (take l.sigma l.places) l.i l.words.lengths l.words.symbols
+invariant-loop-i l = From l.alphabet.ranks.good.code (characters_in l.alphabet) l.i l.words.lengths l.words.symbols
