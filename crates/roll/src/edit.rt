@@ -11,7 +11,7 @@ ghost use Rattle.roll.specs.Helpers.Refused.{DirectoryChecked};
 use crate::check::check;
 use ground::refusal::Refusal;
 use sound::lookup::{first_wrong, start_of};
-use sound::records::Roll;
+use sound::records::{Roll, SoundRoll};
 use store::measure::{Misfit, measure};
 use store::replace::{Run, first_over, replace};
 use store::words::Words;
@@ -23,7 +23,8 @@ fn check_directory(roll: Roll, buf: &[u8], dir: &[u32]) -> Result<(), Refusal>
     ensures { DirectoryChecked roll buf.now dir.now result }
 {
     check(roll, buf)?;
-    if let Some(wrong) = first_wrong(roll, buf, dir) {
+    let sound = SoundRoll { roll, buf };
+    if let Some(wrong) = first_wrong(&sound, dir) {
         return Err(Refusal::BadEntry(wrong as u64));
     }
     Ok(())
@@ -44,7 +45,9 @@ fn put_in(
 {
     let left = room_of(roll.table.code.k, buf.len()) - (run.first + taken);
     if left < roll.h as usize - run.last {
-        let over = first_over(roll, buf, run.end, run.last, left);
+        let now: &[u8] = buf;
+        let sound = SoundRoll { roll, buf: now };
+        let over = first_over(&sound, run.end, run.last, left);
         let place = run.start + text.len() + (over - run.end);
         return Err(Refusal::NoRoom(place as u64));
     }
@@ -68,8 +71,10 @@ fn change(
     requires { Sound roll buf.old × Right roll buf.old dir.old × (start ≤ end) × (end ≤ roll.n) }
     ensures { Editing roll buf.old dir.old start end text.now result buf.new dir.new }
 {
-    let first = start_of(roll, buf, dir, start);
-    let last = start_of(roll, buf, dir, end);
+    let now: &[u8] = buf;
+    let sound = SoundRoll { roll, buf: now };
+    let first = start_of(&sound, dir, start);
+    let last = start_of(&sound, dir, end);
     let space = room_of(roll.table.code.k, buf.len()) - first;
     let mut words = Words::new();
     match measure(roll.table, space, text, &mut words) {

@@ -3,7 +3,7 @@ ghost use Rattle.roll.specs.Paper.Operations.{Making};
 
 use crate::check::check;
 use ground::refusal::Refusal;
-use sound::records::Roll;
+use sound::records::{Roll, SoundRoll};
 use store::mending::make_sound;
 use texts::entries::entries_for;
 
@@ -15,6 +15,7 @@ pub fn make_directory(roll: Roll, buf: &[u8], dir: &mut [u32]) -> Result<(), Ref
     if dir.len() < needed {
         return Err(Refusal::ShortDirectory(needed as u64));
     }
-    make_sound(roll, buf, dir);
+    let sound = SoundRoll { roll, buf };
+    make_sound(&sound, dir);
     Ok(())
 }

@@ -4,7 +4,9 @@ ghost use Rattle.roll.specs.Paper.Operations.{ReadingOne};
 use crate::fits::fits;
 use ground::refusal::Refusal;
 use reading::codewords::{codeword_at, pass_over};
+use reading::packed::Packed;
 use sound::records::Roll;
+use stopper::code::{GoodCode, Ranks};
 
 // It does not check the whole roll: it goes by the entry for place div 32, and judges the codewords from there on.
 pub fn read_one(roll: Roll, buf: &[u8], dir: &[u32], place: usize) -> Result<u8, Refusal>
@@ -23,10 +25,18 @@ pub fn read_one(roll: Roll, buf: &[u8], dir: &[u32], place: usize) -> Result<u8,
     if h <= first {
         return Err(Refusal::BadEntry(entry as u64));
     }
-    let code = roll.table.code;
-    let sigma = roll.table.sigma as u32;
-    let at = pass_over(code, sigma, buf, h, first, place % 32)?;
-    let Some(word) = codeword_at(code, sigma, buf, h, at) else {
+    let packed = Packed {
+        ranks: Ranks {
+            good: GoodCode {
+                code: roll.table.code,
+            },
+            sigma: roll.table.sigma as u32,
+        },
+        buf,
+        h,
+    };
+    let at = pass_over(&packed, first, place % 32)?;
+    let Some(word) = codeword_at(&packed, at) else {
         return Err(Refusal::BadCodeword(at as u64));
     };
     Ok(roll.table.places[word.rank as usize])

@@ -5,7 +5,7 @@ ghost use Rattle.roll.specs.Helpers.Refused.{PatternChecked};
 use crate::check::check;
 use find::finding::search_sound;
 use ground::refusal::Refusal;
-use sound::records::Roll;
+use sound::records::{Roll, SoundRoll};
 use texts::pattern::good_pattern;
 
 // That a roll is sound and a pattern good, which both searches of a whole roll ask first; refused as check does, or with 11.
@@ -23,5 +23,6 @@ pub fn search(roll: Roll, buf: &[u8], pattern: &[u8], slice: &mut [u32]) -> Resu
     ensures { Searching roll buf.now pattern.now slice.old result slice.new }
 {
     check_pattern(roll, buf, pattern)?;
-    Ok(search_sound(roll, buf, pattern, slice))
+    let sound = SoundRoll { roll, buf };
+    Ok(search_sound(&sound, pattern, slice))
 }

@@ -4,7 +4,7 @@ ghost use Rattle.roll.specs.Paper.Operations.{Unpacking};
 use crate::check::check;
 use ground::refusal::Refusal;
 use sound::range::unpack_sound;
-use sound::records::Roll;
+use sound::records::{Roll, SoundRoll};
 
 pub fn unpack(
     roll: Roll,
@@ -22,6 +22,7 @@ pub fn unpack(
     if out.len() < end - start {
         return Err(Refusal::ShortOutput((end - start) as u64));
     }
-    unpack_sound(roll, buf, start, end, out);
+    let sound = SoundRoll { roll, buf };
+    unpack_sound(&sound, start, end, out);
     Ok(())
 }

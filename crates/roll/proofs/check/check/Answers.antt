@@ -39,8 +39,17 @@ returns-in_err-fits c =
     let p = err_from_is_err_and c.from_residual.result c.from_residual.ensures.1 in
     rw (p.1, p.2) (record { says = rw (sym c.in_err-fits.ensures.says) })
 
-pub read_all-requires : goal.read_all-requires
-read_all-requires c = reads c.args.roll c.args.buf.now c.in_ok-fits.ensures
+pub overflow_cast-packed : goal.overflow_cast-packed
+overflow_cast-packed c = omega (arith, (reads c.args.roll c.args.buf.now c.in_ok-fits.ensures).few)
+
+pub invariant_of-packed : goal.invariant_of-packed
+invariant_of-packed c = record { good = (reads c.args.roll c.args.buf.now c.in_ok-fits.ensures).good }
+
+pub invariant_of-packed-2 : goal.invariant_of-packed-2
+invariant_of-packed-2 c = record { few = (reads c.args.roll c.args.buf.now c.in_ok-fits.ensures).few }
+
+pub invariant_of-packed-3 : goal.invariant_of-packed-3
+invariant_of-packed-3 c = let p = reads c.args.roll c.args.buf.now c.in_ok-fits.ensures in record { held = p.held; small = p.small }
 
 pub returns-in_err-count : goal.returns-in_err-count
 unfolding reading_from

@@ -1,5 +1,5 @@
 -- `roll::edit::check_directory` meets its contract.
-use Rattle.std.proofs.Common.{sym}
+use Rattle.std.proofs.Common.{sym, rules}
 use Rattle.std.proofs.lemmas.Result.{err_from_is_err_and}
 use borrow.Author.Tests.{lt-ltb}
 use Rattle.roll.specs.Paper.Operations.{directory_says}
@@ -13,8 +13,8 @@ returns-in_err-check c =
     let p = err_from_is_err_and c.from_residual.result c.from_residual.ensures.1 in
     rw (p.1, p.2) (record { says = rw (sym c.in_err-check.ensures.says) })
 
-pub first_wrong-requires : goal.first_wrong-requires
-first_wrong-requires c = check_sound c.in_ok-check.ensures
+pub invariant_of-sound : goal.invariant_of-sound
+invariant_of-sound c = record { sound = check_sound c.in_ok-check.ensures; places = search rules }
 
 pub returns-in-Some : goal.returns-in-Some
 unfolding directory_says

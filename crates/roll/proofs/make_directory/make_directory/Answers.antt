@@ -1,5 +1,5 @@
 -- `roll::make_directory::make_directory` meets its contract.
-use Rattle.std.proofs.Common.{sym, arith}
+use Rattle.std.proofs.Common.{sym, arith, rules}
 use Rattle.std.proofs.lemmas.Result.{err_from_is_err_and}
 use borrow.Author.Tests.{lt-ltb}
 use Rattle.roll.specs.Paper.Operations.{make_says}
@@ -20,7 +20,10 @@ returns-then-dir-needed c =
     make_refused (rw (sound_accepted (check_sound c.in_ok-check.ensures), e, lt-ltb _ _ (rw e at c.if-dir-needed.true)))
 
 pub make_sound-requires : goal.make_sound-requires
-make_sound-requires c = (check_sound c.in_ok-check.ensures, omega (arith, c.entries_for-needed.ensures, c.if-dir-needed.false))
+make_sound-requires c = omega (arith, c.entries_for-needed.ensures, c.if-dir-needed.false)
+
+pub invariant_of-sound : goal.invariant_of-sound
+invariant_of-sound c = record { sound = check_sound c.in_ok-check.ensures; places = search rules }
 
 pub returns : goal.returns
 returns c =

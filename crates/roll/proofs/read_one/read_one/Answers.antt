@@ -1,4 +1,5 @@
 -- `roll::read_one::read_one` meets its contract.
+use Prim.Native.Nat.{zero-le}
 use Rattle.std.proofs.Common.{◌≡◌, sym, ap, ◌∙◌, List, [], ℕ, ◌/◌, ◌%◌, ◌≤◌, ◌<◌, T, length, drop, get_or, Ok, Err, Some, arith}
 use Rattle.std.proofs.lemmas.Result.{err_from_is_err_and}
 use borrow.Author.Tests.{lt-leb, le-leb}
@@ -85,7 +86,17 @@ returns-then-h-first c =
     record { says = rw (sym c.in_ok-fits.ensures.says, lt-leb _ _ c.if-roll-place.false, lt-leb _ _ c.if-dir-entry.false, le-leb _ _ c.if-h-first.true) }
 
 pub pass_over-requires : goal.pass_over-requires
-pass_over-requires c = reads c.args.roll c.args.buf.now c.in_ok-fits.ensures _ (omega (arith, c.if-h-first.false))
+pass_over-requires c = omega (arith, c.if-h-first.false)
+
+-- what is read
+pub invariant_of-packed : goal.invariant_of-packed
+invariant_of-packed c = record { good = code_is c.args.roll c.args.buf.now c.in_ok-fits.ensures }
+
+pub invariant_of-packed-2 : goal.invariant_of-packed-2
+invariant_of-packed-2 c = record { few = (reads c.args.roll c.args.buf.now c.in_ok-fits.ensures 0 zero-le).few }
+
+pub invariant_of-packed-3 : goal.invariant_of-packed-3
+invariant_of-packed-3 c = let p = reads c.args.roll c.args.buf.now c.in_ok-fits.ensures 0 zero-le in record { held = p.held; small = p.small }
 
 pub returns-in_err-at : goal.returns-in_err-at
 unfolding reading_from
@@ -102,7 +113,7 @@ codeword_at-requires c =
     let a = c.args in
     let f = c.in_ok-fits.ensures in
     let h = at_upto a.roll a.buf.now f a.dir.now a.place c.if-roll-place.false c.if-dir-entry.false c.if-h-first.false c.in_ok-at.ensures in
-    reads a.roll a.buf.now f _ (omega (arith, h, long a.roll a.buf.now f))
+    omega (arith, h, long a.roll a.buf.now f)
 
 pub returns-in_default : goal.returns-in_default
 unfolding reading_from
