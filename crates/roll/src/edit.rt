@@ -14,6 +14,7 @@ use sound::lookup::{first_wrong, start_of};
 use sound::records::{Roll, SoundRoll};
 use store::measure::{Misfit, measure};
 use store::replace::{Run, first_over, replace};
+use store::replacement::Replacement;
 use store::words::Words;
 use symbols::size::room_of;
 use texts::entries::entries_for;
@@ -31,18 +32,17 @@ fn check_directory(roll: Roll, buf: &[u8], dir: &[u32]) -> Result<(), Refusal>
 }
 
 // A text that fits from the run's first symbol on takes the run's place, or is refused: 4 for what stands behind it, or 12.
-fn put_in(
-    roll: Roll,
-    words: &Words,
-    buf: &mut [u8],
-    dir: &mut [u32],
-    run: Run,
-    text: &[u8],
-    taken: usize,
-) -> Result<Roll, Refusal>
-    requires { Located roll buf.old dir.old run × Spelled roll.table words.now.lengths words.now.symbols text.now taken × (run.first + taken ≤ room roll.table.code.k (length buf.old)) }
-    ensures { Editing roll buf.old dir.old run.start run.end text.now result buf.new dir.new }
+fn put_in(roll: Roll, new: &Replacement, buf: &mut [u8], dir: &mut [u32]) -> Result<Roll, Refusal>
+    requires { let n = new.now in Located roll buf.old dir.old n.run × Spelled roll.table n.words.now.lengths n.words.now.symbols n.text.now n.taken
+        × (n.run.first + n.taken ≤ room roll.table.code.k (length buf.old)) }
+    ensures { let n = new.now in Editing roll buf.old dir.old n.run.start n.run.end n.text.now result buf.new dir.new }
 {
+    let Replacement {
+        text,
+        taken,
+        run,
+        ..
+    } = *new;
     let left = room_of(roll.table.code.k, buf.len()) - (run.first + taken);
     if left < roll.h as usize - run.last {
         let now: &[u8] = buf;
@@ -56,7 +56,7 @@ fn put_in(
     if dir.len() < needed {
         return Err(Refusal::ShortDirectory(needed as u64));
     }
-    Ok(replace(roll, words, buf, dir, run, text, taken))
+    Ok(replace(roll, new, buf, dir))
 }
 
 // A run of a sound roll with a right directory is replaced, or refused 3, 4 or 12.
@@ -87,7 +87,13 @@ fn change(
                 first,
                 last,
             };
-            put_in(roll, &words, buf, dir, run, text, taken)
+            let new = Replacement {
+                words: &words,
+                text,
+                taken,
+                run,
+            };
+            put_in(roll, &new, buf, dir)
         }
     }
 }

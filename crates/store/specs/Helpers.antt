@@ -2,3 +2,4 @@
 pub mod Words
 pub mod Measured
 pub mod Replacing
+pub mod Replacements

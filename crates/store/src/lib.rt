@@ -6,4 +6,5 @@ pub mod fresh;
 pub mod measure;
 pub mod mending;
 pub mod replace;
+pub mod replacement;
 pub mod words;

@@ -2,15 +2,16 @@
 ghost use Rattle.std.specs.Prelude.{◌≡◌, ◌+◌, ◌-◌, ◌≤◌, ◌<◌, drop};
 ghost use Rattle.stopper.specs.Paper.Table.{characters};
 ghost use Rattle.texts.specs.Paper.Directory.{start_at};
-ghost use Rattle.texts.specs.Paper.Edited.{edited};
 ghost use Rattle.sound.specs.Paper.Roll.{record_of, text_of};
 ghost use Rattle.sound.specs.Paper.Lengths.{lengths_of};
 ghost use Rattle.store.specs.Paper.Fitting.{first_over};
 ghost use Rattle.store.specs.Paper.Stored.{bytes_after, directory_after};
-ghost use Rattle.store.specs.Helpers.Replacing.{replaced_bytes, Replaces, changed_upto, Replaceable};
+ghost use Rattle.store.specs.Helpers.Replacements.{ReplacesBy, replaced_by, text_with};
+ghost use Rattle.store.specs.Helpers.Replacing.{changed_upto, Replaceable};
 
 use crate::mending::mend;
-use crate::words::{Words, write_text};
+use crate::replacement::Replacement;
+use crate::words::write_text;
 use sound::ends::end_at;
 use sound::records::{Roll, SoundRoll};
 use symbols::run::{clear, clear_unused, down, up};
@@ -46,10 +47,16 @@ pub fn first_over(sound: &SoundRoll, from: usize, first: usize, room: usize) -> 
 }
 
 // The new symbols are more than the old: the tail goes up, and the rest of the last byte is cleared.
-fn grow(k: u8, words: &Words, text: &[u8], taken: usize, buf: &mut [u8], h: usize, run: Run)
-    requires { Replaces k words.now.lengths words.now.symbols text.now taken buf.old h run × (run.last - run.first < taken) }
-    ensures { buf.new ≡ replaced_bytes k words.now.lengths words.now.symbols text.now buf.old h run }
+fn grow(k: u8, new: &Replacement, buf: &mut [u8], h: usize)
+    requires { ReplacesBy k new.now buf.old h × (new.now.run.last - new.now.run.first < new.now.taken) }
+    ensures { buf.new ≡ replaced_by k new.now buf.old h }
 {
+    let Replacement {
+        words,
+        text,
+        taken,
+        run,
+    } = *new;
     let by = taken - (run.last - run.first);
     up(k, buf, run.last, h, by);
     write_text(k, words, text, buf, run.first);
@@ -58,10 +65,16 @@ fn grow(k: u8, words: &Words, text: &[u8], taken: usize, buf: &mut [u8], h: usiz
 
 // The new symbols are fewer than the old: the tail goes down, and what it leaves behind is cleared. Not one function with `grow`: all but the text is the
 // other way round.
-fn shrink(k: u8, words: &Words, text: &[u8], taken: usize, buf: &mut [u8], h: usize, run: Run)
-    requires { Replaces k words.now.lengths words.now.symbols text.now taken buf.old h run × (taken < run.last - run.first) }
-    ensures { buf.new ≡ replaced_bytes k words.now.lengths words.now.symbols text.now buf.old h run }
+fn shrink(k: u8, new: &Replacement, buf: &mut [u8], h: usize)
+    requires { ReplacesBy k new.now buf.old h × (new.now.taken < new.now.run.last - new.now.run.first) }
+    ensures { buf.new ≡ replaced_by k new.now buf.old h }
 {
+    let Replacement {
+        words,
+        text,
+        taken,
+        run,
+    } = *new;
     let by = run.last - run.first - taken;
     down(k, buf, run.last, h, by);
     write_text(k, words, text, buf, run.first);
@@ -69,27 +82,20 @@ fn shrink(k: u8, words: &Words, text: &[u8], taken: usize, buf: &mut [u8], h: us
 }
 
 // The symbols of a run give way to those of a text; the tail, up to symbol h, moves by as much as they differ.
-fn replace_symbols(
-    k: u8,
-    words: &Words,
-    text: &[u8],
-    taken: usize,
-    buf: &mut [u8],
-    h: usize,
-    run: Run,
-)
-    requires { Replaces k words.now.lengths words.now.symbols text.now taken buf.old h run }
-    ensures { buf.new ≡ replaced_bytes k words.now.lengths words.now.symbols text.now buf.old h run }
+fn replace_symbols(k: u8, new: &Replacement, buf: &mut [u8], h: usize)
+    requires { ReplacesBy k new.now buf.old h }
+    ensures { buf.new ≡ replaced_by k new.now buf.old h }
 {
-    if run.last - run.first < taken {
-        grow(k, words, text, taken, buf, h, run);
+    let run = new.run;
+    if run.last - run.first < new.taken {
+        grow(k, new, buf, h);
         return;
     }
-    if taken < run.last - run.first {
-        shrink(k, words, text, taken, buf, h, run);
+    if new.taken < run.last - run.first {
+        shrink(k, new, buf, h);
         return;
     }
-    write_text(k, words, text, buf, run.first);
+    write_text(k, new.words, new.text, buf, run.first);
 }
 
 // Up to which character entries change: with as many characters and symbols as before, those behind the run stay.
@@ -107,22 +113,20 @@ fn changed_upto(run: Run, length: usize, taken: usize, count: usize) -> usize
 }
 
 // A run of a sound roll with a right directory gives way to a text of so many symbols.
-pub fn replace(
-    roll: Roll,
-    words: &Words,
-    buf: &mut [u8],
-    dir: &mut [u32],
-    run: Run,
-    text: &[u8],
-    taken: usize,
-) -> Roll
-    requires { Replaceable roll words.now.lengths words.now.symbols buf.old dir.old run text.now taken }
-    ensures record { result ≡ record_of roll.table (edited (text_of roll buf.old) run.start run.end text.now) }
-    ensures bytes { buf.new ≡ bytes_after roll (edited (text_of roll buf.old) run.start run.end text.now) buf.old }
-    ensures directory { dir.new ≡ directory_after roll (edited (text_of roll buf.old) run.start run.end text.now) dir.old }
+pub fn replace(roll: Roll, new: &Replacement, buf: &mut [u8], dir: &mut [u32]) -> Roll
+    requires { let n = new.now in Replaceable roll n.words.now.lengths n.words.now.symbols buf.old dir.old n.run n.text.now n.taken }
+    ensures record { result ≡ record_of roll.table (text_with roll buf.old new.now) }
+    ensures bytes { buf.new ≡ bytes_after roll (text_with roll buf.old new.now) buf.old }
+    ensures directory { dir.new ≡ directory_after roll (text_with roll buf.old new.now) dir.old }
 {
     let h = roll.h as usize;
-    replace_symbols(roll.table.code.k, words, text, taken, buf, h, run);
+    replace_symbols(roll.table.code.k, new, buf, h);
+    let Replacement {
+        text,
+        taken,
+        run,
+        ..
+    } = *new;
     let count = run.start + text.len() + (roll.n as usize - run.end);
     let after = Roll {
         table: roll.table,

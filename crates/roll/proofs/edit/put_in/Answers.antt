@@ -44,7 +44,7 @@ pub overflow_add-place-then-left-roll : goal.overflow_add-place-then-left-roll
 overflow_add-place-then-left-roll c =
     let p = c.requires in
     let e = rest p.0 p.1 p.2 c.room_of.ensures in
-    omega (arith, over_tail_within p.0 p.1 p.2 e c.if-left-roll.true c.first_over-over.ensures, count_after p.0 c.args.text.now, few p.0 p.1 p.2 c.room_of.ensures)
+    omega (arith, over_tail_within p.0 p.1 p.2 e c.if-left-roll.true c.first_over-over.ensures, count_after p.0 c.args.new.now.text.now, few p.0 p.1 p.2 c.room_of.ensures)
 
 pub returns-then-left-roll : goal.returns-then-left-roll
 returns-then-left-roll c =

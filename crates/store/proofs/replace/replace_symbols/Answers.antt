@@ -11,4 +11,4 @@ returns c =
     (below_all 256 _ (λ i. search rules))
     (below_all 256 _ (λ i. (c.type_inv.buf i).fits))
     c.write_text.ensures
-    (omega (arith, r.ordered, c.if-run-taken.false, c.if-taken-run.false))
+    (omega (arith, r.ordered, c.if-run-new.false, c.if-new-run.false))

@@ -9,7 +9,7 @@ returns c =
     shrunk c.requires.0
     (below_all 256 _ (λ i. search rules))
     (below_all 256 _ (λ i. (c.type_inv.buf i).fits))
-    (c.args.run.last - c.args.run.first - c.args.taken)
+    (c.args.new.now.run.last - c.args.new.now.run.first - c.args.new.now.taken)
     c.down.ensures
     c.write_text.ensures
     c.clear.ensures
