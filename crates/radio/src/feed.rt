@@ -11,7 +11,8 @@ use crate::records::Searcher;
 use ground::refusal::Refusal;
 use judge::judging::{hear_run, reader_of};
 use judge::records::{Judge, Progress};
-use stretches::alphabet::Alphabet;
+use stopper::code::{GoodCode, Ranks};
+use stopper::table::Alphabet;
 use stretches::codewords::{AT_ONCE, read_stretch};
 use symbols::bits::per_byte;
 use symbols::size::bytes_for;
@@ -69,8 +70,10 @@ fn follow(searcher: Searcher, piece: &[u8], all: usize, slice: &mut [u32]) -> Fo
     }
     let upto = left.min(all);
     let alphabet = Alphabet {
-        code: table.code,
-        sigma: table.sigma as u32,
+        ranks: Ranks {
+            good: GoodCode { code: table.code },
+            sigma: table.sigma as u32,
+        },
         places: &table.places,
     };
     let pattern = &searcher.pattern[..searcher.length as usize];
@@ -144,15 +147,11 @@ pub fn feed(searcher: Searcher, piece: &[u8], slice: &mut [u32]) -> Fed
         return refused(searcher, Refusal::ShortHits(all as u64));
     }
     let went = follow(searcher, piece, all, slice);
-    let progress = hear_run(
-        table.code,
-        table.sigma as u32,
-        h,
-        went.progress,
-        piece,
-        went.at,
-        all,
-    );
+    let ranks = Ranks {
+        good: GoodCode { code: table.code },
+        sigma: table.sigma as u32,
+    };
+    let progress = hear_run(ranks, h, went.progress, piece, went.at, all);
     let answer = if progress.bad != 0 {
         Err(Refusal::BadCodeword(progress.first as u64))
     } else {

@@ -8,9 +8,9 @@ ghost use Rattle.symbols.specs.Paper.Symbols.{per, symbols_of};
 ghost use Rattle.symbols.specs.Helpers.Widths.{Width};
 ghost use Rattle.stretches.specs.Helpers.Codewords.{role_of, RolesOf, ByteLaid, LaidOut, Passes, PassedAll, PassedSome, Reads, ReadStretch};
 
-use crate::alphabet::Alphabet;
 use stopper::code::{base_of, stoppers_at};
 use stopper::reading::{Reader, Step, opening, read_symbol};
+use stopper::table::Alphabet;
 use symbols::bits::{byte_of, cut_out, per_byte, place_in_byte, shift_of};
 use symbols::symbol::get;
 
@@ -137,22 +137,18 @@ fn pass_all(
     text: &mut [u8; AT_ONCE],
 ) -> Result<usize, usize>
     requires { Passes row.now from to }
-    ensures { let a = alphabet.now in PassedAll a.code a.sigma a.places.now row.now from to result text.new }
+    ensures { let a = alphabet.now in PassedAll a.ranks.good.code a.ranks.sigma a.places.now row.now from to result text.new }
 {
-    let Alphabet {
-        code,
-        sigma,
-        places,
-    } = *alphabet;
-    let s = stoppers_at(code, 0);
-    let c = base_of(code) - s;
+    let Alphabet { ranks, places } = *alphabet;
+    let s = stoppers_at(ranks.good.code, 0);
+    let c = base_of(ranks.good) - s;
     let roles = roles_of(s, c);
     let mut x: u32 = 0;
     let mut n: usize = 0;
     for i in from..to {
         let role = roles[usize::from(row[i])];
         let rank = x * s + role.low;
-        if sigma <= rank {
+        if ranks.sigma <= rank {
             return Err(i);
         }
         x = x * role.times + role.plus;
@@ -183,13 +179,13 @@ fn pass(
     upto: usize,
     text: &mut [u8; AT_ONCE],
 ) -> Option<Passed>
-    requires { (from ≤ upto) × (upto ≤ length (symbols_of alphabet.now.code.k piece.now)) }
-    ensures { let a = alphabet.now in PassedSome a.code a.sigma a.places.now r piece.now from upto result text.new }
+    requires { (from ≤ upto) × (upto ≤ length (symbols_of alphabet.now.ranks.good.code.k piece.now)) }
+    ensures { let a = alphabet.now in PassedSome a.ranks.good.code a.ranks.sigma a.places.now r piece.now from upto result text.new }
 {
     if !begins(r) {
         return None;
     }
-    let code = alphabet.code;
+    let code = alphabet.ranks.good.code;
     let skip = place_in_byte(code.k, from);
     let mut row = [0u8; AT_ONCE];
     let laid = lay_out(code.k, piece, byte_of(code.k, from), &mut row);
@@ -220,8 +216,8 @@ pub fn read_stretch(
     upto: usize,
     text: &mut [u8; AT_ONCE],
 ) -> Option<Stretch>
-    requires { Reads alphabet.now.code.k r piece.now at upto }
-    ensures { let a = alphabet.now in ReadStretch a.code a.sigma a.places.now r piece.now at upto result text.new }
+    requires { Reads alphabet.now.ranks.good.code.k r piece.now at upto }
+    ensures { let a = alphabet.now in ReadStretch a.ranks.good.code a.ranks.sigma a.places.now r piece.now at upto result text.new }
 {
     if let Some(passed) = pass(alphabet, r, piece, at, upto, text) {
         return Some(Stretch {
@@ -231,8 +227,8 @@ pub fn read_stretch(
             characters: passed.characters,
         });
     }
-    let code = alphabet.code;
-    match read_symbol(code, alphabet.sigma, r, get(code.k, piece, at)) {
+    let ranks = alphabet.ranks;
+    match read_symbol(ranks, r, get(ranks.good.code.k, piece, at)) {
         Step::Rank(rank) => {
             text[0] = alphabet.places[rank as usize];
             Some(Stretch {

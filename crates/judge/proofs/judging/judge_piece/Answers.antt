@@ -14,10 +14,15 @@ all k piece e = ap (λ (n : ℕ). length piece * n) e ∙ sym (symbols_length k 
 pub per_byte-requires : goal.per_byte-requires
 per_byte-requires c = let t = c.args.judge.roll.table in code_width t.code (table_code t c.requires.table)
 
+pub invariant_of-ranks-2 : goal.invariant_of-ranks-2
+invariant_of-ranks-2 c = record { few = table_few c.args.judge.roll.table c.requires.table }
+
+pub invariant_of-ranks : goal.invariant_of-ranks
+invariant_of-ranks c = record { good = table_code c.args.judge.roll.table c.requires.table }
+
 pub hear_run-progress-requires : goal.hear_run-progress-requires
 hear_run-progress-requires c =
-    let t = c.args.judge.roll.table in
-    (table_code t c.requires.table, rw c.from.ensures (table_few t c.requires.table), c.requires.steady, omega arith, le_of_eq (all t.code.k c.args.piece.now c.per_byte.ensures))
+    (c.requires.steady, omega arith, le_of_eq (all c.args.judge.roll.table.code.k c.args.piece.now c.per_byte.ensures))
 
 pub returns : goal.returns
 unfolding judge_after
@@ -25,4 +30,4 @@ returns c =
     let k = c.args.judge.roll.table.code.k in
     let row : List ℕ = symbols_of k c.args.piece.now in
     let e : run row 0 (length row) ≡ row = take_all (length row - 0) row (omega arith) in
-    rw (c.hear_run-progress.ensures, c.from.ensures, all k c.args.piece.now c.per_byte.ensures, e)
+    rw (c.hear_run-progress.ensures, all k c.args.piece.now c.per_byte.ensures, e)

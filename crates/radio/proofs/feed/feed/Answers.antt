@@ -142,13 +142,19 @@ follow-went-requires c =
       room = c.if-slice-all.false;
     }
 
+pub invariant_of-ranks : goal.invariant_of-ranks
+invariant_of-ranks c = record { good = table_code _ (kept_ready c.args.searcher (says_as c.kept.ensures.says c.in_default.is) c.if-so_far-ne0.false).table }
+
+pub invariant_of-ranks-2 : goal.invariant_of-ranks-2
+invariant_of-ranks-2 c = record { few = table_few _ (kept_ready c.args.searcher (says_as c.kept.ensures.says c.in_default.is) c.if-so_far-ne0.false).table }
+
 pub hear_run-progress-requires : goal.hear_run-progress-requires
 hear_run-progress-requires c =
     let a = c.args in
     let r = kept_ready a.searcher (says_as c.kept.ensures.says c.in_default.is) c.if-so_far-ne0.false in
     let w = c.follow-went.ensures in
     let n = symbols a.searcher a.piece.now c.per_byte.ensures in
-    (table_code _ r.table, table_few _ r.table, steady a.searcher a.piece.now r w, omega (arith, w.at, n), le_of_eq n)
+    (steady a.searcher a.piece.now r w, omega (arith, w.at, n), le_of_eq n)
 
 pub returns : goal.returns
 returns c =

@@ -134,8 +134,10 @@ returns-then-p-ne0 c =
 
 pub invariant_of-alphabet : goal.invariant_of-alphabet
 invariant_of-alphabet c =
-    let table = c.requires.ready.table in
-    record { good = table_code _ table; few = table_few _ table }
+    record { good = table_code _ c.requires.ready.table }
+
+pub invariant_of-alphabet-2 : goal.invariant_of-alphabet-2
+invariant_of-alphabet-2 c = record { few = table_few _ c.requires.ready.table }
 
 pub slice_bounds-pattern-end : goal.slice_bounds-pattern-end
 slice_bounds-pattern-end c = pattern_long _ _ _ c.requires (search rules)

@@ -15,16 +15,16 @@ place_is : (k from : ℕ) {byte skip : ℕ} → byte ≡ from / per k → skip �
 place_is k from a b = ap₂ (λ (i j : ℕ). i * per k + j) a b ∙ div-add-mod' from (per k)
 
 pub place_in_byte-skip-requires : goal.place_in_byte-skip-requires
-place_in_byte-skip-requires c = let a = c.args.alphabet.now in code_width a.code a.good
+place_in_byte-skip-requires c = let a = c.args.alphabet.now in code_width a.ranks.good.code a.ranks.good.good
 
 pub byte_of-requires : goal.byte_of-requires
-byte_of-requires c = let a = c.args.alphabet.now in code_width a.code a.good
+byte_of-requires c = let a = c.args.alphabet.now in code_width a.ranks.good.code a.ranks.good.good
 
 pub lay_out-laid-requires : goal.lay_out-laid-requires
 lay_out-laid-requires c =
     let a = c.args.alphabet.now in
-    let k = a.code.k in
-    let width = code_width a.code a.good in
+    let k = a.ranks.good.code.k in
+    let width = code_width a.ranks.good.code a.ranks.good.good in
     let at = place_is k c.args.from c.byte_of.ensures c.place_in_byte-skip.ensures in
     (width, le_of_mul-le-mul_right (omega (arith, at, symbols_length k c.args.piece.now)) (per_pos width))
 
@@ -38,12 +38,12 @@ pass_all-requires c =
       order = after;
       near = omega (arith, z.few);
       inside = omega (arith, z.few, z.long);
-      small = λ i h. omega (arith, small_laid z i (omega arith), (code_base a.code a.good).1);
+      small = λ i h. omega (arith, small_laid z i (omega arith), (code_base a.ranks.good.code a.ranks.good.good).1);
     }
 
 pub returns-in-Ok : goal.returns-in-Ok
 returns-in-Ok c =
-    let k = c.args.alphabet.now.code.k in
+    let k = c.args.alphabet.now.ranks.good.code.k in
     let from = c.args.from in
     let skip = c.place_in_byte-skip.result in
     let to = c.in-Some.to in

@@ -77,43 +77,43 @@ whole code good σ places row text from to n o inside few room at none =
     rw (at, none) (λ z. any_whole code good σ places (run row from to) text n z (omega (arith, long)) (omega (arith, long)) room)
 
 pub overflow_sub-c : goal.overflow_sub-c
-overflow_sub-c c = most_stops (record { good = c.args.alphabet.now.good; all = c.base_of.ensures; stops = c.stoppers_at-s.ensures })
+overflow_sub-c c = most_stops (record { good = c.args.alphabet.now.ranks.good.good; all = c.base_of.ensures; stops = c.stoppers_at-s.ensures })
 
 pub loop-i-init : goal.loop-i-init
 loop-i-init c =
     let a = c.args.alphabet.now in
-    (omega arith, omega arith, omega arith, rw sub_self (any_none a.code a.good a.sigma a.places.now c.args.text.now))
+    (omega arith, omega arith, omega arith, rw sub_self (any_none a.ranks.good.code a.ranks.good.good a.ranks.sigma a.places.now c.args.text.now))
 
 pub overflow_mul-rank : goal.overflow_mul-rank
 overflow_mul-rank c =
-    omega (arith, rank_fits (looked_up c.args.alphabet.now.good c.base_of.ensures c.stoppers_at-s.ensures c.roles_of-roles.ensures c.from.ensures (c.requires.small _ c.loop-i-test.true) none) c.loop-i.x c.loop-i.invariant.1)
+    omega (arith, rank_fits (looked_up c.args.alphabet.now.ranks.good.good c.base_of.ensures c.stoppers_at-s.ensures c.roles_of-roles.ensures c.from.ensures (c.requires.small _ c.loop-i-test.true) none) c.loop-i.x c.loop-i.invariant.1)
 
 pub overflow_add-rank : goal.overflow_add-rank
 overflow_add-rank c =
-    let z = looked_up c.args.alphabet.now.good c.base_of.ensures c.stoppers_at-s.ensures c.roles_of-roles.ensures c.from.ensures (c.requires.small _ c.loop-i-test.true) none in
+    let z = looked_up c.args.alphabet.now.ranks.good.good c.base_of.ensures c.stoppers_at-s.ensures c.roles_of-roles.ensures c.from.ensures (c.requires.small _ c.loop-i-test.true) none in
     omega (arith, rank_fits z c.loop-i.x c.loop-i.invariant.1, low_fits z)
 
 pub overflow_mul-x : goal.overflow_mul-x
 overflow_mul-x c =
     let a = c.args.alphabet.now in
-    let z = looked_up a.good c.base_of.ensures c.stoppers_at-s.ensures c.roles_of-roles.ensures c.from.ensures (c.requires.small _ c.loop-i-test.true) none in
-    omega (arith, number_fits z c.loop-i.x a.sigma a.few c.if-sigma-rank.false)
+    let z = looked_up a.ranks.good.good c.base_of.ensures c.stoppers_at-s.ensures c.roles_of-roles.ensures c.from.ensures (c.requires.small _ c.loop-i-test.true) none in
+    omega (arith, number_fits z c.loop-i.x a.ranks.sigma a.ranks.few c.if-ranks-rank.false)
 
 pub overflow_add-x : goal.overflow_add-x
 overflow_add-x c =
     let a = c.args.alphabet.now in
-    let z = looked_up a.good c.base_of.ensures c.stoppers_at-s.ensures c.roles_of-roles.ensures c.from.ensures (c.requires.small _ c.loop-i-test.true) none in
-    omega (arith, number_fits z c.loop-i.x a.sigma a.few c.if-sigma-rank.false, plus_fits z)
+    let z = looked_up a.ranks.good.good c.base_of.ensures c.stoppers_at-s.ensures c.roles_of-roles.ensures c.from.ensures (c.requires.small _ c.loop-i-test.true) none in
+    omega (arith, number_fits z c.loop-i.x a.ranks.sigma a.ranks.few c.if-ranks-rank.false, plus_fits z)
 
 pub loop-i-preserved : goal.loop-i-preserved
 loop-i-preserved c =
     let a = c.args.alphabet.now in
     let (room, _, long, passing) = c.loop-i.invariant in
-    let z = looked_up a.good c.base_of.ensures c.stoppers_at-s.ensures c.roles_of-roles.ensures c.from.ensures (c.requires.small _ c.loop-i-test.true) none in (
+    let z = looked_up a.ranks.good.good c.base_of.ensures c.stoppers_at-s.ensures c.roles_of-roles.ensures c.from.ensures (c.requires.small _ c.loop-i-test.true) none in (
       omega (arith, stop_fits z),
-      omega (arith, number_fits z c.loop-i.x a.sigma a.few c.if-sigma-rank.false, plus_fits z),
+      omega (arith, number_fits z c.loop-i.x a.ranks.sigma a.ranks.few c.if-ranks-rank.false, plus_fits z),
       length-set _ _ _ ∙ long,
-      more z a.sigma a.places.now c.args.row.now c.loop-i.text c.args.from c.loop-i.i c.loop-i.x c.loop-i.n (omega arith) (omega arith) c.from.ensures (omega arith) passing c.if-sigma-rank.false,
+      more z a.ranks.sigma a.places.now c.args.row.now c.loop-i.text c.args.from c.loop-i.i c.loop-i.x c.loop-i.n (omega arith) (omega arith) c.from.ensures (omega arith) passing c.if-ranks-rank.false,
     )
 
 pub returns : goal.returns
@@ -124,6 +124,6 @@ returns c =
       long = long;
       short = tt;
       few = omega arith;
-      whole = whole a.code a.good a.sigma a.places.now c.args.row.now c.loop-i.text c.args.from c.args.to c.loop-i.n c.requires.order c.requires.inside (omega arith) (omega arith)
+      whole = whole a.ranks.good.code a.ranks.good.good a.ranks.sigma a.places.now c.args.row.now c.loop-i.text c.args.from c.args.to c.loop-i.n c.requires.order c.requires.inside (omega arith) (omega arith)
           (omega arith) c.if-x-ne0.false passing;
     }
