@@ -1,7 +1,7 @@
 // What the symbols of a byte do to the state of a reading, which is one number (specs/Helpers/States, Moves).
 ghost use Rattle.std.specs.Prelude.{◌≡◌, List, ◌∷◌, ℕ, ◌+◌, ◌*◌, ◌≤◌, ◌<◌};
 ghost use Rattle.stopper.specs.Paper.Table.{base, stoppers};
-ghost use Rattle.moves.specs.Helpers.Moves.{Moves, Small, In, SymbolBefore, Longer, MovesByByte, bound_in, times_in, plus_in, stops_in, part_in, PartIn};
+ghost use Rattle.moves.specs.Helpers.Moves.{Moves, Small, In, SymbolBefore, Longer, MovesByByte, bound_in, times_in, plus_in, stops_in};
 
 use stopper::code::{GoodCode, Ranks, base_of, stoppers_at};
 use symbols::bits::per_byte;
@@ -154,29 +154,6 @@ pub fn moves_by_byte(ranks: Ranks) -> [u32; 256]
     t
 }
 
-// The bounds of moves in a row of their own; and the byte of each whose lowest bit is bit `low`. Two functions: a row of any width would need a
-// conversion that can fail.
-pub fn bounds_of(t: &[u32; 256]) -> [u16; 256]
-    ensures { PartIn bound_in t.now 256 result }
-{
-    let mut r = [0u16; 256];
-    for (b, e) in t.iter().enumerate() {
-        r[b] = bound_of(*e) as u16;
-    }
-    r
-}
-
-pub fn part_of(t: &[u32; 256], low: u32) -> [u8; 256]
-    requires { low < 32 }
-    ensures { PartIn (part_in low) t.now 256 result }
-{
-    let mut r = [0u8; 256];
-    for (b, e) in t.iter().enumerate() {
-        r[b] = ((*e >> low) % 256) as u8;
-    }
-    r
-}
-
 // The state after a byte.
 pub fn moved(times: u8, plus: u8, x: u32) -> u32
     requires { x < 512 }
@@ -194,18 +171,30 @@ pub fn moved_twice(times: u8, plus: u8, times2: u8, plus2: u8, x: u64) -> u64
     x * u64::from(u32::from(times) * t) + u64::from(u32::from(plus) * t + u32::from(plus2))
 }
 
-// The same of a move in one number: its bound, the state after it, how many codewords it ends.
+// The parts of a move in one number: its bound, what it does to the state, how many codewords it ends.
 pub fn bound_of(e: u32) -> u32
     ensures { (result ≡ bound_in e) × (result < 512) }
 {
     e / 65536 % 512
 }
 
+pub fn times_of(e: u32) -> u8
+    ensures { result ≡ times_in e }
+{
+    (e / 256 % 256) as u8
+}
+
+pub fn plus_of(e: u32) -> u8
+    ensures { result ≡ plus_in e }
+{
+    (e % 256) as u8
+}
+
 pub fn moved_by(e: u32, x: u32) -> u32
     requires { x < 512 }
     ensures { (result ≡ x * times_in e + plus_in e) × (result < 131072) }
 {
-    moved((e / 256 % 256) as u8, (e % 256) as u8, x)
+    moved(times_of(e), plus_of(e), x)
 }
 
 pub fn ended(e: u32) -> usize
