@@ -5,6 +5,7 @@ ghost use Rattle.stopper.specs.Paper.Table.{stoppers};
 ghost use Rattle.symbols.specs.Paper.Symbols.{per, symbols_of};
 ghost use Rattle.sound.specs.Helpers.Ends.{Ending, Passing, end_from, stops, stops_of_two, stops_by_byte};
 
+use crate::stops::Stops;
 use stopper::code::{Code, GoodCode, stoppers_at};
 use stopper::reading::next_place;
 use symbols::bits::{byte_of, per_byte, place_in_byte};
@@ -138,10 +139,11 @@ fn pass_symbols(code: Code, buf: &[u8], p: usize, count: usize) -> usize
 }
 
 // The symbol after so many codewords from symbol p on: bytes in which too few of them end are passed whole.
-pub fn pass_ends(code: Code, stops: &[u8], buf: &[u8], p: usize, count: usize) -> usize
-    requires { Ending code buf.now p count × (stops.now ≡ stops_by_byte code) }
-    ensures { result ≡ end_from code buf.now p count }
+pub fn pass_ends(stops: &Stops, buf: &[u8], p: usize, count: usize) -> usize
+    requires { Ending stops.now.good.code buf.now p count }
+    ensures { result ≡ end_from stops.now.good.code buf.now p count }
 {
+    let code = stops.good.code;
     if count == 0 {
         return p;
     }
@@ -149,7 +151,7 @@ pub fn pass_ends(code: Code, stops: &[u8], buf: &[u8], p: usize, count: usize) -
     let mut left = from_byte(code, buf, p, count);
     // A loop: how many bytes are passed comes from the text.
     loop {
-        let ended = usize::from(stops[usize::from(buf[j])]);
+        let ended = usize::from(stops.by_byte[usize::from(buf[j])]);
         if left <= ended {
             break;
         }
@@ -167,6 +169,10 @@ pub fn pass_first(code: Code, buf: &[u8], count: usize) -> usize
     if count == 0 {
         return 0;
     }
-    let stops = stops_by_byte(GoodCode { code });
-    pass_ends(code, &stops, buf, 0, count)
+    let good = GoodCode { code };
+    let stops = Stops {
+        good,
+        by_byte: stops_by_byte(good),
+    };
+    pass_ends(&stops, buf, 0, count)
 }

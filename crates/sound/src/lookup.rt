@@ -5,6 +5,7 @@ ghost use Rattle.sound.specs.Paper.Lengths.{lengths_of, Right};
 
 use crate::ends::{end_at, pass_ends, stops_by_byte};
 use crate::records::SoundRoll;
+use crate::stops::Stops;
 use stopper::code::GoodCode;
 use texts::entries::entries_for;
 
@@ -14,8 +15,13 @@ pub fn first_wrong(sound: &SoundRoll, dir: &[u32]) -> Option<usize>
         MatchOption result (Right roll buf dir.now) (λ e. (e ≡ first_wrong (directory_of (lengths_of roll buf)) dir.now) × (e < entries roll.n)) }
 {
     let SoundRoll { roll, buf, .. } = *sound;
-    let code = roll.table.code;
-    let stops = stops_by_byte(GoodCode { code });
+    let good = GoodCode {
+        code: roll.table.code,
+    };
+    let stops = Stops {
+        good,
+        by_byte: stops_by_byte(good),
+    };
     let last = entries_for(roll.n);
     let mut p: usize = 0;
     let mut j: usize = 0;
@@ -23,7 +29,7 @@ pub fn first_wrong(sound: &SoundRoll, dir: &[u32]) -> Option<usize>
         if dir.len() <= e {
             return Some(e);
         }
-        p = pass_ends(code, &stops, buf, p, e * 32 - j);
+        p = pass_ends(&stops, buf, p, e * 32 - j);
         j = e * 32;
         if dir[e] as usize != p {
             return Some(e);

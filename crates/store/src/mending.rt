@@ -6,6 +6,7 @@ ghost use Rattle.sound.specs.Paper.Lengths.{lengths_of};
 
 use sound::ends::{pass_ends, stops_by_byte};
 use sound::records::SoundRoll;
+use sound::stops::Stops;
 use stopper::code::GoodCode;
 use texts::entries::entries_for;
 
@@ -14,12 +15,17 @@ fn mend_entries(sound: &SoundRoll, dir: &mut [u32], from: usize, upto: usize, fi
     ensures { let s = sound.now in dir.new ≡ over dir.old (entries from) (run (directory_of (lengths_of s.roll s.buf.now)) (entries from) (entries upto)) (entries upto) }
 {
     let SoundRoll { roll, buf, .. } = *sound;
-    let code = roll.table.code;
-    let stops = stops_by_byte(GoodCode { code });
+    let good = GoodCode {
+        code: roll.table.code,
+    };
+    let stops = Stops {
+        good,
+        by_byte: stops_by_byte(good),
+    };
     let mut p = first;
     let mut j = from;
     for e in entries_for(from as u32)..entries_for(upto as u32) {
-        p = pass_ends(code, &stops, buf, p, e * 32 - j);
+        p = pass_ends(&stops, buf, p, e * 32 - j);
         j = e * 32;
         dir[e] = p as u32;
     }

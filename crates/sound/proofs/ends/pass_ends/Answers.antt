@@ -23,17 +23,17 @@ module _ {code : Code} {buf : List ℕ} {p count left : ℕ} (j : ℕ) (a : Pass
       ∙ ap (λ (x : ℕ). stops (stoppers code) 0 (symbols_of code.k (x ∷ []))) b_is) h
 
 pub returns-then-count-eq0 : goal.returns-then-count-eq0
-returns-then-count-eq0 c = passing_last (passing_first c.requires.0) c.if-count-eq0.true
+returns-then-count-eq0 c = passing_last (passing_first c.requires) c.if-count-eq0.true
 
 pub byte_of-j-requires : goal.byte_of-j-requires
-byte_of-j-requires c = code_width c.args.code c.requires.0.good
+byte_of-j-requires c = code_width c.args.stops.now.good.code c.requires.good
 
 pub bounds-buf-j : goal.bounds-buf-j
 bounds-buf-j c = inside c.loop-left.j c.loop-left.invariant.0 c.loop-left.invariant.1
 
 pub bounds-stops-from : goal.bounds-stops-from
 bounds-stops-from c =
-    omega (arith, c.from.ensures, c.type_inv.buf c.loop-left.j, ap length c.requires.1, stops_long c.args.code)
+    omega (arith, c.from.ensures, c.type_inv.buf c.loop-left.j, ap length c.args.stops.now.known, stops_long c.args.stops.now.good.code)
 
 pub overflow_add-j : goal.overflow_add-j
 overflow_add-j c = omega (arith, inside c.loop-left.j c.loop-left.invariant.0 c.loop-left.invariant.1)
@@ -43,10 +43,10 @@ loop-left-smaller c = omega (arith, inside c.loop-left.j c.loop-left.invariant.0
 
 pub loop-left-preserved : goal.loop-left-preserved
 loop-left-preserved c =
-    (byte_passed c.loop-left.j c.loop-left.invariant.0 c.loop-left.invariant.1 c.requires.1 c.from.ensures (omega (arith, c.from.ensures, c.type_inv.buf c.loop-left.j)) c.from-ended.ensures c.if-left-ended.false, omega arith)
+    (byte_passed c.loop-left.j c.loop-left.invariant.0 c.loop-left.invariant.1 c.args.stops.now.known c.from.ensures (omega (arith, c.from.ensures, c.type_inv.buf c.loop-left.j)) c.from-ended.ensures c.if-left-ended.false, omega arith)
 
 pub per_byte-requires : goal.per_byte-requires
-per_byte-requires c = code_width c.args.code c.requires.0.good
+per_byte-requires c = code_width c.args.stops.now.good.code c.requires.good
 
 pub pass_symbols-requires : goal.pass_symbols-requires
 pass_symbols-requires c = rw c.per_byte.ensures (passing_ending c.loop-left.invariant.0)
@@ -54,5 +54,5 @@ pass_symbols-requires c = rw c.per_byte.ensures (passing_ending c.loop-left.inva
 pub returns : goal.returns
 returns c =
     c.pass_symbols.ensures
-    ∙ ap (λ (n : ℕ). end_from c.args.code c.args.buf.now (c.loop-left.j * n) c.loop-left.left) c.per_byte.ensures
+    ∙ ap (λ (n : ℕ). end_from c.args.stops.now.good.code c.args.buf.now (c.loop-left.j * n) c.loop-left.left) c.per_byte.ensures
     ∙ passing_rest c.loop-left.invariant.0

@@ -62,8 +62,8 @@ module _ {roll : Roll} {buf dir : List ℕ} {last e j p : ℕ} (sound : Sound ro
       agrees is =
           record { ordered = omega arith; starts = starts; agree = agree_more wanted dir e before.agree (omega (arith, long)) there (is ∙ sym entry_is) }
 
-pub invariant_of-stops_by_byte : goal.invariant_of-stops_by_byte
-invariant_of-stops_by_byte c = record { good = sound_code c.args.sound.now.sound }
+pub invariant_of-good : goal.invariant_of-good
+invariant_of-good c = record { good = sound_code c.args.sound.now.sound }
 
 pub loop-e-init : goal.loop-e-init
 unfolding end_from end_of
@@ -77,7 +77,7 @@ overflow_mul-e c = omega (arith, inside c.entries_for-last.ensures c.loop-e-test
 
 pub pass_ends-p-requires : goal.pass_ends-p-requires
 pass_ends-p-requires c =
-    (ending c.args.sound.now.sound c.entries_for-last.ensures c.loop-e.invariant c.loop-e-test.true, c.stops_by_byte-stops.ensures)
+    ending c.args.sound.now.sound c.entries_for-last.ensures c.loop-e.invariant c.loop-e-test.true
 
 pub overflow_mul-j : goal.overflow_mul-j
 overflow_mul-j c = omega (arith, inside c.entries_for-last.ensures c.loop-e-test.true, sound_few c.args.sound.now.sound)

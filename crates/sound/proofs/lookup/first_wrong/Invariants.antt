@@ -11,4 +11,4 @@ pub record Before (code : Code) (buf dir : List ℕ) (last e j p : ℕ) : Type 0
   pub agree : take e dir ≡ take e (by_stops code buf last)
 
 abbrev pub invariant-loop-e : goal.invariant-loop-e
-invariant-loop-e l = Before l.code l.buf l.dir l.last l.e l.j l.p
+invariant-loop-e l = Before l.sound.roll.table.code l.sound.buf.now l.dir l.last l.e l.j l.p

@@ -50,8 +50,8 @@ overflow_cast-from c = omega (arith, c.requires.0, c.requires.1, sound_few c.arg
 pub overflow_cast-upto : goal.overflow_cast-upto
 overflow_cast-upto c = omega (arith, c.requires.1, sound_few c.args.sound.now.sound)
 
-pub invariant_of-stops_by_byte : goal.invariant_of-stops_by_byte
-invariant_of-stops_by_byte c = record { good = sound_code c.args.sound.now.sound }
+pub invariant_of-good : goal.invariant_of-good
+invariant_of-good c = record { good = sound_code c.args.sound.now.sound }
 
 pub loop-e-init : goal.loop-e-init
 loop-e-init c =
@@ -68,7 +68,7 @@ overflow_mul-e c = omega (arith, before_upto c.entries_for-e-end.ensures c.loop-
 
 pub pass_ends-p-requires : goal.pass_ends-p-requires
 pass_ends-p-requires c =
-    (ending c.args.sound.now.sound c.requires.1 c.loop-e.invariant c.entries_for-e-end.ensures c.loop-e-test.true, c.stops_by_byte-stops.ensures)
+    ending c.args.sound.now.sound c.requires.1 c.loop-e.invariant c.entries_for-e-end.ensures c.loop-e-test.true
 
 pub overflow_mul-j : goal.overflow_mul-j
 overflow_mul-j c = omega (arith, before_upto c.entries_for-e-end.ensures c.loop-e-test.true)

@@ -13,4 +13,4 @@ pub record Before (code : Code) (buf old : List ℕ) (from upto e j p : ℕ) (di
   pub written : dir ≡ laid old (by_stops code buf (entries upto)) (entries from) e
 
 abbrev pub invariant-loop-e : goal.invariant-loop-e
-invariant-loop-e l = Before l.code l.sound.buf.now l.initial.dir l.from l.upto l.e l.j l.p l.dir
+invariant-loop-e l = Before l.sound.roll.table.code l.sound.buf.now l.initial.dir l.from l.upto l.e l.j l.p l.dir
