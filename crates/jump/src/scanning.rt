@@ -1,6 +1,6 @@
 // The windows of a roll, one after the other: those that the table passes over are jumped, in the others each alignment is tried.
 ghost use Rattle.std.specs.Prelude.{◌≡◌, ◌↔◌, List, [], ◌∷◌, ◌++◌, ℕ, ◌+◌, ◌-◌, ◌*◌, ◌^◌, ◌≤◌, ◌<◌, T, length, get_or, IfSome};
-ghost use Rattle.stopper.specs.Paper.Table.{stoppers, good_code};
+ghost use Rattle.stopper.specs.Paper.Table.{stoppers};
 ghost use Rattle.symbols.specs.Paper.Symbols.{per, symbols_of};
 ghost use Rattle.texts.specs.Paper.Hits.{listed};
 ghost use Rattle.find.specs.Laws.Hits.{AfterStopper};
@@ -11,17 +11,17 @@ ghost use Rattle.jump.specs.Helpers.Windows.{Fits, Safe, Lasts, first_of, Skippe
 use crate::counting::{Counted, count_near, number_of};
 use crate::searched::Searched;
 use crate::windows::{Window, place_at};
-use stopper::code::{Code, stoppers_at};
+use stopper::code::{GoodCode, stoppers_at};
 use symbols::bits::{byte_of, per_byte};
 use symbols::symbol::get;
 
 // Whether symbols stand at symbol a, all of them among those that are searched.
 fn same(searched: &Searched, symbols: &[u8], a: usize) -> bool
     requires { a + length symbols.now ≤ searched.now.h }
-    ensures { result ≡ occurs searched.now.code searched.now.h searched.now.buf.now symbols.now a }
+    ensures { result ≡ occurs searched.now.good.code searched.now.h searched.now.buf.now symbols.now a }
 {
     for (j, y) in symbols.iter().enumerate() {
-        if get(searched.code.k, searched.buf, a + j) != *y {
+        if get(searched.good.code.k, searched.buf, a + j) != *y {
             return false;
         }
     }
@@ -29,22 +29,22 @@ fn same(searched: &Searched, symbols: &[u8], a: usize) -> bool
 }
 
 // Whether symbol a is the first or stands after a stopper.
-fn after_stopper(code: Code, buf: &[u8], a: usize) -> bool
-    requires { T (good_code code) × (a ≤ length (symbols_of code.k buf.now)) }
-    ensures { T result ↔ AfterStopper (stoppers code 0) (symbols_of code.k buf.now) a }
+fn after_stopper(good: GoodCode, buf: &[u8], a: usize) -> bool
+    requires { a ≤ length (symbols_of good.code.k buf.now) }
+    ensures { T result ↔ AfterStopper (stoppers good.code 0) (symbols_of good.code.k buf.now) a }
 {
-    a == 0 || u32::from(get(code.k, buf, a - 1)) < stoppers_at(code, 0)
+    a == 0 || u32::from(get(good.code.k, buf, a - 1)) < stoppers_at(good.code, 0)
 }
 
 // Whether a hit starts at symbol a.
 fn is_hit(searched: &Searched, symbols: &[u8], a: usize) -> bool
     requires { a < searched.now.h }
-    ensures { T result ↔ Hit searched.now.code searched.now.h searched.now.buf.now symbols.now a }
+    ensures { T result ↔ Hit searched.now.good.code searched.now.h searched.now.buf.now symbols.now a }
 {
     if searched.h - a < symbols.len() {
         return false;
     }
-    if !after_stopper(searched.code, searched.buf, a) {
+    if !after_stopper(searched.good, searched.buf, a) {
         return false;
     }
     same(searched, symbols, a)
@@ -59,14 +59,14 @@ pub struct Found {
 
 // One more hit, at symbol a. Codewords are counted only where the hit is listed.
 fn note(searched: &Searched, a: usize, found: Found, slice: &mut [u32]) -> Found
-    requires { (a ≤ searched.now.h) × Counts searched.now.code searched.now.buf.now a found.counted.next found.counted.ended × (found.total ≤ a) }
-    ensures { let s = searched.now in (result.total ≡ found.total + 1) × Counts s.code s.buf.now a result.counted.next result.counted.ended × ((hits : List ℕ) → found.total ≡ length hits → Grows hits (hits ++ (number_at s.code s.buf.now a ∷ [])) slice.old slice.new) }
+    requires { (a ≤ searched.now.h) × Counts searched.now.good.code searched.now.buf.now a found.counted.next found.counted.ended × (found.total ≤ a) }
+    ensures { let s = searched.now in (result.total ≡ found.total + 1) × Counts s.good.code s.buf.now a result.counted.next result.counted.ended × ((hits : List ℕ) → found.total ≡ length hits → Grows hits (hits ++ (number_at s.good.code s.buf.now a ∷ [])) slice.old slice.new) }
 {
     let mut counted = found.counted;
     let at = found.total as usize;
     if at < slice.len() {
         counted = count_near(searched, counted, a);
-        slice[at] = number_of(searched.code, searched.buf, counted, a);
+        slice[at] = number_of(searched.good, searched.buf, counted, a);
     }
     Found {
         total: found.total + 1,
@@ -83,10 +83,10 @@ fn is_hit_in(
     f: usize,
     a: usize,
 ) -> bool
-    requires { let s = searched.now in let k = s.code.k in Fits k (length symbols.now) v × IfSome last (λ row. (1 < v.wide) × Lasts k v symbols.now row (per k)) × ((f + v.wide) * per k ≤ s.h) × (first_of k v.free f ≤ a) × (a ≤ f * per k + v.free) }
-    ensures { T result ↔ Hit searched.now.code searched.now.h searched.now.buf.now symbols.now a }
+    requires { let s = searched.now in let k = s.good.code.k in Fits k (length symbols.now) v × IfSome last (λ row. (1 < v.wide) × Lasts k v symbols.now row (per k)) × ((f + v.wide) * per k ≤ s.h) × (first_of k v.free f ≤ a) × (a ≤ f * per k + v.free) }
+    ensures { T result ↔ Hit searched.now.good.code searched.now.h searched.now.buf.now symbols.now a }
 {
-    let per = per_byte(searched.code.k);
+    let per = per_byte(searched.good.code.k);
     if let Some(row) = last
         && searched.buf[f + v.wide - 1] != row[f * per + v.free - a]
     {
@@ -105,10 +105,10 @@ fn try_window(
     before: Found,
     slice: &mut [u32],
 ) -> Found
-    requires { let s = searched.now in let first = first_of s.code.k v.free f in Fits s.code.k (length symbols.now) v × IfSome last (λ row. (1 < v.wide) × Lasts s.code.k v symbols.now row (per s.code.k)) × ((f + v.wide) * per s.code.k ≤ s.h) × Counts s.code s.buf.now first before.counted.next before.counted.ended × (before.total ≡ length (hits_below s.code s.h s.buf.now symbols.now first)) }
-    ensures { let s = searched.now in let first = first_of s.code.k v.free f in let next = first_of s.code.k v.free (f + 1) in let hits = hits_below s.code s.h s.buf.now symbols.now in Counts s.code s.buf.now next result.counted.next result.counted.ended × (result.total ≡ length (hits next)) × Grows (hits first) (hits next) slice.old slice.new }
+    requires { let s = searched.now in let first = first_of s.good.code.k v.free f in Fits s.good.code.k (length symbols.now) v × IfSome last (λ row. (1 < v.wide) × Lasts s.good.code.k v symbols.now row (per s.good.code.k)) × ((f + v.wide) * per s.good.code.k ≤ s.h) × Counts s.good.code s.buf.now first before.counted.next before.counted.ended × (before.total ≡ length (hits_below s.good.code s.h s.buf.now symbols.now first)) }
+    ensures { let s = searched.now in let first = first_of s.good.code.k v.free f in let next = first_of s.good.code.k v.free (f + 1) in let hits = hits_below s.good.code s.h s.buf.now symbols.now in Counts s.good.code s.buf.now next result.counted.next result.counted.ended × (result.total ≡ length (hits next)) × Grows (hits first) (hits next) slice.old slice.new }
 {
-    let per = per_byte(searched.code.k);
+    let per = per_byte(searched.good.code.k);
     let end = f * per + v.free + 1;
     let mut found = before;
     for a in end.saturating_sub(per)..end {
@@ -194,12 +194,12 @@ pub fn scan(
     last: Option<[u8; 4]>,
     slice: &mut [u32],
 ) -> u32
-    requires { let k = searched.now.code.k in Fits k (length symbols.now) v × Safe k v symbols.now t.now × IfSome last (λ row. (1 < v.wide) × Lasts k v symbols.now row (per k)) }
-    ensures total { let s = searched.now in result ≡ length (hits_below s.code s.h s.buf.now symbols.now s.h) }
-    ensures list { let s = searched.now in slice.new ≡ listed (hits_below s.code s.h s.buf.now symbols.now s.h) slice.old }
+    requires { let k = searched.now.good.code.k in Fits k (length symbols.now) v × Safe k v symbols.now t.now × IfSome last (λ row. (1 < v.wide) × Lasts k v symbols.now row (per k)) }
+    ensures total { let s = searched.now in result ≡ length (hits_below s.good.code s.h s.buf.now symbols.now s.h) }
+    ensures list { let s = searched.now in slice.new ≡ listed (hits_below s.good.code s.h s.buf.now symbols.now s.h) slice.old }
 {
     let buf = searched.buf;
-    let full = byte_of(searched.code.k, searched.h);
+    let full = byte_of(searched.good.code.k, searched.h);
     let mut found = Found {
         total: 0,
         counted: Counted { next: 0, ended: 0 },

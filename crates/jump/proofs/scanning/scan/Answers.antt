@@ -16,51 +16,51 @@ use Rattle.jump.specs.declared.searched.Searched.{Searched}
 use Rattle.jump.specs.declared.windows.Window.{Window}
 use Rattle.jump.proofs.scanning.scan.Goals as goal
 
-module _ (s : Searched) {symbols : List ℕ} {v : Window} {t : List ℕ} {full : ℕ} (fits : Fits s.code.k (length symbols) v) (safe : Safe s.code.k v symbols t) (whole : full ≡ s.h / per s.code.k) where
+module _ (s : Searched) {symbols : List ℕ} {v : Window} {t : List ℕ} {full : ℕ} (fits : Fits s.good.code.k (length symbols) v) (safe : Safe s.good.code.k v symbols t) (whole : full ≡ s.h / per s.good.code.k) where
   -- the whole bytes
   inside : (full ≤ length s.buf.now) × (full ≤ 2 ^ 24)
   inside = (
-    omega (arith, whole, end_inside s.code s.good s.buf.now s.h s.inside),
-    omega (arith, whole, s.few, div-le_self s.h (per s.code.k)),
+    omega (arith, whole, end_inside s.good.code s.good.good s.buf.now s.h s.inside),
+    omega (arith, whole, s.few, div-le_self s.h (per s.good.code.k)),
   )
 
-  within : (n : ℕ) → n ≤ full → n * per s.code.k ≤ s.h
-  within n h = (le-div_iff_mul-le (per_pos (code_width s.code s.good))).0 (omega (arith, whole))
+  within : (n : ℕ) → n ≤ full → n * per s.good.code.k ≤ s.h
+  within n h = (le-div_iff_mul-le (per_pos (code_width s.good.code s.good.good))).0 (omega (arith, whole))
 
   -- the hits before the window from byte f on
   abbrev hits : ℕ → List ℕ
-  hits f = hits_below s.code s.h s.buf.now symbols (first_of s.code.k v.free f)
+  hits f = hits_below s.good.code s.h s.buf.now symbols (first_of s.good.code.k v.free f)
 
   -- all that the loop keeps there
   abbrev Kept : (total next ended : ℕ) (old new : List ℕ) → ℕ → Type 0
   Kept total next ended old new f =
-      Counts s.code s.buf.now (first_of s.code.k v.free f) next ended × (total ≡ length (hits f)) × (new ≡ listed (hits f) old)
+      Counts s.good.code s.buf.now (first_of s.good.code.k v.free f) next ended × (total ≡ length (hits f)) × (new ≡ listed (hits f) old)
 
   -- windows that are jumped over have no hit
   skipped : {from to total next ended : ℕ} (old new : List ℕ) → Skipped v.back v.places t s.buf.now from to → from ≤ to → v.wide ≤ from + 1 → to < full + v.wide
       → Kept total next ended old new (from + 1 - v.wide) → Kept total next ended old new (to + 1 - v.wide)
   skipped {from} {to} old new p le lo hi k =
-      let q : ℕ = per s.code.k in
+      let q : ℕ = per s.good.code.k in
       let m : (from + 1 - v.wide) * q ≤ (to + 1 - v.wide) * q = mul-le-mul_right q (omega arith) in
       let e : hits (to + 1 - v.wide) ≡ hits (from + 1 - v.wide)
-      = skip_hits s.code s.good (below_all 256 s.buf.now s.bytes) s.h s.inside symbols v fits t safe p lo (within (to + 1 - v.wide) (omega arith)) in
+      = skip_hits s.good.code s.good.good (below_all 256 s.buf.now s.bytes) s.h s.inside symbols v fits t safe p lo (within (to + 1 - v.wide) (omega arith)) in
       (counts_later (omega arith) k.0, k.1 ∙ ap length (sym e), k.2 ∙ ap (λ (x : List ℕ). listed x old) (sym e))
 
   -- nothing is found before the first window
   first : (slice : List ℕ) → Kept 0 0 0 slice slice (v.wide - 1 + 1 - v.wide)
   first slice =
       let z : v.wide - 1 + 1 - v.wide ≡ 0 = omega (arith, fits.some, fits.sum) in
-      let o : first_of s.code.k v.free (v.wide - 1 + 1 - v.wide) ≡ 0 = ap (first_of s.code.k v.free) z ∙ omega (arith, fits.few) in
-      let e : hits (v.wide - 1 + 1 - v.wide) ≡ [] = ap (hits_below s.code s.h s.buf.now symbols) o ∙ no_hits s.code s.buf.now s.h symbols s.inside in
-      (counts_none s.code s.buf.now _, sym (ap length e), sym (ap (λ (x : List ℕ). listed x slice) e ∙ listed_none slice))
+      let o : first_of s.good.code.k v.free (v.wide - 1 + 1 - v.wide) ≡ 0 = ap (first_of s.good.code.k v.free) z ∙ omega (arith, fits.few) in
+      let e : hits (v.wide - 1 + 1 - v.wide) ≡ [] = ap (hits_below s.good.code s.h s.buf.now symbols) o ∙ no_hits s.good.code s.buf.now s.h symbols s.inside in
+      (counts_none s.good.code s.buf.now _, sym (ap length e), sym (ap (λ (x : List ℕ). listed x slice) e ∙ listed_none slice))
 
   -- past the last window there is none
-  last : (f : ℕ) → f ≤ full → full < f + v.wide → hits_below s.code s.h s.buf.now symbols s.h ≡ hits f
+  last : (f : ℕ) → f ≤ full → full < f + v.wide → hits_below s.good.code s.h s.buf.now symbols s.h ≡ hits f
   last f h out =
-      end_hits s.code s.good (below_all 256 s.buf.now s.bytes) s.h s.inside symbols v fits t safe f (within f h) (omega (arith, whole))
+      end_hits s.good.code s.good.good (below_all 256 s.buf.now s.bytes) s.h s.inside symbols v fits t safe f (within f h) (omega (arith, whole))
 
 pub byte_of-full-requires : goal.byte_of-full-requires
-byte_of-full-requires c = let s = c.args.searched.now in code_width s.code s.good
+byte_of-full-requires c = let s = c.args.searched.now in code_width s.good.code s.good.good
 
 pub skip-e-requires : goal.skip-e-requires
 skip-e-requires c =
