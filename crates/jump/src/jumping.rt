@@ -6,9 +6,9 @@ ghost use Rattle.texts.specs.Paper.Hits.{hits, good_pattern, listed};
 ghost use Rattle.sound.specs.Paper.Roll.{text_of};
 ghost use Rattle.jump.specs.Helpers.Hits.{hits_below};
 
-use crate::scanning::scan;
+use crate::scanning::{Windows, scan};
 use crate::searched::{Searched, bytes_known};
-use crate::windows::{fill_table, lasts, window_of};
+use crate::windows::{Sought, fill_table, lasts, window_of};
 use find::finding::{list_hits, spell_pattern};
 use sound::ends::stops_by_byte;
 use sound::records::SoundRoll;
@@ -23,12 +23,21 @@ fn jump(searched: &Searched, symbols: &[u8], slice: &mut [u32]) -> u32
     ensures total { let s = searched.now in result ≡ length (hits_below s.good.code s.h s.buf.now symbols.now s.h) }
     ensures list { let s = searched.now in slice.new ≡ listed (hits_below s.good.code s.h s.buf.now symbols.now s.h) slice.old }
 {
-    let k = searched.good.code.k;
-    let v = window_of(k, symbols.len());
+    let good = searched.good;
+    let sought = Sought {
+        good,
+        symbols,
+        v: window_of(good.code.k, symbols.len()),
+    };
     let mut t = [0; 8192];
-    fill_table(k, symbols, v, &mut t);
-    let last = lasts(k, symbols, v);
-    scan(searched, symbols, v, &t, last, slice)
+    fill_table(&sought, &mut t);
+    let windows = Windows {
+        searched: *searched,
+        sought,
+        t: &t,
+        last: lasts(&sought),
+    };
+    scan(&windows, slice)
 }
 
 // Searching a sound roll: the total of all hits; the first of them are listed as far as the slice goes. Too few symbols for a window are looked for one by one.

@@ -1,16 +1,17 @@
 // The windows of a roll, one after the other: those that the table passes over are jumped, in the others each alignment is tried.
-ghost use Rattle.std.specs.Prelude.{◌≡◌, ◌↔◌, List, [], ◌∷◌, ◌++◌, ℕ, ◌+◌, ◌-◌, ◌*◌, ◌^◌, ◌≤◌, ◌<◌, T, length, get_or, IfSome};
+ghost use Rattle.std.specs.Prelude.{◌≡◌, ◌↔◌, List, [], ◌∷◌, ◌++◌, ℕ, ◌+◌, ◌-◌, ◌*◌, ◌^◌, ◌≤◌, ◌<◌, T, length, get_or};
+ghost use Rattle.std.specs.Option.{ForSome};
 ghost use Rattle.stopper.specs.Paper.Table.{stoppers};
 ghost use Rattle.symbols.specs.Paper.Symbols.{per, symbols_of};
 ghost use Rattle.texts.specs.Paper.Hits.{listed};
 ghost use Rattle.find.specs.Laws.Hits.{AfterStopper};
 ghost use Rattle.jump.specs.Helpers.Counting.{number_at, Counts};
 ghost use Rattle.jump.specs.Helpers.Hits.{occurs, Hit, hits_below, Grows};
-ghost use Rattle.jump.specs.Helpers.Windows.{Fits, Safe, Lasts, first_of, Skipped};
+ghost use Rattle.jump.specs.Helpers.Windows.{Safe, Lasts, first_of, Skipped};
 
 use crate::counting::{Counted, count_near, number_of};
 use crate::searched::Searched;
-use crate::windows::{Window, place_at};
+use crate::windows::{Sought, place_at};
 use stopper::code::{GoodCode, stoppers_at};
 use symbols::bits::{byte_of, per_byte};
 use symbols::symbol::get;
@@ -74,20 +75,27 @@ fn note(searched: &Searched, a: usize, found: Found, slice: &mut [u32]) -> Found
     }
 }
 
+// The windows of a roll: what is searched, what is sought in it, the table of jumps, and the last byte that each alignment has in a window.
+#[derive(Clone, Copy)]
+pub struct Windows<'a> {
+    pub searched: Searched<'a>,
+    pub sought: Sought<'a>,
+    pub t: &'a [u8; 8192],
+    pub last: Option<[u8; 4]>,
+    ghost alike: { sought.good.code.k ≡ searched.good.code.k },
+    ghost safe: { Safe searched.good.code.k sought.v sought.symbols.now t.now },
+    ghost ends: { let k = searched.good.code.k in ForSome last (λ row. (1 < sought.v.wide) × Lasts k sought.v sought.symbols.now row (per k)) },
+}
+
 // Whether a hit starts at symbol a, one of those that the window from byte f on is for. The window's last byte is asked first: at most alignments it is another.
-fn is_hit_in(
-    searched: &Searched,
-    symbols: &[u8],
-    v: Window,
-    last: Option<[u8; 4]>,
-    f: usize,
-    a: usize,
-) -> bool
-    requires { let s = searched.now in let k = s.good.code.k in Fits k (length symbols.now) v × IfSome last (λ row. (1 < v.wide) × Lasts k v symbols.now row (per k)) × ((f + v.wide) * per k ≤ s.h) × (first_of k v.free f ≤ a) × (a ≤ f * per k + v.free) }
-    ensures { T result ↔ Hit searched.now.good.code searched.now.h searched.now.buf.now symbols.now a }
+fn is_hit_in(windows: &Windows, f: usize, a: usize) -> bool
+    requires { let s = windows.now.searched in let k = s.good.code.k in let v = windows.now.sought.v in ((f + v.wide) * per k ≤ s.h) × (first_of k v.free f ≤ a) × (a ≤ f * per k + v.free) }
+    ensures { let s = windows.now.searched in T result ↔ Hit s.good.code s.h s.buf.now windows.now.sought.symbols.now a }
 {
+    let searched = &windows.searched;
+    let Sought { symbols, v, .. } = windows.sought;
     let per = per_byte(searched.good.code.k);
-    if let Some(row) = last
+    if let Some(row) = windows.last
         && searched.buf[f + v.wide - 1] != row[f * per + v.free - a]
     {
         return false;
@@ -96,23 +104,19 @@ fn is_hit_in(
 }
 
 // The hits at the symbols that the window from byte f on is for.
-fn try_window(
-    searched: &Searched,
-    symbols: &[u8],
-    v: Window,
-    last: Option<[u8; 4]>,
-    f: usize,
-    before: Found,
-    slice: &mut [u32],
-) -> Found
-    requires { let s = searched.now in let first = first_of s.good.code.k v.free f in Fits s.good.code.k (length symbols.now) v × IfSome last (λ row. (1 < v.wide) × Lasts s.good.code.k v symbols.now row (per s.good.code.k)) × ((f + v.wide) * per s.good.code.k ≤ s.h) × Counts s.good.code s.buf.now first before.counted.next before.counted.ended × (before.total ≡ length (hits_below s.good.code s.h s.buf.now symbols.now first)) }
-    ensures { let s = searched.now in let first = first_of s.good.code.k v.free f in let next = first_of s.good.code.k v.free (f + 1) in let hits = hits_below s.good.code s.h s.buf.now symbols.now in Counts s.good.code s.buf.now next result.counted.next result.counted.ended × (result.total ≡ length (hits next)) × Grows (hits first) (hits next) slice.old slice.new }
+fn try_window(windows: &Windows, f: usize, before: Found, slice: &mut [u32]) -> Found
+    requires { let s = windows.now.searched in let v = windows.now.sought.v in let first = first_of s.good.code.k v.free f in let hits = hits_below s.good.code s.h s.buf.now windows.now.sought.symbols.now in
+        ((f + v.wide) * per s.good.code.k ≤ s.h) × Counts s.good.code s.buf.now first before.counted.next before.counted.ended × (before.total ≡ length (hits first)) }
+    ensures { let s = windows.now.searched in let v = windows.now.sought.v in let first = first_of s.good.code.k v.free f in let next = first_of s.good.code.k v.free (f + 1) in let hits = hits_below s.good.code s.h s.buf.now windows.now.sought.symbols.now in
+        Counts s.good.code s.buf.now next result.counted.next result.counted.ended × (result.total ≡ length (hits next)) × Grows (hits first) (hits next) slice.old slice.new }
 {
+    let searched = &windows.searched;
+    let v = windows.sought.v;
     let per = per_byte(searched.good.code.k);
     let end = f * per + v.free + 1;
     let mut found = before;
     for a in end.saturating_sub(per)..end {
-        if is_hit_in(searched, symbols, v, last, f, a) {
+        if is_hit_in(windows, f, a) {
             found = note(searched, a, found, slice);
         }
     }
@@ -186,19 +190,14 @@ fn skip(buf: &[u8], back: usize, places: usize, t: &[u8; 8192], full: usize, fro
 }
 
 // All windows: the total of all hits; the first of them are listed as far as the slice goes.
-pub fn scan(
-    searched: &Searched,
-    symbols: &[u8],
-    v: Window,
-    t: &[u8; 8192],
-    last: Option<[u8; 4]>,
-    slice: &mut [u32],
-) -> u32
-    requires { let k = searched.now.good.code.k in Fits k (length symbols.now) v × Safe k v symbols.now t.now × IfSome last (λ row. (1 < v.wide) × Lasts k v symbols.now row (per k)) }
-    ensures total { let s = searched.now in result ≡ length (hits_below s.good.code s.h s.buf.now symbols.now s.h) }
-    ensures list { let s = searched.now in slice.new ≡ listed (hits_below s.good.code s.h s.buf.now symbols.now s.h) slice.old }
+pub fn scan(windows: &Windows, slice: &mut [u32]) -> u32
+    ensures total { let s = windows.now.searched in result ≡ length (hits_below s.good.code s.h s.buf.now windows.now.sought.symbols.now s.h) }
+    ensures list { let s = windows.now.searched in slice.new ≡ listed (hits_below s.good.code s.h s.buf.now windows.now.sought.symbols.now s.h) slice.old }
 {
+    let searched = &windows.searched;
     let buf = searched.buf;
+    let v = windows.sought.v;
+    let t = windows.t;
     let full = byte_of(searched.good.code.k, searched.h);
     let mut found = Found {
         total: 0,
@@ -207,7 +206,7 @@ pub fn scan(
     let mut e = skip(buf, v.back, v.places, t, full, v.wide - 1);
     // A while: the table says how far it goes on.
     while e < full {
-        found = try_window(searched, symbols, v, last, e + 1 - v.wide, found, slice);
+        found = try_window(windows, e + 1 - v.wide, found, slice);
         e = skip(buf, v.back, v.places, t, full, e + 1);
     }
     found.total

@@ -9,6 +9,7 @@ use Rattle.jump.specs.Helpers.Hits.{hits_below}
 use Rattle.jump.specs.Helpers.Windows.{Fits}
 use Rattle.jump.specs.Laws.Counting.{counts_later}
 use Rattle.jump.specs.Laws.Hits.{hit_more, hit_none, hits_few}
+use Rattle.jump.specs.Laws.Sought.{windows_fit}
 use Rattle.jump.specs.declared.windows.Window.{Window}
 use Rattle.jump.proofs.scanning.try_window.Goals as goal
 use Rattle.jump.proofs.scanning.try_window.Goals.{then-is_hit_in, else-is_hit_in}
@@ -20,25 +21,25 @@ inside {k} {long} {h} {a} {q} {v} f fits room e lt =
     omega (arith, one, room, fits.few, ap (λ (n : ℕ). f * n) e)
 
 pub per_byte-per-requires : goal.per_byte-per-requires
-per_byte-per-requires c = let s = c.args.searched.now in code_width s.good.code s.good.good
+per_byte-per-requires c = let s = c.args.windows.now.searched in code_width s.good.code s.good.good
 
 pub note-found-requires : goal.note-found-requires
 note-found-requires c =
-    let s = c.args.searched.now in
-    let lt = inside c.args.f c.requires.0 c.requires.2 c.per_byte-per.ensures c.loop-a-test.true in (
+    let s = c.args.windows.now.searched in
+    let lt = inside c.args.f (windows_fit c.args.windows.now) c.requires.0 c.per_byte-per.ensures c.loop-a-test.true in (
       omega (arith, lt),
       c.loop-a.invariant.0,
-      omega (arith, c.loop-a.invariant.1, hits_few s.good.code s.buf.now s.h c.args.symbols.now s.inside c.loop-a.a),
+      omega (arith, c.loop-a.invariant.1, hits_few s.good.code s.buf.now s.h c.args.windows.now.sought.symbols.now s.inside c.loop-a.a),
     )
 
 pub loop-a-preserved : goal.loop-a-preserved
 loop-a-preserved c =
-    let s = c.args.searched.now in
-    let symbols = c.args.symbols.now in
+    let s = c.args.windows.now.searched in
+    let symbols = c.args.windows.now.sought.symbols.now in
     let a : ℕ = c.loop-a.a in
     let number : ℕ = number_at s.good.code s.buf.now a in
     let hits : ℕ → List ℕ = hits_below s.good.code s.h s.buf.now symbols in
-    let lt = inside c.args.f c.requires.0 c.requires.2 c.per_byte-per.ensures c.loop-a-test.true in
+    let lt = inside c.args.f (windows_fit c.args.windows.now) c.requires.0 c.per_byte-per.ensures c.loop-a-test.true in
     elim c.if-is_hit_in.branch [
       | then-is_hit_in w ↦
           let e : hits (a + 1) ≡ hits a ++ (number ∷ [])
