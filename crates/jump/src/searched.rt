@@ -21,7 +21,7 @@ pub struct Searched<'a> {
     ghost number: { n ≡ number_at good.code buf.now h },
 }
 
-// Each byte of a buffer is below 256, which of a buffer behind a reference its type does not say.
+// That each byte of a buffer is below 256: its type does not say it of a buffer in a struct behind a reference.
 pub fn bytes_known(buf: &[u8])
     ensures { (i : ℕ) → get_or buf.now i 0 < 256 }
 {}

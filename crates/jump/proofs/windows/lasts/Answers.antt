@@ -19,9 +19,9 @@ pub bounds-last-o : goal.bounds-last-o
 bounds-last-o c = omega (arith, c.loop-o-test.true, c.per_byte-per.ensures, per_few (sought_width c.args.sought.now))
 
 pub loop-o-preserved : goal.loop-o-preserved
-loop-o-preserved c = (
-  one_more c.loop-o.last c.loop-o.o c.number_from.result _ (omega (arith, c.loop-o.invariant.1, c.loop-o-test.true, c.per_byte-per.ensures, per_few (sought_width c.args.sought.now)))
-      (c.number_from.ensures ∙ ap (number_from c.args.sought.now.good.code.k c.args.sought.now.symbols.now _) c.per_byte-per.ensures ∙ sym (byte_number c.args.sought.now.good.code.k c.args.sought.now.symbols.now _))
+loop-o-preserved c = let s = c.args.sought.now in (
+  one_more c.loop-o.last c.loop-o.o c.number_from.result _ (omega (arith, c.loop-o.invariant.1, c.loop-o-test.true, c.per_byte-per.ensures, per_few (sought_width s)))
+      (c.number_from.ensures ∙ ap (number_from s.good.code.k s.symbols.now _) c.per_byte-per.ensures ∙ sym (byte_number s.good.code.k s.symbols.now _))
       c.loop-o.invariant.0,
   length-set c.loop-o.last c.loop-o.o c.number_from.result ∙ c.loop-o.invariant.1,
 )

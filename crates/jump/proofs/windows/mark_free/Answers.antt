@@ -15,25 +15,27 @@ step_of-step-requires c =
 
 pub mark-requires : goal.mark-requires
 mark-requires c =
-    let n : ℕ = c.per_byte-per.result - c.args.sought.now.v.free + c.args.i in (
-      c.args.sought.now.fits.near,
-      omega (arith, c.from-head.ensures, c.number_from.ensures, c.step_of-step.ensures.0, number_under (sought_width c.args.sought.now) (sought_below c.args.sought.now) 0 n),
+    let s = c.args.sought.now in
+    let n : ℕ = c.per_byte-per.result - s.v.free + c.args.i in (
+      s.fits.near,
+      omega (arith, c.from-head.ensures, c.number_from.ensures, c.step_of-step.ensures.0, number_under (sought_width s) (sought_below s) 0 n),
       c.step_of-step.ensures.1,
     )
 
 pub returns : goal.returns
 returns c =
-    let k : ℕ = c.args.sought.now.good.code.k in
-    let row = c.args.sought.now.symbols.now in
-    let n : ℕ = c.per_byte-per.result - c.args.sought.now.v.free + c.args.i in
-    let second : c.args.sought.now.v.back ≡ 1 → c.if-v-eq1.z ≡ byte_from k row n
+    let s = c.args.sought.now in
+    let k : ℕ = s.good.code.k in
+    let row = s.symbols.now in
+    let n : ℕ = c.per_byte-per.result - s.v.free + c.args.i in
+    let second : s.v.back ≡ 1 → c.if-v-eq1.z ≡ byte_from k row n
     = λ q.
     elim c.if-v-eq1.branch [
       | then-v-eq1 w ↦ w.z-is ∙ w.number_from-z.ensures ∙ ap (number_from k row n) c.per_byte-per.ensures ∙ sym (byte_number k row n)
       | else-v-eq1 w ↦ absurd (w.if-v-eq1.false q)
     ] in
-    upto_marked (sought_width c.args.sought.now) c.requires.1 n c.args.sought.now.fits.near c.args.sought.now.fits.some (sought_below c.args.sought.now) c.args.sought.now.fits.few c.requires.0
-    (omega (arith, c.per_byte-per.ensures, c.args.sought.now.fits.few))
+    upto_marked (sought_width s) c.requires.1 n s.fits.near s.fits.some (sought_below s) s.fits.few c.requires.0
+    (omega (arith, c.per_byte-per.ensures, s.fits.few))
     c.step_of-step.ensures.0
     (c.from-head.ensures ∙ c.number_from.ensures)
     c.step_of-step.ensures.1

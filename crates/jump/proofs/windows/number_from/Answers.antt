@@ -24,13 +24,15 @@ loop-x-init c = refl
 pub next_byte-b-requires : goal.next_byte-b-requires
 next_byte-b-requires c =
     let a = c.args in
-    let lt = before a.sought.now.symbols.now a.j a.n c.loop-x.x-index c.loop-x-test.true in
-    (sought_width a.sought.now, rw (taken_at a.sought.now.symbols.now a.j a.n c.loop-x.x-index lt) (get_or_below (sought_below a.sought.now) (pow_pos a.sought.now.good.code.k) _))
+    let s = a.sought.now in
+    let lt = before s.symbols.now a.j a.n c.loop-x.x-index c.loop-x-test.true in
+    (sought_width s, rw (taken_at s.symbols.now a.j a.n c.loop-x.x-index lt) (get_or_below (sought_below s) (pow_pos s.good.code.k) _))
 
 pub loop-x-preserved : goal.loop-x-preserved
 loop-x-preserved c =
     let a = c.args in
+    let s = a.sought.now in
     let i : ℕ = c.loop-x.x-index in
-    let lt = before a.sought.now.symbols.now a.j a.n i c.loop-x-test.true in
+    let lt = before s.symbols.now a.j a.n i c.loop-x-test.true in
     c.next_byte-b.ensures
-    ∙ rw (taken_at a.sought.now.symbols.now a.j a.n i lt, c.loop-x.invariant) (number_next (sought_width a.sought.now) (sought_below a.sought.now) a.j i (omega (arith, c.requires.0)))
+    ∙ rw (taken_at s.symbols.now a.j a.n i lt, c.loop-x.invariant) (number_next (sought_width s) (sought_below s) a.j i (omega (arith, c.requires.0)))
