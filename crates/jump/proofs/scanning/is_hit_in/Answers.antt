@@ -14,29 +14,32 @@ per_byte-per-requires c = let s = c.args.windows.now.searched in code_width s.go
 
 pub bounds-searched-f : goal.bounds-searched-f
 bounds-searched-f c =
-    let s = c.args.windows.now.searched in
-    let inside : c.args.f + c.args.windows.now.sought.v.wide ≤ length s.buf.now
+    let w = c.args.windows.now in
+    let s = w.searched in
+    let inside : c.args.f + w.sought.v.wide ≤ length s.buf.now
     = le_of_mul-le-mul_right (omega (arith, c.requires.0, s.inside, symbols_length s.good.code.k s.buf.now)) (per_pos (code_width s.good.code s.good.good)) in
-    omega (arith, inside, (windows_fit c.args.windows.now).some, (windows_fit c.args.windows.now).sum)
+    omega (arith, inside, (windows_fit w).some, (windows_fit w).sum)
 
 pub bounds-row-f : goal.bounds-row-f
 bounds-row-f c =
-    let s = c.args.windows.now.searched in
-    omega (arith, (windows_fit c.args.windows.now).few, c.requires.1, c.requires.2, ap (λ (n : ℕ). c.args.f * n) c.per_byte-per.ensures, per_few (code_width s.good.code s.good.good))
+    let w = c.args.windows.now in
+    let s = w.searched in
+    omega (arith, (windows_fit w).few, c.requires.1, c.requires.2, ap (λ (n : ℕ). c.args.f * n) c.per_byte-per.ensures, per_few (code_width s.good.code s.good.good))
 
 pub returns : goal.returns
 returns c =
-    let s = c.args.windows.now.searched in
-    let v = c.args.windows.now.sought.v in
+    let w = c.args.windows.now in
+    let s = w.searched in
+    let v = w.sought.v in
     let a : ℕ = c.args.a in
     let f : ℕ = c.args.f in
     let q : ℕ = per s.good.code.k in
     let o : ℕ = f * q + v.free - a in
-    let row = c.args.windows.now.ends c.in-Some.row c.in-Some.is in
+    let row = w.ends c.in-Some.row c.in-Some.is in
     let e : f * c.per_byte-per.result + v.free - a ≡ o = ap (λ (n : ℕ). f * n + v.free - a) c.per_byte-per.ensures in
     let one : (f + 1) * q ≤ (f + v.wide) * q = mul-le-mul_right q (omega (arith, row.0)) in
-    let lo : o < q = omega (arith, c.requires.1, (windows_fit c.args.windows.now).few) in
-    let there = last_byte s.good.code s.good.good (below_all 256 s.buf.now s.bytes) s.h s.inside c.args.windows.now.sought.symbols.now v (windows_fit c.args.windows.now) a o f (omega (arith, one, c.requires.0, c.requires.2, (windows_fit c.args.windows.now).few)) in (
+    let lo : o < q = omega (arith, c.requires.1, (windows_fit w).few) in
+    let there = last_byte s.good.code s.good.good (below_all 256 s.buf.now s.bytes) s.h s.inside w.sought.symbols.now v (windows_fit w) a o f (omega (arith, one, c.requires.0, c.requires.2, (windows_fit w).few)) in (
       (λ x. absurd x),
       (λ x.
           c.if-searched-f.true

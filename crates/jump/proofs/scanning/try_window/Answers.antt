@@ -25,21 +25,23 @@ per_byte-per-requires c = let s = c.args.windows.now.searched in code_width s.go
 
 pub note-found-requires : goal.note-found-requires
 note-found-requires c =
-    let s = c.args.windows.now.searched in
-    let lt = inside c.args.f (windows_fit c.args.windows.now) c.requires.0 c.per_byte-per.ensures c.loop-a-test.true in (
+    let w = c.args.windows.now in
+    let s = w.searched in
+    let lt = inside c.args.f (windows_fit w) c.requires.0 c.per_byte-per.ensures c.loop-a-test.true in (
       omega (arith, lt),
       c.loop-a.invariant.0,
-      omega (arith, c.loop-a.invariant.1, hits_few s.good.code s.buf.now s.h c.args.windows.now.sought.symbols.now s.inside c.loop-a.a),
+      omega (arith, c.loop-a.invariant.1, hits_few s.good.code s.buf.now s.h w.sought.symbols.now s.inside c.loop-a.a),
     )
 
 pub loop-a-preserved : goal.loop-a-preserved
 loop-a-preserved c =
-    let s = c.args.windows.now.searched in
-    let symbols = c.args.windows.now.sought.symbols.now in
+    let w = c.args.windows.now in
+    let s = w.searched in
+    let symbols = w.sought.symbols.now in
     let a : ℕ = c.loop-a.a in
     let number : ℕ = number_at s.good.code s.buf.now a in
     let hits : ℕ → List ℕ = hits_below s.good.code s.h s.buf.now symbols in
-    let lt = inside c.args.f (windows_fit c.args.windows.now) c.requires.0 c.per_byte-per.ensures c.loop-a-test.true in
+    let lt = inside c.args.f (windows_fit w) c.requires.0 c.per_byte-per.ensures c.loop-a-test.true in
     elim c.if-is_hit_in.branch [
       | then-is_hit_in w ↦
           let e : hits (a + 1) ≡ hits a ++ (number ∷ [])
