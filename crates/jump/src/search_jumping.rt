@@ -5,7 +5,7 @@ ghost use Rattle.roll.specs.Paper.Operations.{Searching};
 use crate::jumping::jump_sound;
 use ground::refusal::Refusal;
 use roll::search::check_pattern;
-use sound::records::Roll;
+use sound::records::{Roll, SoundRoll};
 
 pub fn search_jumping(
     roll: Roll,
@@ -16,5 +16,6 @@ pub fn search_jumping(
     ensures { Searching roll buf.now pattern.now slice.old result slice.new }
 {
     check_pattern(roll, buf, pattern)?;
-    Ok(jump_sound(roll, buf, pattern, slice))
+    let sound = SoundRoll { roll, buf };
+    Ok(jump_sound(&sound, pattern, slice))
 }

@@ -1,10 +1,10 @@
 // Windows of whole bytes in which a pattern is looked for, at all its alignments in a byte, and the table of jumps.
-ghost use Rattle.std.specs.Prelude.{◌≡◌, ◌+◌, ◌*◌, ◌/◌, ◌%◌, ◌^◌, ◌≤◌, ◌<◌, length, MatchOption};
-ghost use Rattle.ground.specs.Helpers.Below.{Below};
+ghost use Rattle.std.specs.Prelude.{◌≡◌, ℕ, ◌+◌, ◌*◌, ◌/◌, ◌%◌, ◌^◌, ◌≤◌, ◌<◌, length, get_or, MatchOption};
 ghost use Rattle.symbols.specs.Paper.Symbols.{per};
 ghost use Rattle.symbols.specs.Helpers.Widths.{Width};
 ghost use Rattle.jump.specs.Helpers.Windows.{number_from, Fits, key_of, says, Upto, Safe, Marks, Lasts};
 
+use stopper::code::GoodCode;
 use symbols::bits::{byte_of, per_byte, place_in_byte};
 
 // A window is `wide` bytes. Each alignment of the pattern fills them but for at most `free` symbols before its first; the table has
@@ -15,6 +15,16 @@ pub struct Window {
     pub back: usize,
     pub places: usize,
     pub free: usize,
+}
+
+// A pattern's symbols in a good code, and the window in which they are looked for.
+#[derive(Clone, Copy)]
+pub struct Sought<'a> {
+    pub good: GoodCode,
+    pub symbols: &'a [u8],
+    pub v: Window,
+    ghost below: { (i : ℕ) → get_or symbols.now i 0 < 2 ^ good.code.k },
+    ghost fits: { Fits good.code.k (length symbols.now) v },
 }
 
 // The widest windows of a pattern of so many symbols.
@@ -61,12 +71,13 @@ fn next_byte(k: u8, y: u8, x: u8) -> u8
 }
 
 // The number that n symbols make, from symbol j on.
-fn number_from(k: u8, symbols: &[u8], j: usize, n: usize) -> u8
-    requires { (Width k) × (Below (2 ^ k) symbols.now) × (n ≤ per k) × (j + n ≤ length symbols.now) }
-    ensures { result ≡ number_from k symbols.now j n }
+fn number_from(sought: &Sought, j: usize, n: usize) -> u8
+    requires { (n ≤ per sought.now.good.code.k) × (j + n ≤ length sought.now.symbols.now) }
+    ensures { result ≡ number_from sought.now.good.code.k sought.now.symbols.now j n }
 {
+    let k = sought.good.code.k;
     let mut b = 0;
-    for x in &symbols[j..j + n] {
+    for x in &sought.symbols[j..j + n] {
         b = next_byte(k, b, *x);
     }
     b
@@ -91,32 +102,36 @@ fn mark(back: usize, z: u8, head: usize, step: usize, many: usize, t: &mut [u8; 
 }
 
 // The keys at free symbol i, whatever the free symbols are: n of the pattern's fill its byte.
-fn mark_free(k: u8, symbols: &[u8], v: Window, i: usize, t: &mut [u8; 8192])
-    requires { (Width k) × (Below (2 ^ k) symbols.now) × Fits k (length symbols.now) v × (i < v.free) × Upto k v.back v.free v.places symbols.now t.old i }
-    ensures { Upto k v.back v.free v.places symbols.now t.new (i + 1) }
+fn mark_free(sought: &Sought, i: usize, t: &mut [u8; 8192])
+    requires { let s = sought.now in (i < s.v.free) × Upto s.good.code.k s.v.back s.v.free s.v.places s.symbols.now t.old i }
+    ensures { let s = sought.now in Upto s.good.code.k s.v.back s.v.free s.v.places s.symbols.now t.new (i + 1) }
 {
+    let k = sought.good.code.k;
+    let v = sought.v;
     let per = per_byte(k);
     let n = per - v.free + i;
     let step = step_of(k, n);
     let z = if v.back == 1 {
-        number_from(k, symbols, n, per)
+        number_from(sought, n, per)
     } else {
         0
     };
-    let head = usize::from(number_from(k, symbols, 0, n));
+    let head = usize::from(number_from(sought, 0, n));
     mark(v.back, z, head, step, 256 / step, t);
 }
 
 // The keys at all symbols: that of a later place is written over an earlier one.
-fn fill_places(k: u8, symbols: &[u8], v: Window, t: &mut [u8; 8192])
-    requires { (Width k) × (Below (2 ^ k) symbols.now) × Fits k (length symbols.now) v × Upto k v.back v.free v.places symbols.now t.old v.free }
-    ensures { Safe k v symbols.now t.new }
+fn fill_places(sought: &Sought, t: &mut [u8; 8192])
+    requires { let s = sought.now in Upto s.good.code.k s.v.back s.v.free s.v.places s.symbols.now t.old s.v.free }
+    ensures { Safe sought.now.good.code.k sought.now.v sought.now.symbols.now t.new }
 {
+    let Sought { good, symbols, v } = *sought;
+    let k = good.code.k;
     let per = per_byte(k);
     let last = per - 1;
     let behind = v.back * per;
-    let mut y = number_from(k, symbols, 0, last);
-    let mut z = number_from(k, symbols, behind, last);
+    let mut y = number_from(sought, 0, last);
+    let mut z = number_from(sought, behind, last);
     for j in 0..v.places * per - v.free {
         y = next_byte(k, y, symbols[j + last]);
         z = next_byte(k, z, symbols[j + behind + last]);
@@ -125,21 +140,22 @@ fn fill_places(k: u8, symbols: &[u8], v: Window, t: &mut [u8; 8192])
 }
 
 // The table of jumps: 0 for a key that stands nowhere in the pattern, else its last place in a window, and one.
-pub fn fill_table(k: u8, symbols: &[u8], v: Window, t: &mut [u8; 8192])
-    requires { (Width k) × (Below (2 ^ k) symbols.now) × Fits k (length symbols.now) v × Upto k v.back v.free v.places symbols.now t.old 0 }
-    ensures { Safe k v symbols.now t.new }
+pub fn fill_table(sought: &Sought, t: &mut [u8; 8192])
+    requires { let s = sought.now in Upto s.good.code.k s.v.back s.v.free s.v.places s.symbols.now t.old 0 }
+    ensures { Safe sought.now.good.code.k sought.now.v sought.now.symbols.now t.new }
 {
-    for i in 0..v.free {
-        mark_free(k, symbols, v, i, t);
+    for i in 0..sought.v.free {
+        mark_free(sought, i, t);
     }
-    fill_places(k, symbols, v, t);
+    fill_places(sought, t);
 }
 
 // The last byte that each alignment has in a window. None in a window of one byte: free symbols may stand there.
-pub fn lasts(k: u8, symbols: &[u8], v: Window) -> Option<[u8; 4]>
-    requires { (Width k) × (Below (2 ^ k) symbols.now) × Fits k (length symbols.now) v }
-    ensures { MatchOption result (v.wide ≡ 1) (λ last. (1 < v.wide) × Lasts k v symbols.now last (per k)) }
+pub fn lasts(sought: &Sought) -> Option<[u8; 4]>
+    ensures { let s = sought.now in MatchOption result (s.v.wide ≡ 1) (λ last. (1 < s.v.wide) × Lasts s.good.code.k s.v s.symbols.now last (per s.good.code.k)) }
 {
+    let k = sought.good.code.k;
+    let v = sought.v;
     if v.wide == 1 {
         return None;
     }
@@ -147,7 +163,7 @@ pub fn lasts(k: u8, symbols: &[u8], v: Window) -> Option<[u8; 4]>
     let first = (v.wide - 1) * per - v.free;
     let mut last = [0; 4];
     for o in 0..per {
-        last[o] = number_from(k, symbols, first + o, per);
+        last[o] = number_from(sought, first + o, per);
     }
     Some(last)
 }

@@ -45,29 +45,28 @@ module _ (code : Code) (g : T (good_code code)) (buf : List ℕ) {a h next : ℕ
         ∙ ap (λ (n : ℕ). number_at code buf (next * per code.k) + n) (sym (some ∙ ap₂ (number_at code) rest_is (ap (λ (n : ℕ). h - n) product)))
 
 pub byte_of-next-requires : goal.byte_of-next-requires
-byte_of-next-requires c = let s = c.args.searched.now in code_width s.code s.good
+byte_of-next-requires c = let s = c.args.searched.now in code_width s.good.code s.good.good
 
 pub per_byte-requires : goal.per_byte-requires
-per_byte-requires c = let s = c.args.searched.now in code_width s.code s.good
+per_byte-requires c = let s = c.args.searched.now in code_width s.good.code s.good.good
 
 pub slice_bounds-rest-count : goal.slice_bounds-rest-count
 slice_bounds-rest-count c =
-    let s = c.args.searched.now in (before s.code s.good s.buf.now c.byte_of-next.ensures c.requires s.inside).1
+    let s = c.args.searched.now in (before s.good.code s.good.good s.buf.now c.byte_of-next.ensures c.requires s.inside).1
 
 pub slice_bounds-rest-start : goal.slice_bounds-rest-start
 slice_bounds-rest-start c =
-    let s = c.args.searched.now in (before s.code s.good s.buf.now c.byte_of-next.ensures c.requires s.inside).1
+    let s = c.args.searched.now in (before s.good.code s.good.good s.buf.now c.byte_of-next.ensures c.requires s.inside).1
 
 pub count_to-counted-requires : goal.count_to-counted-requires
 count_to-counted-requires c =
     let s = c.args.searched.now in
-    (s.good, s.known, room s.code s.good s.buf.now c.byte_of-next.ensures c.requires s.inside c.per_byte.ensures, omega (arith, s.few), counts_none s.code _ _)
+    (s.known, room s.good.code s.good.good s.buf.now c.byte_of-next.ensures c.requires s.inside c.per_byte.ensures, omega (arith, s.few), counts_none s.good.code _ _)
 
 pub number_of-requires : goal.number_of-requires
 number_of-requires c =
     let s = c.args.searched.now in (
-      s.good,
-      room s.code s.good s.buf.now c.byte_of-next.ensures c.requires s.inside c.per_byte.ensures,
+      room s.good.code s.good.good s.buf.now c.byte_of-next.ensures c.requires s.inside c.per_byte.ensures,
       omega (arith, s.few),
       c.count_to-counted.ensures.0,
       c.count_to-counted.ensures.1,
@@ -76,15 +75,15 @@ number_of-requires c =
 pub overflow_sub-result : goal.overflow_sub-result
 overflow_sub-result c =
     let s = c.args.searched.now in
-    omega (arith, parts s.code s.good s.buf.now c.byte_of-next.ensures c.requires s.inside c.per_byte.ensures s.number c.number_of.ensures)
+    omega (arith, parts s.good.code s.good.good s.buf.now c.byte_of-next.ensures c.requires s.inside c.per_byte.ensures s.number c.number_of.ensures)
 
 pub returns : goal.returns
 returns c =
     let s = c.args.searched.now in
     let e = c.byte_of-next.ensures in (
       record {
-        number = omega (arith, parts s.code s.good s.buf.now e c.requires s.inside c.per_byte.ensures s.number c.number_of.ensures);
-        before = (before s.code s.good s.buf.now e c.requires s.inside).0;
+        number = omega (arith, parts s.good.code s.good.good s.buf.now e c.requires s.inside c.per_byte.ensures s.number c.number_of.ensures);
+        before = (before s.good.code s.good.good s.buf.now e c.requires s.inside).0;
       },
-      subst (λ (n : ℕ). c.args.a < (n + 1) * per s.code.k) (sym e) (end_behind s.code s.good s.buf.now c.args.a),
+      subst (λ (n : ℕ). c.args.a < (n + 1) * per s.good.code.k) (sym e) (end_behind s.good.code s.good.good s.buf.now c.args.a),
     )

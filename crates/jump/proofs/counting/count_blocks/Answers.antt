@@ -6,7 +6,7 @@ use Rattle.jump.proofs.counting.count_blocks.Goals as goal
 pub loop-next-init : goal.loop-next-init
 loop-next-init c =
     let a = c.args in
-    (counts_next a.code c.requires.0 a.buf.now a.end c.requires.3, c.requires.3.number)
+    (counts_next a.good.code c.args.good.good a.buf.now a.end c.requires.2, c.requires.2.number)
 
 pub overflow_add-ended : goal.overflow_add-ended
 overflow_add-ended c =
@@ -16,5 +16,5 @@ overflow_add-ended c =
       c.loop-next.invariant.1,
       c.ended_in_block.ensures,
       c.from-ended.ensures,
-      number_fits a.code c.requires.0 a.buf.now a.end c.requires.2 (c.loop-next.next + 48) (omega (arith, c.loop-next-test.true)),
+      number_fits a.good.code c.args.good.good a.buf.now a.end c.requires.1 (c.loop-next.next + 48) (omega (arith, c.loop-next-test.true)),
     )

@@ -35,12 +35,12 @@ byte_more code g buf {table} known next end i byte h e small =
 
 pub slice_bounds-b-items-count : goal.slice_bounds-b-items-count
 slice_bounds-b-items-count c =
-    let a = c.args in counts_next a.code c.requires.0 a.buf.now a.end c.requires.4
+    let a = c.args in counts_next a.good.code c.args.good.good a.buf.now a.end c.requires.3
 
 pub slice_bounds-b-items-start : goal.slice_bounds-b-items-start
 slice_bounds-b-items-start c =
     let a = c.args in
-    omega (arith, counts_next a.code c.requires.0 a.buf.now a.end c.requires.4, c.requires.2)
+    omega (arith, counts_next a.good.code c.args.good.good a.buf.now a.end c.requires.3, c.requires.1)
 
 pub overflow_add-ended : goal.overflow_add-ended
 overflow_add-ended c =
@@ -51,8 +51,8 @@ overflow_add-ended c =
       arith,
       c.loop-b.invariant,
       c.from-ended.ensures,
-      byte_more a.code c.requires.0 a.buf.now c.requires.1 next a.end i c.from.result c.loop-b-test.true c.from.ensures (omega (arith, c.type_inv.buf (next + i))),
-      number_fits a.code c.requires.0 a.buf.now a.end c.requires.3 (next + (i + 1)) (omega (arith, inside a.buf.now next a.end i c.loop-b-test.true)),
+      byte_more a.good.code c.args.good.good a.buf.now c.requires.0 next a.end i c.from.result c.loop-b-test.true c.from.ensures (omega (arith, c.type_inv.buf (next + i))),
+      number_fits a.good.code c.args.good.good a.buf.now a.end c.requires.2 (next + (i + 1)) (omega (arith, inside a.buf.now next a.end i c.loop-b-test.true)),
     )
 
 pub loop-b-preserved : goal.loop-b-preserved
@@ -64,5 +64,5 @@ loop-b-preserved c =
       arith,
       c.loop-b.invariant,
       c.from-ended.ensures,
-      byte_more a.code c.requires.0 a.buf.now c.requires.1 next a.end i c.from.result c.loop-b-test.true c.from.ensures (omega (arith, c.type_inv.buf (next + i))),
+      byte_more a.good.code c.args.good.good a.buf.now c.requires.0 next a.end i c.from.result c.loop-b-test.true c.from.ensures (omega (arith, c.type_inv.buf (next + i))),
     )

@@ -8,7 +8,7 @@ use Rattle.jump.proofs.counting.ended_in_block.Goals as goal
 
 pub stops_of_four-n-requires : goal.stops_of_four-n-requires
 stops_of_four-n-requires c =
-    (c.requires.0, ⊎_elim (λ e. absurd (c.if-code-eq2.false e)) (λ e. e) (code_width c.args.code c.requires.0))
+    ⊎_elim (λ e. absurd (c.if-good-eq2.false e)) (λ e. e) (code_width c.args.good.code c.args.good.good)
 
 pub loop-j-preserved : goal.loop-j-preserved
 loop-j-preserved c =
@@ -19,8 +19,8 @@ loop-j-preserved c =
       omega (
         arith,
         c.loop-j.invariant.1,
-        number_byte a.code c.requires.0 a.buf.now q (omega (arith, c.requires.1, c.loop-j-test.true)),
+        number_byte a.good.code c.args.good.good a.buf.now q (omega (arith, c.requires, c.loop-j-test.true)),
         c.stops_of_four-n.ensures.0,
-        ap (λ (n : ℕ). number_at a.code a.buf.now (n * per a.code.k)) e,
+        ap (λ (n : ℕ). number_at a.good.code a.buf.now (n * per a.good.code.k)) e,
       ),
     )

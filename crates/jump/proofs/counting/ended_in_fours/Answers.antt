@@ -23,10 +23,10 @@ loop-j-preserved c =
     let z = c.continuers_of-third in
     let i : ℕ = c.args.i in
     let j : ℕ = c.loop-j.j in
-    let long = c.requires.2 in
+    let long = c.requires.1 in
     let lt = c.loop-j-test.true in
     let t = three_sums x.result y.result z.result x.ensures.1 y.ensures.1 z.ensures.1 in
-    let more = byte_more c.args.code c.requires.0 c.args.buf.now in (
+    let more = byte_more c.args.good.code c.args.good.good c.args.buf.now in (
       omega (arith, c.loop-j.invariant.0, t, x.ensures.1, x.ensures.2, y.ensures.1, y.ensures.2, z.ensures.1, z.ensures.2),
       omega (
         arith,

@@ -1,5 +1,5 @@
 -- `jump::jumping::jump_sound` meets its contract.
-use Rattle.std.proofs.Common.{◌≡◌, List, ℕ, length, take, sym, ap, ◌∙◌, rules, arith}
+use Rattle.std.proofs.Common.{◌≡◌, List, ℕ, length, take, sym, ap, ◌∙◌, arith}
 use Rattle.ground.specs.Laws.Limit.{limit_fits}
 use Rattle.stopper.specs.Paper.Table.{characters}
 use Rattle.stopper.specs.Laws.Table.{table_few, code_width}
@@ -11,6 +11,7 @@ use Rattle.texts.specs.Laws.Patterns.{pattern_most}
 use Rattle.texts.specs.Laws.Finding.{listed_none}
 use Rattle.sound.specs.Paper.Roll.{symbols_for, text_of}
 use Rattle.sound.specs.declared.records.Roll.{Roll}
+use Rattle.sound.specs.declared.records.SoundRoll.{SoundRoll}
 use Rattle.sound.specs.Helpers.Held.{Held}
 use Rattle.sound.specs.Laws.Sound.{sound_code}
 use Rattle.sound.specs.Laws.Texts.{text_below}
@@ -28,19 +29,29 @@ hits_are : {roll : Roll} {buf : List ℕ} → Held roll buf → (pattern : List 
     → symbols ≡ pattern_row roll.table.code (characters roll.table) pattern → word_hits roll buf symbols ≡ hits pattern (text_of roll buf)
 hits_are {roll} {buf} held pattern known is = ap (word_hits roll buf) is ∙ row_hits held pattern known
 
+held : (s : SoundRoll) → Held s.roll s.buf.now
+held s = record { sound = s.sound; places = s.places }
+
+pub overflow_cast-alphabet : goal.overflow_cast-alphabet
+overflow_cast-alphabet c = let s = c.args.sound.now in omega (arith, table_few s.roll.table s.sound.table)
+
+pub invariant_of-good : goal.invariant_of-good
+invariant_of-good c = record { good = sound_code c.args.sound.now.sound }
+
+pub invariant_of-alphabet : goal.invariant_of-alphabet
+invariant_of-alphabet c = let s = c.args.sound.now in record { few = table_few s.roll.table s.sound.table }
+
 pub spell_pattern-requires : goal.spell_pattern-requires
-spell_pattern-requires c =
-    (sound_code c.requires.0, table_few c.args.roll.table c.requires.0.table, pattern_most c.args.pattern.now c.requires.1, omega arith)
+spell_pattern-requires c = (pattern_most c.args.pattern.now c.requires, omega arith)
 
 pub returns-in_default : goal.returns-in_default
 returns-in_default c =
     let a = c.args in
-    let held : Held a.roll a.buf.now = record { sound = c.requires.0; places = search rules } in
-    let e = no_hits held a.pattern.now c.in_default.ensures.known in
+    let e = no_hits (held a.sound.now) a.pattern.now c.in_default.ensures.known in
     record { total = sym (ap length e); list = sym (ap (λ (found : List ℕ). listed found a.slice.now) e ∙ listed_none a.slice.now) }
 
 pub per_byte-requires : goal.per_byte-requires
-per_byte-requires c = code_width c.args.roll.table.code (sound_code c.requires.0)
+per_byte-requires c = let s = c.args.sound.now in code_width s.roll.table.code (sound_code s.sound)
 
 pub slice_bounds-symbols-end : goal.slice_bounds-symbols-end
 slice_bounds-symbols-end c =
@@ -49,39 +60,34 @@ slice_bounds-symbols-end c =
 pub returns-then-long-per_byte : goal.returns-then-long-per_byte
 returns-then-long-per_byte c =
     let a = c.args in
-    let held : Held a.roll a.buf.now = record { sound = c.requires.0; places = search rules } in
-    let h = hits_are held a.pattern.now c.in-Some.ensures.known c.in-Some.ensures.symbols in
+    let h = hits_are (held a.sound.now) a.pattern.now c.in-Some.ensures.known c.in-Some.ensures.symbols in
     record { total = c.list_hits.ensures.total ∙ ap length h; list = c.list_hits.ensures.list ∙ ap (λ (found : List ℕ). listed found a.slice.now) h }
-
-pub stops_by_byte-stops-requires : goal.stops_by_byte-stops-requires
-stops_by_byte-stops-requires c = sound_code c.requires.0
 
 pub invariant_of-searched : goal.invariant_of-searched
 invariant_of-searched c =
-    let a = c.args in
-    let k : ℕ = a.roll.table.code.k in
+    let s = c.args.sound.now in
+    let k : ℕ = s.roll.table.code.k in
     record {
-      good = sound_code c.requires.0;
       known = c.stops_by_byte-stops.ensures;
-      bytes = λ i. omega (arith, c.type_inv.buf i);
-      inside = room_row k a.buf.now a.roll.h c.requires.0.fits;
-      few = omega (arith, c.requires.0.fits, room_limit k (length a.buf.now), limit_fits);
-      number = sym (all_number c.requires.0);
+      bytes = c.bytes_known.ensures;
+      inside = room_row k s.buf.now s.roll.h s.sound.fits;
+      few = omega (arith, s.sound.fits, room_limit k (length s.buf.now), limit_fits);
+      number = sym (all_number s.sound);
     }
 
 pub jump-requires : goal.jump-requires
 jump-requires c =
-    let a = c.args in
-    let t = a.roll.table in
+    let s = c.args.sound.now in
+    let pattern = c.args.pattern.now in
+    let t = s.roll.table in
     let e = c.in-Some.ensures in
-    let row : take c.in-Some.long c.spell_pattern.new.symbols ≡ symbols_for t a.pattern.now = e.symbols ∙ pattern_known t.code (characters t) a.pattern.now e.known in (
+    let row : take c.in-Some.long c.spell_pattern.new.symbols ≡ symbols_for t pattern = e.symbols ∙ pattern_known t.code (characters t) pattern e.known in (
       omega (arith, c.if-long-per_byte.false, c.per_byte.ensures, row_room c.spell_pattern.new.symbols e.length e.symbols),
-      rw row (text_below t.code (sound_code c.requires.0) (characters t) a.pattern.now),
+      rw row (text_below t.code (sound_code s.sound) (characters t) pattern),
     )
 
 pub returns : goal.returns
 returns c =
     let a = c.args in
-    let held : Held a.roll a.buf.now = record { sound = c.requires.0; places = search rules } in
-    let h = all_hits c.requires.0 _ ∙ hits_are held a.pattern.now c.in-Some.ensures.known c.in-Some.ensures.symbols in
+    let h = all_hits a.sound.now.sound _ ∙ hits_are (held a.sound.now) a.pattern.now c.in-Some.ensures.known c.in-Some.ensures.symbols in
     record { total = c.jump.ensures.total ∙ ap length h; list = c.jump.ensures.list ∙ ap (λ (found : List ℕ). listed found a.slice.now) h }

@@ -10,7 +10,7 @@ use Rattle.jump.proofs.scanning.note.Goals.{then-at-slice, else-at-slice}
 pub returns : goal.returns
 returns c =
     let a = c.args in
-    let number : ℕ = number_at a.searched.now.code a.searched.now.buf.now a.a in
+    let number : ℕ = number_at a.searched.now.good.code a.searched.now.buf.now a.a in
     elim c.if-at-slice.branch [
       | then-at-slice w ↦ (
         refl,

@@ -26,7 +26,7 @@ module _ (row symbols : List ℕ) (a h j : ℕ) {y : ℕ} (in-row : h ≤ length
 pub get-requires : goal.get-requires
 get-requires c =
     let s = c.args.searched.now in
-    (code_width s.code s.good, omega (arith, c.loop-j-test.true, c.requires, s.inside))
+    (code_width s.good.code s.good.good, omega (arith, c.loop-j-test.true, c.requires, s.inside))
 
 pub returns-then-get-y : goal.returns-then-get-y
 returns-then-get-y c =
@@ -42,7 +42,7 @@ pub returns : goal.returns
 returns c =
     let s = c.args.searched.now in
     let symbols = c.args.symbols.now in
-    let row : List ℕ = take s.h (symbols_of s.code.k s.buf.now) in
+    let row : List ℕ = take s.h (symbols_of s.good.code.k s.buf.now) in
     let e : c.loop-j.j ≡ length symbols = omega arith in
     sym
     (c.loop-j.invariant

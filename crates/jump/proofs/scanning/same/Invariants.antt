@@ -6,4 +6,4 @@ use Rattle.jump.proofs.scanning.same.Given as goal
 
 abbrev pub invariant-loop-j : goal.invariant-loop-j
 invariant-loop-j l =
-    occurs l.searched.code l.searched.h l.searched.buf.now l.symbols l.a ≡ stands (drop l.j l.symbols) (drop (l.a + l.j) (take l.searched.h (symbols_of l.searched.code.k l.searched.buf.now)))
+    occurs l.searched.good.code l.searched.h l.searched.buf.now l.symbols l.a ≡ stands (drop l.j l.symbols) (drop (l.a + l.j) (take l.searched.h (symbols_of l.searched.good.code.k l.searched.buf.now)))

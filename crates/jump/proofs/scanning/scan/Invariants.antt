@@ -7,12 +7,12 @@ use Rattle.jump.proofs.scanning.scan.Given as goal
 
 abbrev pub invariant-loop-e : goal.invariant-loop-e
 invariant-loop-e l =
-    let s = l.searched in
-    let first : ℕ = first_of s.code.k l.v.free (l.e + 1 - l.v.wide) in
-    let hits : List ℕ = hits_below s.code s.h s.buf.now l.symbols first in
+    let s = l.windows.searched in
+    let first : ℕ = first_of s.good.code.k l.v.free (l.e + 1 - l.v.wide) in
+    let hits : List ℕ = hits_below s.good.code s.h s.buf.now l.windows.sought.symbols.now first in
     (l.v.wide ≤ l.e + 1)
     × (l.e < l.full + l.v.wide)
-    × Counts s.code s.buf.now first l.found.counted.next l.found.counted.ended
+    × Counts s.good.code s.buf.now first l.found.counted.next l.found.counted.ended
     × (l.found.total ≡ length hits)
     × (l.slice ≡ listed hits l.initial.slice)
 

@@ -9,6 +9,7 @@ use Rattle.jump.specs.Helpers.Hits.{hits_below}
 use Rattle.jump.specs.Helpers.Windows.{Fits}
 use Rattle.jump.specs.Laws.Counting.{counts_later}
 use Rattle.jump.specs.Laws.Hits.{hit_more, hit_none, hits_few}
+use Rattle.jump.specs.Laws.Sought.{windows_fit}
 use Rattle.jump.specs.declared.windows.Window.{Window}
 use Rattle.jump.proofs.scanning.try_window.Goals as goal
 use Rattle.jump.proofs.scanning.try_window.Goals.{then-is_hit_in, else-is_hit_in}
@@ -20,36 +21,38 @@ inside {k} {long} {h} {a} {q} {v} f fits room e lt =
     omega (arith, one, room, fits.few, ap (λ (n : ℕ). f * n) e)
 
 pub per_byte-per-requires : goal.per_byte-per-requires
-per_byte-per-requires c = let s = c.args.searched.now in code_width s.code s.good
+per_byte-per-requires c = let s = c.args.windows.now.searched in code_width s.good.code s.good.good
 
 pub note-found-requires : goal.note-found-requires
 note-found-requires c =
-    let s = c.args.searched.now in
-    let lt = inside c.args.f c.requires.0 c.requires.2 c.per_byte-per.ensures c.loop-a-test.true in (
+    let w = c.args.windows.now in
+    let s = w.searched in
+    let lt = inside c.args.f (windows_fit w) c.requires.0 c.per_byte-per.ensures c.loop-a-test.true in (
       omega (arith, lt),
       c.loop-a.invariant.0,
-      omega (arith, c.loop-a.invariant.1, hits_few s.code s.buf.now s.h c.args.symbols.now s.inside c.loop-a.a),
+      omega (arith, c.loop-a.invariant.1, hits_few s.good.code s.buf.now s.h w.sought.symbols.now s.inside c.loop-a.a),
     )
 
 pub loop-a-preserved : goal.loop-a-preserved
 loop-a-preserved c =
-    let s = c.args.searched.now in
-    let symbols = c.args.symbols.now in
+    let w = c.args.windows.now in
+    let s = w.searched in
+    let symbols = w.sought.symbols.now in
     let a : ℕ = c.loop-a.a in
-    let number : ℕ = number_at s.code s.buf.now a in
-    let hits : ℕ → List ℕ = hits_below s.code s.h s.buf.now symbols in
-    let lt = inside c.args.f c.requires.0 c.requires.2 c.per_byte-per.ensures c.loop-a-test.true in
+    let number : ℕ = number_at s.good.code s.buf.now a in
+    let hits : ℕ → List ℕ = hits_below s.good.code s.h s.buf.now symbols in
+    let lt = inside c.args.f (windows_fit w) c.requires.0 c.per_byte-per.ensures c.loop-a-test.true in
     elim c.if-is_hit_in.branch [
       | then-is_hit_in w ↦
           let e : hits (a + 1) ≡ hits a ++ (number ∷ [])
-          = hit_more s.code s.buf.now s.h symbols s.inside a lt (c.is_hit_in.ensures.0 (true_yes _ w.if-is_hit_in.true)) in
+          = hit_more s.good.code s.buf.now s.h symbols s.inside a lt (c.is_hit_in.ensures.0 (true_yes _ w.if-is_hit_in.true)) in
           let n : length (hits (a + 1)) ≡ length (hits a) + 1 = ap length e ∙ length-append (hits a) (number ∷ []) in (
             rw w.found-is (counts_later (omega arith) w.note-found.ensures.1),
             rw w.found-is (omega (arith, w.note-found.ensures.0, c.loop-a.invariant.1, n)),
             (λ first z. w.slice-is ∙ w.note-found.ensures.2 (hits a) c.loop-a.invariant.1 first (c.loop-a.invariant.2 first z) ∙ ap (λ (x : List ℕ). listed x first) (sym e)),
           )
       | else-is_hit_in w ↦
-          let e : hits (a + 1) ≡ hits a = hit_none s.code s.buf.now s.h symbols s.inside a lt (λ x. subst T w.if-is_hit_in.false (c.is_hit_in.ensures.1 x)) in (
+          let e : hits (a + 1) ≡ hits a = hit_none s.good.code s.buf.now s.h symbols s.inside a lt (λ x. subst T w.if-is_hit_in.false (c.is_hit_in.ensures.1 x)) in (
             rw w.found-is (counts_later (omega arith) c.loop-a.invariant.0),
             rw w.found-is (c.loop-a.invariant.1 ∙ ap length (sym e)),
             (λ first z. w.slice-is ∙ c.loop-a.invariant.2 first z ∙ ap (λ (x : List ℕ). listed x first) (sym e)),

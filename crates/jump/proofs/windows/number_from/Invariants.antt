@@ -3,4 +3,4 @@ use Rattle.jump.specs.Helpers.Windows.{number_from}
 use Rattle.jump.proofs.windows.number_from.Given as goal
 
 abbrev pub invariant-loop-x : goal.invariant-loop-x
-invariant-loop-x l = l.b ≡ number_from l.k l.symbols l.j l.x-index
+invariant-loop-x l = l.b ≡ number_from l.k l.sought.symbols.now l.j l.x-index
