@@ -7,7 +7,7 @@ ghost use Rattle.sound.specs.Paper.Roll.{text_of};
 ghost use Rattle.jump.specs.Helpers.Hits.{hits_below};
 
 use crate::scanning::{Windows, scan};
-use crate::searched::{Searched, bytes_known};
+use crate::searched::Searched;
 use crate::windows::{Sought, fill_table, lasts, window_of};
 use find::finding::{list_hits, spell_pattern};
 use sound::ends::stops_by_byte;
@@ -65,7 +65,6 @@ pub fn jump_sound(sound: &SoundRoll, pattern: &[u8], slice: &mut [u32]) -> u32
         return list_hits(sound, symbols, slice);
     }
     let stops = stops_by_byte(good);
-    bytes_known(sound.buf);
     let searched = Searched {
         good,
         stops: &stops,

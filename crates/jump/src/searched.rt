@@ -20,8 +20,3 @@ pub struct Searched<'a> {
     ghost few: { h ≤ 2 ^ 24 },
     ghost number: { n ≡ number_at good.code buf.now h },
 }
-
-// That each byte of a buffer is below 256: its type does not say it of a buffer in a struct behind a reference.
-pub fn bytes_known(buf: &[u8])
-    ensures { (i : ℕ) → get_or buf.now i 0 < 256 }
-{}

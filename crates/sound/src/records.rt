@@ -1,5 +1,5 @@
 // The record of a roll: its table, how many characters it has and how many symbols. A sound roll in its buffer.
-ghost use Rattle.std.specs.Prelude.{◌≡◌, length};
+ghost use Rattle.std.specs.Prelude.{◌≡◌, ℕ, ◌<◌, length, get_or};
 ghost use Rattle.sound.specs.Paper.Roll.{Sound};
 
 use stopper::table::Table;
@@ -19,4 +19,5 @@ pub struct SoundRoll<'a> {
     pub buf: &'a [u8],
     pub ghost sound: { Sound roll buf.now },
     pub ghost places: { length roll.table.places ≡ 256 },
+    pub ghost bytes: { (i : ℕ) → get_or buf.now i 0 < 256 },
 }

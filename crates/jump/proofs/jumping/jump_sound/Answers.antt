@@ -69,7 +69,7 @@ invariant_of-searched c =
     let k : ℕ = s.roll.table.code.k in
     record {
       known = c.stops_by_byte-stops.ensures;
-      bytes = c.bytes_known.ensures;
+      bytes = c.args.sound.now.bytes;
       inside = room_row k s.buf.now s.roll.h s.sound.fits;
       few = omega (arith, s.sound.fits, room_limit k (length s.buf.now), limit_fits);
       number = sym (all_number s.sound);

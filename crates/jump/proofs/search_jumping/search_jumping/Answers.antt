@@ -1,5 +1,5 @@
 -- `jump::search_jumping::search_jumping` meets its contract.
-use Rattle.std.proofs.Common.{rules}
+use Rattle.std.proofs.Common.{arith, rules}
 use Rattle.std.proofs.lemmas.Result.{err_from_is_err_and}
 use Rattle.roll.specs.Laws.Operations.{pattern_sound, search_refused, search_yes}
 use Rattle.jump.proofs.search_jumping.search_jumping.Goals as goal
@@ -10,7 +10,7 @@ returns-in_err-check_pattern c =
     rw (p.1, p.2) (search_refused c.in_err-check_pattern.ensures)
 
 pub invariant_of-sound : goal.invariant_of-sound
-invariant_of-sound c = record { sound = (pattern_sound c.in_ok-check_pattern.ensures).0; places = search rules }
+invariant_of-sound c = record { sound = (pattern_sound c.in_ok-check_pattern.ensures).0; places = search rules; bytes = λ i. omega (arith, c.type_inv.buf i) }
 
 pub jump_sound-requires : goal.jump_sound-requires
 jump_sound-requires c = (pattern_sound c.in_ok-check_pattern.ensures).1

@@ -1,5 +1,5 @@
 -- `roll::edit::check_directory` meets its contract.
-use Rattle.std.proofs.Common.{sym, rules}
+use Rattle.std.proofs.Common.{arith, sym, rules}
 use Rattle.std.proofs.lemmas.Result.{err_from_is_err_and}
 use borrow.Author.Tests.{lt-ltb}
 use Rattle.roll.specs.Paper.Operations.{directory_says}
@@ -14,7 +14,7 @@ returns-in_err-check c =
     rw (p.1, p.2) (record { says = rw (sym c.in_err-check.ensures.says) })
 
 pub invariant_of-sound : goal.invariant_of-sound
-invariant_of-sound c = record { sound = check_sound c.in_ok-check.ensures; places = search rules }
+invariant_of-sound c = record { sound = check_sound c.in_ok-check.ensures; places = search rules; bytes = λ i. omega (arith, c.type_inv.buf i) }
 
 pub returns-in-Some : goal.returns-in-Some
 unfolding directory_says

@@ -23,7 +23,7 @@ pub make_sound-requires : goal.make_sound-requires
 make_sound-requires c = omega (arith, c.entries_for-needed.ensures, c.if-dir-needed.false)
 
 pub invariant_of-sound : goal.invariant_of-sound
-invariant_of-sound c = record { sound = check_sound c.in_ok-check.ensures; places = search rules }
+invariant_of-sound c = record { sound = check_sound c.in_ok-check.ensures; places = search rules; bytes = λ i. omega (arith, c.type_inv.buf i) }
 
 pub returns : goal.returns
 returns c =

@@ -1,5 +1,5 @@
 -- `roll::search::search` meets its contract.
-use Rattle.std.proofs.Common.{rules}
+use Rattle.std.proofs.Common.{arith, rules}
 use Rattle.std.proofs.lemmas.Result.{err_from_is_err_and}
 use Rattle.roll.specs.Laws.Operations.{pattern_sound, search_refused, search_yes}
 use Rattle.roll.proofs.search.search.Goals as goal
@@ -10,7 +10,7 @@ returns-in_err-check_pattern c =
     rw (p.1, p.2) (search_refused c.in_err-check_pattern.ensures)
 
 pub invariant_of-sound : goal.invariant_of-sound
-invariant_of-sound c = let (sound, _) = pattern_sound c.in_ok-check_pattern.ensures in record { sound = sound; places = search rules }
+invariant_of-sound c = let (sound, _) = pattern_sound c.in_ok-check_pattern.ensures in record { sound = sound; places = search rules; bytes = λ i. omega (arith, c.type_inv.buf i) }
 
 pub search_sound-requires : goal.search_sound-requires
 search_sound-requires c = let (_, good) = pattern_sound c.in_ok-check_pattern.ensures in good

@@ -1,5 +1,5 @@
 -- `roll::unpack::unpack` meets its contract.
-use Rattle.std.proofs.Common.{sym, inl, inr, rules}
+use Rattle.std.proofs.Common.{arith, sym, inl, inr, rules}
 use Rattle.std.proofs.lemmas.Result.{err_from_is_err_and}
 use borrow.Author.Tests.{lt-ltb, le-ltb}
 use Rattle.roll.specs.Paper.Operations.{unpack_says}
@@ -26,7 +26,7 @@ returns-then-out-end c =
     unpack_refused (rw (sound_accepted (check_sound c.in_ok-check.ensures), le-ltb _ _ c.if-end-start.false, le-ltb _ _ c.if-roll-end.false, lt-ltb _ _ c.if-out-end.true))
 
 pub invariant_of-sound : goal.invariant_of-sound
-invariant_of-sound c = record { sound = check_sound c.in_ok-check.ensures; places = search rules }
+invariant_of-sound c = record { sound = check_sound c.in_ok-check.ensures; places = search rules; bytes = λ i. omega (arith, c.type_inv.buf i) }
 
 pub unpack_sound-requires : goal.unpack_sound-requires
 unpack_sound-requires c = (c.if-end-start.false, c.if-roll-end.false, c.if-out-end.false)

@@ -1,5 +1,5 @@
 -- `store::replace::replace` meets its contract.
-use Rattle.std.proofs.Common.{refl, arith}
+use Rattle.std.proofs.Common.{refl, arith, rules}
 use Rattle.sound.specs.Laws.Directory.{right_long}
 use Rattle.store.specs.Laws.Located.{run_ordered, run_inside}
 use Rattle.store.specs.Laws.Replaced as replaced
@@ -36,7 +36,7 @@ pub invariant_of-sound : goal.invariant_of-sound
 invariant_of-sound c =
     let p = c.requires in
     let (sound, _, _, _, _) = replaced.mends p (replaced.roll_after_lem p refl refl) (replaced.bytes_after_lem p c.replace_symbols.ensures) c.changed_upto-upto.ensures in
-    record { sound = sound; places = p.located.held.places }
+    record { sound = sound; places = p.located.held.places; bytes = λ i. search rules }
 
 pub clear_entries-requires : goal.clear_entries-requires
 clear_entries-requires c =
