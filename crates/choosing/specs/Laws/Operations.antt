@@ -11,7 +11,6 @@ use Rattle.ground.specs.Laws.Rows.{tab_at}
 use Rattle.ground.specs.declared.refusal.Refusal.{Refusal}
 use Rattle.stopper.specs.Paper.Table.{good_width}
 use Rattle.stopper.specs.declared.code.Code.{Code}
-use Rattle.stopper.specs.declared.table.Table.{Table}
 use Rattle.choosing.specs.Paper.Choosing.{counts_of, counted, total, chosen, chosen_table}
 use Rattle.choosing.specs.Paper.Operations.{count_says, Counting, choose_says, choice_of, Choosing}
 use Rattle.choosing.specs.Helpers.Answers.{count_in, ranking_of, best_of}
