@@ -151,7 +151,7 @@ overflow_sub-matcher c = omega (arith, pattern_some _ _ _ c.requires)
 
 pub invariant_of-matcher : goal.invariant_of-matcher
 invariant_of-matcher c =
-    record { good = c.requires.ready.pattern; places = c.mark_places.ensures; bit = whole_is _ _ _ c.requires }
+    record { some = pattern_some _ _ _ c.requires; most = pattern_most _ c.requires.ready.pattern; places = c.mark_places.ensures; bit = whole_is _ _ _ c.requires }
 
 pub loop-i-init : goal.loop-i-init
 loop-i-init c =
