@@ -11,7 +11,7 @@ use sound::records::Roll;
 use stopper::table::good_table;
 use texts::pattern::{MOST_PATTERN, good_pattern};
 
-// What stands beside a refusal where a searcher is answered too: one of that record, with an empty pattern, which feed and finish refuse in their turn.
+// What stands beside a refusal where a searcher is answered too: one of that record with an empty pattern, which feed and finish refuse in their turn.
 pub fn no_searcher(roll: Roll) -> Searcher
     ensures { result ≡ searcher_for roll [] }
 {
