@@ -1,5 +1,5 @@
 -- What stands beside a refusal, and what a refused call leaves in lent memory, through each exported function but `feed` whose answer has another part: of the contracts
--- as the source states them. A number that is not 0 is a refusal's. `a` are the arguments, `s` what is lent as the call ends.
+-- as the source states them. A number that is not 0 is a refusal's. `a` holds the arguments, `s` what is lent, as the call ends.
 use Rattle.std.specs.Prelude.{◌≡◌, refl, [], ℕ}
 use mathlib.Core.Path.{◌∙◌}
 use contract.Lifetimes.{Lfts}
