@@ -2,7 +2,7 @@
 """Every name that the pages cite exists, and every place that they link to.
 
 Read are README.md and docs/*.md, outside blocks of code, but not docs/landings/, which is history. Held to the tree, or, on the pages of EARLIER below, to the
-tree or to that of a commit that the page names in full:
+tree or to that of the commit THEN (where a clone has not that commit, the links of those pages alone are tried):
   `crate`/Path: `a`, `b`     a and b are declared in crates/crate/specs/Path.antt, or proofs/Path.antt, or (Path = src/..) in that file of code
   edit `crate`: `a`          crates/crate/must-fail/a.edit
   row P2: `a`                a is a case of crates/worked/specs/Cases.antt
@@ -39,7 +39,8 @@ def declared(path):
     return set(names)
 
 
-# Pages about earlier commits: what they name may be of then.
+# Pages about an earlier commit, the last before the code was written in today's forms: what they name may be of then.
+THEN = "2c412f7c3f0c3d711f70c71a6cca581c35fd35ed"
 EARLIER = {ROOT / "docs" / page for page in ("PORT.md", "DESIGN-PASS.md", "LOOK-BACK.md")}
 
 
@@ -71,7 +72,7 @@ def tree_of(commit, folder):
     """The tree of a commit, laid out in a folder; none where the clone does not have it."""
     packed = subprocess.run(["git", "-C", str(ROOT), "archive", commit], capture_output=True)
     if packed.returncode != 0:
-        print(f"commit {commit} is not in this clone: names are held to the tree alone")
+        print(f"commit {commit} is not in this clone: names of that time are not held")
         return None
     with tarfile.open(fileobj=io.BytesIO(packed.stdout)) as archive:
         archive.extractall(folder)
@@ -194,14 +195,14 @@ def hold_blocks(page, language, path):
 
 
 now = Tree(ROOT)
-then = {}
 pages = [ROOT / "README.md", *sorted((ROOT / "docs").glob("*.md"))]
 with tempfile.TemporaryDirectory() as scratch:
+    then = tree_of(THEN, scratch)
     for page in pages:
-        commits = set(re.findall(r"\b[0-9a-f]{40}\b", page.read_text(encoding="utf-8"))) if page in EARLIER else set()
-        for commit in commits - then.keys():
-            then[commit] = tree_of(commit, pathlib.Path(scratch) / commit)
-        hold(page, [now, *(then[commit] for commit in commits if then[commit])])
+        if page not in EARLIER:
+            hold(page, [now])
+        elif then:
+            hold(page, [now, then])
 for page in pages + sorted((ROOT / "docs" / "landings").glob("*.md")):
     for number, line in prose(page):
         hold_links(page, number, line)
