@@ -1,7 +1,8 @@
 #!/usr/bin/env python3
 """Every name that the pages cite exists, and every place that they link to.
 
-Read are README.md and docs/*.md, outside blocks of code, but not docs/PORT.md, docs/DESIGN-PASS.md and docs/landings/. Held to the tree:
+Read are README.md and docs/*.md, outside blocks of code, but not docs/landings/, which is history. Held to the tree, or, on the pages of EARLIER below, to the
+tree or to that of the commit THEN (where a clone has not that commit, the links of those pages alone are tried):
   `crate`/Path: `a`, `b`     a and b are declared in crates/crate/specs/Path.antt, or proofs/Path.antt, or (Path = src/..) in that file of code
   edit `crate`: `a`          crates/crate/must-fail/a.edit
   row P2: `a`                a is a case of crates/worked/specs/Cases.antt
@@ -9,14 +10,18 @@ Read are README.md and docs/*.md, outside blocks of code, but not docs/PORT.md, 
   `crate::module::item`      item is declared in that module of the code; also `crate::module`, `crate::item` of its lib.rt, `module::item`
   `crates/..`, `docs/..`     a path of the repository
   `a`                        any other single word: it stands somewhere in the tree as a whole word
-In all of them, those left out too:
+In these and in docs/landings/ too:
   [words](path#anchor)       a path of the repository, from the page's folder on, and a heading of that page as GitHub names it; no link to another host is tried
 In docs/BOX.md the blocks of C, joined, are examples/members.c behind its first comment, and those of Rust rust/monterculo/examples/members.rs.
 A name or place that is not there is printed with its page and line, and the exit status is 1.
 """
+import io
 import pathlib
 import re
+import subprocess
 import sys
+import tarfile
+import tempfile
 import unicodedata
 import urllib.parse
 
@@ -34,23 +39,44 @@ def declared(path):
     return set(names)
 
 
-def files_of(crate, path):
-    """The file that a citation's path names, or the files of a folder."""
-    base = ROOT / "crates" / crate
-    if path.startswith("src/"):
-        return sorted((base / "src").glob("*.rt")) if path == "src/" else [base / path]
-    return [p for p in (base / "specs" / (path + ".antt"), base / "proofs" / (path + ".antt")) if p.exists()]
+# Pages about an earlier commit, the last before the code was written in today's forms: what they name may be of then.
+THEN = "2c412f7c3f0c3d711f70c71a6cca581c35fd35ed"
+EARLIER = {ROOT / "docs" / page for page in ("PORT.md", "DESIGN-PASS.md", "LOOK-BACK.md")}
 
 
-tree = [p for top in ("crates", "include", "rust", "tools", "examples", ".ci") for p in (ROOT / top).rglob("*") if p.is_file() and not {"target", "out"} & set(p.parts)]
-words = {"crates.txt"}
-for p in tree:
-    words.update(p.relative_to(ROOT).parts)
-    words.add(p.stem)
-    if p.suffix in (".rt", ".antt", ".rs", ".c", ".h", ".py", ".edit", ".toml", "") and p.stat().st_size < 400000:
-        words.update(WORD.findall(p.read_text(encoding="utf-8", errors="ignore")))
-cases = (ROOT / "tools" / "vectors.py").read_text(encoding="utf-8")
-listing = "".join((ROOT / "crates" / crate / "stdin").read_text(encoding="utf-8") for crate in ("vectors", "vectors_radio", "vectors_frames"))
+class Tree:
+    """What the files below a folder declare and name."""
+
+    def __init__(self, root):
+        self.root = root
+        tops = ("crates", "include", "rust", "tools", "examples", ".ci")
+        self.files = [p for top in tops for p in (root / top).rglob("*") if p.is_file() and not {"target", "out"} & set(p.parts)]
+        self.words = {"crates.txt"}
+        for p in self.files:
+            self.words.update(p.relative_to(root).parts)
+            self.words.add(p.stem)
+            if p.suffix in (".rt", ".antt", ".rs", ".c", ".h", ".py", ".edit", ".toml", "") and p.stat().st_size < 400000:
+                self.words.update(WORD.findall(p.read_text(encoding="utf-8", errors="ignore")))
+        self.cases = (root / "tools" / "vectors.py").read_text(encoding="utf-8")
+        self.listing = "".join((root / "crates" / crate / "stdin").read_text(encoding="utf-8") for crate in ("vectors", "vectors_radio", "vectors_frames"))
+
+    def files_of(self, crate, path):
+        """The file that a citation's path names, or the files of a folder."""
+        base = self.root / "crates" / crate
+        if path.startswith("src/"):
+            return sorted((base / "src").glob("*.rt")) if path == "src/" else [base / path]
+        return [p for p in (base / "specs" / (path + ".antt"), base / "proofs" / (path + ".antt")) if p.exists()]
+
+
+def tree_of(commit, folder):
+    """The tree of a commit, laid out in a folder; none where the clone does not have it."""
+    packed = subprocess.run(["git", "-C", str(ROOT), "archive", commit], capture_output=True)
+    if packed.returncode != 0:
+        print(f"commit {commit} is not in this clone: names of that time are not held")
+        return None
+    with tarfile.open(fileobj=io.BytesIO(packed.stdout)) as archive:
+        archive.extractall(folder)
+    return Tree(pathlib.Path(folder))
 
 
 def miss(page, line, what):
@@ -61,46 +87,54 @@ def names(text):
     return re.findall(r"`([^`]+)`", text)
 
 
-def hold(page, number, line):
+def missed(tree, line):
+    """What a line names that a tree has not: the name, and what is to be said of it."""
     for crate, path, rest in re.findall(r"`(\w+)`/([\w/.]+): ((?:`[^`]+`(?:, | and )?)+)", line):
-        found = files_of(crate, path)
+        found = tree.files_of(crate, path)
         have = set().union(*(declared(f) for f in found)) if found and all(f.exists() for f in found) else None
-        if have is None:
-            miss(page, number, f"no file `{crate}`/{path}")
-            continue
         for name in names(rest):
-            if name not in have:
-                miss(page, number, f"`{name}` is not in `{crate}`/{path}")
+            if have is None:
+                yield (crate, path, name), f"no file `{crate}`/{path}"
+            elif name not in have:
+                yield (crate, path, name), f"`{name}` is not in `{crate}`/{path}"
     for crate, rest in re.findall(r"edit `(\w+)`: ((?:`[^`]+`(?:, | and )?)+)", line):
         for name in names(rest):
-            if not (ROOT / "crates" / crate / "must-fail" / (name + ".edit")).exists():
-                miss(page, number, f"no edit `{crate}`: `{name}`")
+            if not (tree.root / "crates" / crate / "must-fail" / (name + ".edit")).exists():
+                yield ("edit", crate, name), f"no edit `{crate}`: `{name}`"
     for name in re.findall(r"row P\d+: `(\w+)`", line):
-        if name not in declared(ROOT / "crates" / "worked" / "specs" / "Cases.antt"):
-            miss(page, number, f"no case `{name}`")
+        if name not in declared(tree.root / "crates" / "worked" / "specs" / "Cases.antt"):
+            yield ("case", name), f"no case `{name}`"
     for function, rest in re.findall(r"vector `(\w+)` ((?:\"[^\"]+\"(?:, | and )?)+)", line):
-        if f"def {function}" not in cases:
-            miss(page, number, f"no vectors `{function}`")
+        if f"def {function}" not in tree.cases:
+            yield ("vectors", function), f"no vectors `{function}`"
         for said in re.findall(r"\"([^\"]+)\"", rest):
-            if said not in listing:
-                miss(page, number, f"no vector \"{said}\"")
+            if said not in tree.listing:
+                yield ("vector", said), f"no vector \"{said}\""
     for span in names(line):
         if re.fullmatch(r"\w+(::\w+)+", span):
             parts = span.split("::")
-            crate = ROOT / "crates" / parts[0] / "src"
+            crate = tree.root / "crates" / parts[0] / "src"
             if not crate.exists():
-                modules = [p for p in tree if p.suffix == ".rt" and p.stem == parts[0]]
+                modules = [p for p in tree.files if p.suffix == ".rt" and p.stem == parts[0]]
             elif len(parts) == 2:
                 modules = [crate / "lib.rt", crate / (parts[1] + ".rt")]
             else:
                 modules = [crate / (parts[1] + ".rt")]
             if not any(p.exists() and (parts[-1] in declared(p) or len(parts) == 2 and p.stem == parts[1]) for p in modules):
-                miss(page, number, f"`{span}` is not declared")
+                yield span, f"`{span}` is not declared"
         elif re.fullmatch(r"(crates|docs|include|rust|tools|examples|\.ci)/[\w./-]*", span):
-            if not (ROOT / span).exists():
-                miss(page, number, f"no path {span}")
-        elif re.fullmatch(r"[^\s`(){}\[\];,.\"'|:<>=&!*#/@+$]+", span) and span not in words:
-            miss(page, number, f"`{span}` is nowhere")
+            if not (tree.root / span).exists():
+                yield span, f"no path {span}"
+        elif re.fullmatch(r"[^\s`(){}\[\];,.\"'|:<>=&!*#/@+$]+", span) and span not in tree.words:
+            yield span, f"`{span}` is nowhere"
+
+
+def hold(page, trees):
+    """Each line of a page to the trees: what none of them has is missing."""
+    for number, line in prose(page):
+        told = [dict(missed(tree, line)) for tree in trees]
+        for name in set(told[0]).intersection(*told[1:]):
+            miss(page.relative_to(ROOT), number, told[0][name])
 
 
 def prose(page):
@@ -160,13 +194,16 @@ def hold_blocks(page, language, path):
         miss(page.relative_to(ROOT), 1, f"the blocks, joined, are not {path}")
 
 
-# Pages about earlier commits: their names are those of then.
-earlier = {ROOT / "docs" / "PORT.md", ROOT / "docs" / "DESIGN-PASS.md", *(ROOT / "docs" / "landings").glob("*.md")}
-pages = [p for p in (ROOT / "README.md", *sorted((ROOT / "docs").glob("*.md"))) if p not in earlier]
-for page in pages:
-    for number, line in prose(page):
-        hold(page.relative_to(ROOT), number, line)
-for page in pages + sorted(p for p in earlier if p.exists()):
+now = Tree(ROOT)
+pages = [ROOT / "README.md", *sorted((ROOT / "docs").glob("*.md"))]
+with tempfile.TemporaryDirectory() as scratch:
+    then = tree_of(THEN, scratch)
+    for page in pages:
+        if page not in EARLIER:
+            hold(page, [now])
+        elif then:
+            hold(page, [now, then])
+for page in pages + sorted((ROOT / "docs" / "landings").glob("*.md")):
     for number, line in prose(page):
         hold_links(page, number, line)
 hold_blocks(ROOT / "docs" / "BOX.md", "c", "examples/members.c")

@@ -1,7 +1,8 @@
 -- Page one: the owner's three demands, clause by clause, as statements about calls of the operations. `Packing t text buf p after` says that a call of pack
 -- with that table, text and buffer answered p and left `after` in the buffer; `Editing` and the rest likewise (Paper/Operations of `roll`, `choosing` and
--- `stopper`). p is `Ok q` with the roll's record q, or `Err e` with a refusal e of number `number_of e` and value `value_of e`. Every call of the code is such a call:
--- that is what each operation's own proof says, and that it finishes and does nothing undefined.
+-- `stopper`). p is `Ok q` with the roll's record q, or `Err e` with a refusal e of number `number_of e` and value `value_of e`; an edit answers `e.answer`, `Ok tt` or
+-- such an `Err`, and beside it the record `e.roll`. Every call of the code is such a call: that is what each operation's own proof says, and that it finishes and does
+-- nothing undefined.
 --
 -- `TextIs r buf text`: unpacking the whole roll is accepted and gives that text. `DirectoryIs r buf dir`: making the directory again is accepted and changes
 -- nothing in it. Lists of numbers stand for slices: that a table has 256 places and that bytes are below 256 is asked where it matters, and holds of every call.
@@ -12,7 +13,7 @@ use Rattle.ground.specs.Paper.Rows.{zeros}
 use Rattle.ground.specs.Paper.Runs.{run}
 use Rattle.ground.specs.Helpers.Below.{Below}
 use Rattle.ground.specs.Paper.Answers.{number_of, value_of}
-use Rattle.ground.specs.Laws.Answers.{says_one, accepted_ok, ok_accepted, err_refused}
+use Rattle.ground.specs.Laws.Answers.{says_as, says_one, accepted_ok, ok_accepted, err_refused}
 use Rattle.ground.specs.Laws.Refusals.{refused_keeps, accepted_leaves, accepted_none, accepted_parts, Refuses, refused_row}
 use Rattle.ground.specs.Laws.Rows.{tab_at}
 use Rattle.ground.specs.Laws.Tests.{true_yes}
@@ -44,8 +45,9 @@ use Rattle.sound.specs.Laws.Holding.{Holds, holds_row, sound_h, sound_record, so
 use Rattle.sound.specs.declared.records.Roll.{Roll}
 use Rattle.store.specs.Paper.Stored.{packed_into}
 use Rattle.store.specs.Laws.Edited.{edit_sound, edit_text, edit_right, edit_before, edit_even, edit_cleared, edit_kept, edit_cleared_directory, edit_kept_directory}
-use Rattle.roll.specs.Paper.Operations.{pack_rows, pack_says, pack_roll, Packing, fit_rows, check_says, Checking, unpack_rows, unpack_says, Unpacking, make_rows, make_says, Making, read_rows, one_read, read_says, ReadingOne, search_rows, search_says, Searching, directory_says, edit_rows, edit_says, edit_roll, Editing}
+use Rattle.roll.specs.Paper.Operations.{pack_rows, pack_says, pack_roll, Packing, fit_rows, check_says, Checking, unpack_rows, unpack_says, Unpacking, make_rows, make_says, Making, read_rows, one_read, read_says, ReadingOne, search_rows, search_says, Searching, directory_says, edit_rows, edit_says, Editing}
 use Rattle.roll.specs.Laws.Accepting.{sound_accepted, accepted_sound, accepted_packs, unpacks_is, makes_is, searches_is}
+use Rattle.roll.specs.declared.edit.Edited.{Edited}
 use Rattle.demands.specs.Counted.{AlwaysKnown, always_known, known_packs, known_4, never_3, CountedIn, in_known, in_total, counts_in, counted_total}
 use Rattle.demands.specs.Meaning.{packed_holds, pack_unpack, packing_sound, packing_unpacking}
 use Rattle.demands.specs.Made.{made_sound, made_right, reads_right}
@@ -102,11 +104,11 @@ pub order_search : {r : Roll} {buf pattern slice after : List ℕ} {e : Refusal}
 unfolding search_says
 order_search {r} {buf} {pattern} p = then_refuses (check_decided r buf) (search_rows pattern) (length (hits pattern (text_of r buf))) (sym p.says)
 
-pub order_edit : {r : Roll} {buf dir new after dir_after : List ℕ} {start end : ℕ} {e : Refusal} → Editing r buf dir start end new (Err e) after dir_after
-    → Refuses (rows_of_directory r buf dir ++ edit_rows r buf dir start end new) (number_of e) (value_of e)
+pub order_edit : {r : Roll} {buf dir new after dir_after : List ℕ} {start end : ℕ} {e : Edited} {f : Refusal} → Editing r buf dir start end new e after dir_after
+    → e.answer ≡ Err f → Refuses (rows_of_directory r buf dir ++ edit_rows r buf dir start end new) (number_of f) (value_of f)
 unfolding edit_says
-order_edit {r} {buf} {dir} {new} {after} {dir_after} {start} {end} p =
-    then_refuses (directory_decided r buf dir) (edit_rows r buf dir start end new) tt (err_refused (edit_roll r buf dir start end new) p.says refl)
+order_edit {r} {buf} {dir} {new} {after} {dir_after} {start} {end} {e} {f} p y =
+    then_refuses (directory_decided r buf dir) (edit_rows r buf dir start end new) tt (says_as {b = Err f} p.says y)
 
 -- what check refuses is refused first, with the same number and value, by every operation that checks
 pub unpack_checks : {r : Roll} {buf out after : List ℕ} {start end : ℕ} {e : Refusal} {answer : Result (Unit {0}) Refusal} → Checking r buf (Err e)
@@ -124,10 +126,10 @@ pub search_checks : {r : Roll} {buf pattern slice after : List ℕ} {e : Refusal
 unfolding search_says
 search_checks {e = e} {answer = answer} c p = says_one answer (Err e) (p.says ∙ rw (sym c.says))
 
-pub edit_checks : {r : Roll} {buf dir new after dir_after : List ℕ} {start end : ℕ} {e : Refusal} {answer : Result Roll Refusal} → Checking r buf (Err e)
-    → Editing r buf dir start end new answer after dir_after → answer ≡ Err e
+pub edit_checks : {r : Roll} {buf dir new after dir_after : List ℕ} {start end : ℕ} {f : Refusal} {e : Edited} → Checking r buf (Err f)
+    → Editing r buf dir start end new e after dir_after → e.answer ≡ Err f
 unfolding edit_says directory_says
-edit_checks {e = e} {answer = answer} c p = says_one answer (Err e) (p.says ∙ rw (sym c.says))
+edit_checks {f = f} {e = e} c p = says_one e.answer (Err f) (p.says ∙ rw (sym c.says))
 
 -- and what is accepted was good
 pub unpack_good : {r : Roll} {buf out after : List ℕ} {start end : ℕ} → Unpacking r buf start end out (Ok tt) after
@@ -139,10 +141,10 @@ unpack_good {r} {buf} {out} {after} {start} {end} p =
 pub make_good : {r : Roll} {buf dir after : List ℕ} → Making r buf dir (Ok tt) after → Checking r buf (Ok tt) × (entries r.n ≤ length dir)
 make_good {r} {buf} {dir} p = let (s, h) = (makes_is r buf dir).1 (sym p.says) in (record { says = sym (sound_accepted s) }, h)
 
-pub edit_good : {r : Roll} {buf dir new after dir_after : List ℕ} {start end : ℕ} {q : Roll} → Editing r buf dir start end new (Ok q) after dir_after
+pub edit_good : {r : Roll} {buf dir new after dir_after : List ℕ} {start end : ℕ} {e : Edited} → Editing r buf dir start end new e after dir_after → e.answer ≡ Ok tt
     → Checking r buf (Ok tt) × DirectoryIs r buf dir × (start ≤ end) × (end ≤ r.n)
-edit_good p =
-    let u = (editing_yes p).0 in
+edit_good p y =
+    let u = (editing_yes p y).0 in
     (record { says = sym (sound_accepted u.sound) }, right_directory u.sound u.right, u.ordered, u.inside)
 
 -- check's 6, and that of every operation that checks, names the first symbol of the first bad codeword: good codewords stand before it, and there one does not end
@@ -159,8 +161,8 @@ six_make = fault_make
 pub six_search : {r : Roll} {buf pattern slice after : List ℕ} {v : ℕ} → Searching r buf pattern slice (Err (BadCodeword v)) after → FaultAt r buf v
 six_search = fault_search
 
-pub six_edit : {r : Roll} {buf dir new after dir_after : List ℕ} {start end v : ℕ} → Editing r buf dir start end new (Err (BadCodeword v)) after dir_after
-    → FaultAt r buf v
+pub six_edit : {r : Roll} {buf dir new after dir_after : List ℕ} {start end v : ℕ} {e : Edited} → Editing r buf dir start end new e after dir_after
+    → e.answer ≡ Err (BadCodeword v) → FaultAt r buf v
 six_edit = fault_edit
 
 -- ---- A refused call changes nothing it was lent. Check, read one, choose, codeword of and character of are lent nothing to write.
@@ -180,12 +182,12 @@ make_keeps p = p.leaves ∙ refused_keeps (sym p.says) _ _
 pub search_keeps : {r : Roll} {buf pattern slice after : List ℕ} {e : Refusal} → Searching r buf pattern slice (Err e) after → after ≡ slice
 search_keeps p = p.leaves ∙ refused_keeps (sym p.says) _ _
 
--- nor does the record that the C door gives beside the refusal (`edit_roll`) differ
-pub edit_keeps : {r : Roll} {buf dir new after dir_after : List ℕ} {start end : ℕ} {e : Refusal} → Editing r buf dir start end new (Err e) after dir_after
-    → (edit_roll r buf dir start end new ≡ r) × (after ≡ buf) × (dir_after ≡ dir)
-edit_keeps {r} {buf} {dir} {new} {after} {dir_after} {start} {end} p =
-    let e = err_refused (edit_roll r buf dir start end new) p.says refl in
-    (refused_keeps e _ _, p.leaves ∙ refused_keeps e _ _, p.directory ∙ refused_keeps e _ _)
+-- nor does the record differ
+pub edit_keeps : {r : Roll} {buf dir new after dir_after : List ℕ} {start end : ℕ} {e : Edited} {f : Refusal} → Editing r buf dir start end new e after dir_after
+    → e.answer ≡ Err f → (e.roll ≡ r) × (after ≡ buf) × (dir_after ≡ dir)
+edit_keeps {f = f} p y =
+    let e = says_as {b = Err f} p.says y in
+    (p.roll ∙ refused_keeps e _ _, p.leaves ∙ refused_keeps e _ _, p.directory ∙ refused_keeps e _ _)
 
 -- ---- 2. Packing follows the published stopper code: a codeword is continuers and then one stopper, the character of rank i has codeword i, shorter ones come
 -- first; codeword of a character and character of a codeword are each other's way back
@@ -264,16 +266,16 @@ pub digits_counted : (counts : List ℕ) {text : List ℕ} → Below 256 text �
 digits_counted = in_known
 
 -- and an edit by such a text is never refused 3, in any roll of a chosen table
-pub digits_edit : {k : ℕ} {counts buf dir new after dir_after : List ℕ} {r : Roll} {c : Choice} {start end v : ℕ} → Choosing k counts (Ok c) → AlwaysKnown counts new
-    → r.table ≡ c.table → Editing r buf dir start end new (Err (NotInTable v)) after dir_after → ⊥
-digits_edit {k} {counts} {buf} {dir} {new} {after} {dir_after} {r} {c} {start} {end} {v} p known same w =
-    never_3 r buf dir start end new (rw (same ∙ chosen_table_lem p) (always_known k counts (lent_long p) known)) (order_edit w)
+pub digits_edit : {k : ℕ} {counts buf dir new after dir_after : List ℕ} {r : Roll} {c : Choice} {e : Edited} {start end v : ℕ} → Choosing k counts (Ok c)
+    → AlwaysKnown counts new → r.table ≡ c.table → Editing r buf dir start end new e after dir_after → e.answer ≡ Err (NotInTable v) → ⊥
+digits_edit {k} {counts} {buf} {dir} {new} {after} {dir_after} {r} {c} {e} {start} {end} {v} p known same w z =
+    never_3 r buf dir start end new (rw (same ∙ chosen_table_lem p) (always_known k counts (lent_long p) known)) (order_edit {f = NotInTable v} w z)
 
 -- it is accepted wherever its place is right and the edited text has room
-pub digits_edited : {k : ℕ} {counts buf dir text new after dir_after : List ℕ} {r : Roll} {c : Choice} {e : Result Roll Refusal} {start end : ℕ} → Choosing k counts (Ok c)
+pub digits_edited : {k : ℕ} {counts buf dir text new after dir_after : List ℕ} {r : Roll} {c : Choice} {e : Edited} {start end : ℕ} → Choosing k counts (Ok c)
     → AlwaysKnown counts new → r.table ≡ c.table → TextIs r buf text → DirectoryIs r buf dir → start ≤ end → end ≤ r.n
     → length (symbols_for r.table (edited text start end new)) ≤ room r.table.code.k (length buf) → entries (length (edited text start end new)) ≤ length dir
-    → Editing r buf dir start end new e after dir_after → (q : Roll) × (e ≡ Ok q)
+    → Editing r buf dir start end new e after dir_after → e.answer ≡ Ok tt
 digits_edited {k} {counts} p known same t d a b fits many w =
     edits_yes w
     (record {
@@ -413,9 +415,9 @@ searches_agree {answer = answer} {other = other} p q = (says_one answer other (p
 
 -- ---- 3. Let a sound roll have a right directory. Replace any run of its characters, an empty one too, by any text such that the edited text's characters are in the
 -- table and its symbols and entries fit: the edit is accepted
-pub edit_accepted : {r : Roll} {buf dir text new row after dir_after : List ℕ} {start end : ℕ} {e : Result Roll Refusal} → TextIs r buf text → DirectoryIs r buf dir
+pub edit_accepted : {r : Roll} {buf dir text new row after dir_after : List ℕ} {start end : ℕ} {e : Edited} → TextIs r buf text → DirectoryIs r buf dir
     → start ≤ end → end ≤ r.n → Codewords r.table (edited text start end new) row → length row ≤ room r.table.code.k (length buf)
-    → entries (length (edited text start end new)) ≤ length dir → Editing r buf dir start end new e after dir_after → (q : Roll) × (e ≡ Ok q)
+    → entries (length (edited text start end new)) ≤ length dir → Editing r buf dir start end new e after dir_after → e.answer ≡ Ok tt
 edit_accepted {r} {buf} {dir} {text} {new} {row} {after} {dir_after} {start} {end} t d a b w fits many editing =
     let same = text_is t in
     edits_yes editing
@@ -430,17 +432,17 @@ edit_accepted {r} {buf} {dir} {text} {new} {row} {after} {dir_after} {start} {en
     })
 
 -- and record, bytes and directory are then those of packing the edited text afresh under the same table, into any buffer
-pub edit_as_afresh : {r : Roll} {buf dir text new other space bytes made after dir_after : List ℕ} {start end : ℕ} {a q : Roll} → length r.table.places ≡ 256
-    → TextIs r buf text → Editing r buf dir start end new (Ok q) after dir_after → Packing r.table (edited text start end new) other (Ok a) bytes
-    → Making a bytes space (Ok tt) made
-    → (q ≡ a)
+pub edit_as_afresh : {r : Roll} {buf dir text new other space bytes made after dir_after : List ℕ} {start end : ℕ} {a : Roll} {e : Edited}
+    → length r.table.places ≡ 256 → TextIs r buf text → Editing r buf dir start end new e after dir_after → e.answer ≡ Ok tt
+    → Packing r.table (edited text start end new) other (Ok a) bytes → Making a bytes space (Ok tt) made
+    → (e.roll ≡ a)
     × (take (bytes_for r.table.code.k a.h) after ≡ take (bytes_for r.table.code.k a.h) bytes)
     × (take (entries a.n) dir_after ≡ take (entries a.n) made)
-edit_as_afresh {r} {buf} {dir} {text} {new} {other} {space} {bytes} {made} {after} {dir_after} {start} {end} {a} {q} long t editing packing making =
+edit_as_afresh {r} {buf} {dir} {text} {new} {other} {space} {bytes} {made} {after} {dir_after} {start} {end} {a} {e} long t editing z packing making =
     let E : List ℕ = edited (text_of r buf) start end new in
     let p : Packing r.table E other (Ok a) bytes = subst (λ (x : List ℕ). Packing r.table (edited x start end new) other (Ok a) bytes) (text_is t) packing in
     let packs = accepted_packs r.table E other (ok_accepted (pack_roll r.table E other) p.says refl).0 in
-    let (u, record_is, bytes_are, list_is) = editing_yes editing in
+    let (u, record_is, bytes_are, list_is) = editing_yes editing z in
     let d : a ≡ record_of r.table E = (packing_sound p).0 in
     let many : entries (length E) ≤ length space = rw (ap (λ (x : Roll). x.n) d) at ((makes_is a bytes space).1 (sym making.says)).1 in
     let makes : (given : Roll) → ◌≡◌ {A = Result Roll Refusal} (Ok a) (Ok given) → Making given bytes space (Ok tt) made
@@ -450,29 +452,29 @@ edit_as_afresh {r} {buf} {dir} {text} {new} {other} {space} {bytes} {made} {afte
 
 -- ---- What an accepted edit leaves
 
-module _ {r : Roll} {buf dir new after dir_after : List ℕ} {start end : ℕ} {q : Roll} (long : length r.table.places ≡ 256)
-    (p : Editing r buf dir start end new (Ok q) after dir_after) where
+module _ {r : Roll} {buf dir new after dir_after : List ℕ} {start end : ℕ} {e : Edited} (long : length r.table.places ≡ 256)
+    (p : Editing r buf dir start end new e after dir_after) (y : e.answer ≡ Ok tt) where
   -- the next operation: the text is the edited one, and the directory right
-  pub edit_next : {text : List ℕ} → TextIs r buf text → TextIs q after (edited text start end new) × DirectoryIs q after dir_after
+  pub edit_next : {text : List ℕ} → TextIs r buf text → TextIs e.roll after (edited text start end new) × DirectoryIs e.roll after dir_after
   edit_next t =
-      let (u, record_is, bytes_are, list_is) = editing_yes p in
+      let (u, record_is, bytes_are, list_is) = editing_yes p y in
       rw (record_is, bytes_are, list_is, text_is t) (subst (TextIs _ _) (edit_text long u) (sound_text (edit_sound long u)), right_directory (edit_sound long u) (edit_right long u))
 
   abbrev k : ℕ
   k = r.table.code.k
 
   -- symbols, bytes and entries that are no longer used are 0, and what was used neither before nor after is untouched
-  pub edit_unused : (run (symbols_of k after) q.h r.h ≡ zeros (r.h - q.h))
-      × (run after (bytes_for k q.h) (bytes_for k r.h) ≡ zeros (bytes_for k r.h - bytes_for k q.h))
-      × (run dir_after (entries q.n) (entries r.n) ≡ zeros (entries r.n - entries q.n))
+  pub edit_unused : (run (symbols_of k after) e.roll.h r.h ≡ zeros (r.h - e.roll.h))
+      × (run after (bytes_for k e.roll.h) (bytes_for k r.h) ≡ zeros (bytes_for k r.h - bytes_for k e.roll.h))
+      × (run dir_after (entries e.roll.n) (entries r.n) ≡ zeros (entries r.n - entries e.roll.n))
   edit_unused =
-      let (u, record_is, bytes_are, list_is) = editing_yes p in
+      let (u, record_is, bytes_are, list_is) = editing_yes p y in
       rw (record_is, bytes_are, list_is) (symbols_cleared long u, edit_cleared long u, edit_cleared_directory long u)
 
-  pub edit_untouched : ((m : ℕ) → bytes_for k r.h ≤ m → bytes_for k q.h ≤ m → drop m after ≡ drop m buf)
-      × ((m : ℕ) → entries r.n ≤ m → entries q.n ≤ m → drop m dir_after ≡ drop m dir)
+  pub edit_untouched : ((m : ℕ) → bytes_for k r.h ≤ m → bytes_for k e.roll.h ≤ m → drop m after ≡ drop m buf)
+      × ((m : ℕ) → entries r.n ≤ m → entries e.roll.n ≤ m → drop m dir_after ≡ drop m dir)
   edit_untouched =
-      let (u, record_is, bytes_are, list_is) = editing_yes p in
+      let (u, record_is, bytes_are, list_is) = editing_yes p y in
       rw record_is (
         λ m old now. drop_past_both after buf old now (rw bytes_are (edit_kept long u)),
         λ m old now. drop_past_both dir_after dir old now (rw list_is (edit_kept_directory long u)),
@@ -486,13 +488,13 @@ module _ {r : Roll} {buf dir new after dir_after : List ℕ} {start end : ℕ} {
     -- each byte before the one where the run began is as it was
     pub edit_bytes_before : take (starts start / per k) after ≡ take (starts start / per k) buf
     edit_bytes_before =
-        let (u, record_is, bytes_are, list_is) = editing_yes p in
+        let (u, record_is, bytes_are, list_is) = editing_yes p y in
         rw (bytes_are, text_is t) (edit_before long u bytes)
 
     -- with as many symbols as before, so is each byte behind those that hold the run; an empty run has none, and then all bytes are
-    pub edit_bytes_behind : q.h ≡ r.h → drop (bytes_for k (starts end)) after ≡ drop (bytes_for k (starts end)) buf
+    pub edit_bytes_behind : e.roll.h ≡ r.h → drop (bytes_for k (starts end)) after ≡ drop (bytes_for k (starts end)) buf
     edit_bytes_behind same =
-        let (u, record_is, bytes_are, list_is) = editing_yes p in
+        let (u, record_is, bytes_are, list_is) = editing_yes p y in
         let c = r.table.code in
         let l = characters r.table in
         let old : List ℕ = text_of r buf in
@@ -509,7 +511,7 @@ module _ {r : Roll} {buf dir new after dir_after : List ℕ} {start end : ℕ} {
           sound_h (record { sound = text_sound t; places = long }),
         )))
 
-    pub edit_bytes_all : start ≡ end → q.h ≡ r.h → after ≡ buf
+    pub edit_bytes_all : start ≡ end → e.roll.h ≡ r.h → after ≡ buf
     edit_bytes_all empty same =
-        let (u, record_is, bytes_are, list_is) = editing_yes p in
+        let (u, record_is, bytes_are, list_is) = editing_yes p y in
         bytes_are ∙ bytes_kept long u empty (ap (λ (x : Roll). x.h) (sym record_is) ∙ same) bytes

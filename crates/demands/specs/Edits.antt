@@ -3,7 +3,7 @@ use Rattle.std.specs.Prelude.{◌≡◌, refl, List, ◌++◌, ℕ, ◌≤◌, T
 use Rattle.std.proofs.Common.{sym, ap, subst, ◌∙◌}
 use Rattle.ground.specs.Paper.Refusals.{accepted}
 use Rattle.ground.specs.Paper.Answers.{outcome_of}
-use Rattle.ground.specs.Laws.Answers.{says_one, accepted_ok, ok_accepted}
+use Rattle.ground.specs.Laws.Answers.{says_as, says_one, accepted_ok}
 use Rattle.ground.specs.Laws.Refusals.{Accepted, accepted_leaves}
 use Rattle.ground.specs.declared.refusal.Refusal.{Refusal}
 use Rattle.symbols.specs.Paper.Symbols.{bytes_for, room}
@@ -15,28 +15,28 @@ use Rattle.sound.specs.Laws.Lengths.{sound_lengths}
 use Rattle.sound.specs.declared.records.Roll.{Roll}
 use Rattle.store.specs.Paper.Stored.{packed_into, bytes_after, directory_after}
 use Rattle.store.specs.Laws.Edited.{Edits, text_after, roll_after, edit_known, edit_holds, edit_sound, edit_held, edit_text, edit_right}
-use Rattle.roll.specs.Paper.Operations.{pack_says, pack_roll, Packing, Making, Unpacking, Searching, edit_roll, Editing}
+use Rattle.roll.specs.Paper.Operations.{pack_says, pack_roll, Packing, Making, Unpacking, Searching, Editing}
 use Rattle.roll.specs.Laws.Accepting.{Packs, packs_accepted, edits_accepted, accepted_edits}
 use Rattle.demands.specs.Meaning.{packed_holds, packing_sound, unpacks_text}
 use Rattle.roll.specs.Laws.Operations.{make_yes, search_yes}
+use Rattle.roll.specs.declared.edit.Edited.{Edited}
 use Rattle.demands.specs.Made.{made_right}
 
 -- an edit that can be made is accepted
-pub edits_yes : {r : Roll} {buf dir : List ℕ} {start end : ℕ} {text : List ℕ} {e : Result Roll Refusal} {after dir_after : List ℕ}
-    → Editing r buf dir start end text e after dir_after → Edits r buf dir start end text → (q : Roll) × (e ≡ Ok q)
-edits_yes {r} {buf} {dir} {start} {end} {text} p u =
-    (edit_roll r buf dir start end text, accepted_ok (edit_roll r buf dir start end text) p.says (edits_accepted r buf dir start end text u))
+pub edits_yes : {r : Roll} {buf dir : List ℕ} {start end : ℕ} {text : List ℕ} {e : Edited} {after dir_after : List ℕ}
+    → Editing r buf dir start end text e after dir_after → Edits r buf dir start end text → e.answer ≡ Ok tt
+edits_yes {r} {buf} {dir} {start} {end} {text} {e} p u = says_one e.answer (Ok tt) (p.says ∙ edits_accepted r buf dir start end text u)
 
 -- an edit that is accepted leaves the edited text's record, bytes and directory
-pub editing_yes : {r : Roll} {buf dir : List ℕ} {start end : ℕ} {text : List ℕ} {q : Roll} {after dir_after : List ℕ}
-    → Editing r buf dir start end text (Ok q) after dir_after
+pub editing_yes : {r : Roll} {buf dir : List ℕ} {start end : ℕ} {text : List ℕ} {e : Edited} {after dir_after : List ℕ}
+    → Editing r buf dir start end text e after dir_after → e.answer ≡ Ok tt
     → Edits r buf dir start end text
-    × (q ≡ roll_after r buf start end text)
+    × (e.roll ≡ roll_after r buf start end text)
     × (after ≡ bytes_after r (text_after r buf start end text) buf)
     × (dir_after ≡ directory_after r (text_after r buf start end text) dir)
-editing_yes {r} {buf} {dir} {start} {end} {text} p =
-    let (e, roll) = ok_accepted (edit_roll r buf dir start end text) p.says refl in
-    (accepted_edits r buf dir start end text e, roll ∙ accepted_leaves e _ _, p.leaves ∙ accepted_leaves e _ _, p.directory ∙ accepted_leaves e _ _)
+editing_yes {r} {buf} {dir} {start} {end} {text} p y =
+    let e = says_as p.says y in
+    (accepted_edits r buf dir start end text e, p.roll ∙ accepted_leaves e _ _, p.leaves ∙ accepted_leaves e _ _, p.directory ∙ accepted_leaves e _ _)
 
 module _ {r : Roll} {buf dir : List ℕ} {start end : ℕ} {text : List ℕ} (long : length r.table.places ≡ 256) (u : Edits r buf dir start end text) where
   abbrev E : List ℕ

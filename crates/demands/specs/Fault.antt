@@ -2,7 +2,7 @@
 use Rattle.std.specs.Prelude.{◌≡◌, refl, ◌⊎◌, true, List, [], ◌∷◌, ◌++◌, ℕ, ◌≤◌, ◌<◌, length, take, drop, get_or, Err}
 use Rattle.std.proofs.Common.{sym, ap, ◌∙◌, inl, inr, ⊎_elim, append-nil, zero-add, arith, length-append, take_at, drop_at}
 use Rattle.ground.specs.Paper.Refusals.{Row, refused, judged, ◌then◌}
-use Rattle.ground.specs.Laws.Answers.{err_refused}
+use Rattle.ground.specs.Laws.Answers.{says_as}
 use Rattle.ground.specs.Helpers.Below.{Below}
 use Rattle.ground.specs.Laws.Refusals.{Accepted, Refuses, refused_row, refused_parts}
 use Rattle.ground.specs.Laws.Rows.{below_take, below_drop}
@@ -21,7 +21,8 @@ use Rattle.reading.specs.Paper.Reading.{row_upto, is_bad, first_bad}
 use Rattle.sound.specs.Paper.Roll.{text_of, reading_from, reading}
 use Rattle.sound.specs.Laws.Sound.{row_length}
 use Rattle.sound.specs.declared.records.Roll.{Roll}
-use Rattle.roll.specs.Paper.Operations.{fit_rows, fit_says, check_rows, check_says, Checking, unpack_rows, unpack_says, Unpacking, make_rows, make_says, Making, search_rows, search_says, Searching, directory_rows, directory_says, edit_rows, edit_says, edit_roll, Editing}
+use Rattle.roll.specs.Paper.Operations.{fit_rows, fit_says, check_rows, check_says, Checking, unpack_rows, unpack_says, Unpacking, make_rows, make_says, Making, search_rows, search_says, Searching, directory_rows, directory_says, edit_rows, edit_says, Editing}
+use Rattle.roll.specs.declared.edit.Edited.{Edited}
 use Rattle.roll.specs.Laws.Accepting.{fits_is}
 
 -- a row that starts with a bad codeword: one that does not end, or one of rank σ or more
@@ -128,10 +129,10 @@ fault_search {r} {buf} {pattern} p =
     fault_check
     (from_check (search_rows pattern) (length (hits pattern (text_of r buf))) (λ v x. ⊎_elim (λ a. omega (arith, a.1)) (λ a. a.1) x) (sym p.says))
 
-pub fault_edit : {r : Roll} {buf dir new after dir_after : List ℕ} {start end v : ℕ}
-    → Editing r buf dir start end new (Err (bad_codeword v)) after dir_after → FaultAt r buf v
+pub fault_edit : {r : Roll} {buf dir new after dir_after : List ℕ} {start end v : ℕ} {e : Edited} → Editing r buf dir start end new e after dir_after
+    → e.answer ≡ Err (bad_codeword v) → FaultAt r buf v
 unfolding edit_says directory_says Others
-fault_edit {r} {buf} {dir} {new} {after} {dir_after} {start} {end} {v} p =
+fault_edit {r} {buf} {dir} {new} {after} {dir_after} {start} {end} {v} p y =
     ⊎_elim
     (λ x. fault_check (from_check (directory_rows r buf dir) tt (λ v x. ⊎_elim (λ a. omega (arith, a.1)) (λ a. a.1) x) x))
     (λ q.
@@ -144,4 +145,4 @@ fault_edit {r} {buf} {dir} {new} {after} {dir_after} {start} {end} {v} p =
     (λ b. ⊎_elim (λ c. omega (arith, c.1)) (λ c. ⊎_elim (λ d. omega (arith, d.1)) (λ d. d.1) c.1) b.1)
     a.1)
     (refused_row (edit_rows r buf dir start end new) tt q.1)))
-    (refused_parts (directory_says r buf dir) (err_refused (edit_roll r buf dir start end new) p.says {e = bad_codeword v} refl))
+    (refused_parts (directory_says r buf dir) (says_as {b = Err (bad_codeword v)} p.says y))

@@ -1,5 +1,6 @@
 -- Frames, by the operations alone: what is written is read back, what is read is written again, and lines that are given one by one are as the whole text.
 use Rattle.std.specs.Prelude.{◌≡◌, ◌⊎◌, ◌↔◌, ℕ, zero, suc, ◌+◌, ◌-◌, ◌≤◌, eqb, drop, replicate, Result, Ok, Err}
+use Rattle.std.specs.Result.{result_unwrap_or}
 use Rattle.std.proofs.Math.Path.{refl, sym, ap, ap₂, subst}
 use Rattle.std.proofs.Common.{◌∙◌, inl, inr, ⊎_elim, arith, le-leb, length-append, length-take-le, drop_at}
 use mathlib.Core.List.{List, [], ◌∷◌, ◌++◌, map, flatten}
@@ -36,7 +37,7 @@ use Rattle.frames.specs.Laws.Forms.{later_parts}
 use Rattle.frames.specs.Laws.Later.{all_none, all_more}
 use Rattle.frames.specs.Laws.Frames.{cleaned, first_cleaned}
 use Rattle.frames.specs.Laws.Meaning.{used_reading, Reads, reads_accepted, accepted_reads, written_record, written_bytes, written_accepted, read_packed, read_sound, read_text, one_text, Written, accepts_exactly}
-use Rattle.frames.specs.Laws.Operations.{later_accepted, write_accepted}
+use Rattle.frames.specs.Laws.Operations.{later_accepted, write_accepted, reading_frames_roll}
 use Rattle.demands.specs.Calls.{TextIs, text_sound, text_is}
 use Rattle.demands.specs.Orders.{DecidedBy, decided, decided_then, decided_both, then_refuses, rows_of_check, fit_decided, check_decided}
 use Rattle.demands.specs.Radio.{FedAll, answers, start_accepts, text_so_far, finish_sound, finish_bytes, sound_finish, sound_fed}
@@ -153,9 +154,12 @@ order_frames {text} {buf} p =
 
 -- ---- a refused call leaves what it was lent as it was
 
--- and the record that the C door gives beside the refusal (`frames_roll`) is nothing but 0
-pub refused_reading : {text buf after : List ℕ} {e : Refusal} → ReadingFrames text buf (Err e) after → (after ≡ buf) × (frames_roll text buf ≡ no_record)
-refused_reading {text} {buf} p = let x = err_refused (frames_roll text buf) p.says refl in (p.leaves ∙ refused_keeps x _ _, refused_keeps x _ _)
+-- and the record that stands beside the refusal, which is what the C name answers (`frames_roll`), is nothing but 0
+pub refused_reading : {text buf after : List ℕ} {a : Result Roll Refusal} {e : Refusal} → ReadingFrames text buf a after → a ≡ Err e
+    → (after ≡ buf) × (result_unwrap_or a no_record ≡ no_record) × (frames_roll text buf ≡ no_record)
+refused_reading {text} {buf} p y =
+    let x = err_refused (frames_roll text buf) p.says y in
+    (p.leaves ∙ refused_keeps x _ _, reading_frames_roll p ∙ refused_keeps x _ _, refused_keeps x _ _)
 
 pub refused_writing : {r : Roll} {buf out after : List ℕ} {e : Refusal} → Writing r buf out (Err e) after → after ≡ out
 refused_writing w = w.leaves ∙ refused_keeps (sym w.says) _ _

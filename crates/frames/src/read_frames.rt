@@ -35,10 +35,11 @@ fn check_lines(rest: &[u8], bytes: usize) -> Result<(), Refusal>
         left -= next;
         number += 1;
     }
-    if !rest.is_empty() {
-        return Err(Refusal::BadLine(number));
+    if rest.is_empty() {
+        Ok(())
+    } else {
+        Err(Refusal::BadLine(number))
     }
-    Ok(())
 }
 
 // What check says of 6, 7 and 8: the bytes of each line are handed to the judge.

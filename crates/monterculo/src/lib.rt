@@ -7,64 +7,24 @@
 
 pub mod taken;
 
-ghost use Rattle.std.specs.Prelude.{◌≡◌, [], length};
+ghost use Rattle.std.specs.Prelude.{◌≡◌, length};
 ghost use Rattle.ground.specs.Paper.Refusals.{accepted, ◌then◌};
-ghost use Rattle.stopper.specs.Paper.Operations.{codeword_for, codeword_says, codeword_given, character_says};
-ghost use Rattle.choosing.specs.Paper.Operations.{count_says, count_leaves, no_table, choose_says, choose_table, choose_total};
+ghost use Rattle.stopper.specs.Paper.Operations.{codeword_says, codeword_given, character_says};
+ghost use Rattle.choosing.specs.Paper.Operations.{count_says, count_leaves, choose_says, choose_table, choose_total};
 ghost use Rattle.roll.specs.Paper.Operations.{pack_says, pack_roll, pack_leaves, check_says, unpack_says, unpack_leaves, make_says, make_leaves, read_says, search_says, search_leaves, edit_says, edit_roll, edit_leaves, edit_directory};
-ghost use Rattle.radio.specs.Paper.Operations.{searcher_for, start_says, start_searcher, feed_says, feed_hits, feed_searcher, feed_leaves, finish_says};
-ghost use Rattle.frames.specs.Paper.Operations.{write_says, write_leaves, no_record, first_says, first_roll, later_says, later_leaves, frames_says, frames_roll, frames_leaves};
+ghost use Rattle.radio.specs.Paper.Operations.{start_says, start_searcher, feed_says, feed_hits, feed_searcher, feed_leaves, finish_says};
+ghost use Rattle.frames.specs.Paper.Operations.{write_says, write_leaves, first_says, first_roll, later_says, later_leaves, frames_says, frames_roll, frames_leaves};
 ghost use Rattle.monterculo.specs.Paper.Taken.{told};
 
-use judge::judging::judge_of;
+use choosing::choose::no_table;
+use frames::read_first::no_record;
 use radio::records::Searcher;
+use radio::start::no_searcher;
+use roll::pack::no_roll;
 use sound::records::Roll;
-use stopper::code::{LONGEST, even_code};
-use stopper::codeword_of::Codeword;
+use stopper::codeword_of::{Codeword, no_word};
 use stopper::table::Table;
 use taken::{Chosen, Coded, Fed, Rolled, Started, Told};
-use texts::pattern::MOST_PATTERN;
-
-// What stands beside a refusal where a table, a codeword, a record or a searcher is answered.
-fn no_table(k: u8) -> Table
-    ensures { result ≡ no_table k }
-{
-    Table {
-        code: even_code(k, 0),
-        sigma: 0,
-        places: [0; 256],
-    }
-}
-
-fn no_word() -> Codeword
-    ensures { result ≡ codeword_for [] }
-{
-    Codeword {
-        length: 0,
-        symbols: [0; LONGEST],
-    }
-}
-
-fn no_record() -> Roll
-    ensures { result ≡ no_record }
-{
-    Roll {
-        table: no_table(0),
-        n: 0,
-        h: 0,
-    }
-}
-
-fn no_searcher(roll: Roll) -> Searcher
-    ensures { result ≡ searcher_for roll [] }
-{
-    Searcher {
-        judge: judge_of(roll),
-        pattern: [0; MOST_PATTERN],
-        length: 0,
-        ends: 0,
-    }
-}
 
 pub fn monterculo_count(text: &[u8], counts: &mut [u32]) -> Told
     ensures told { result ≡ told (count_says text.now counts.old then accepted 0) }
@@ -113,7 +73,7 @@ pub fn monterculo_pack(table: Table, text: &[u8], buf: &mut [u8]) -> Rolled
     let packed = roll::pack::pack(table, text, buf);
     Rolled {
         answer: Told::from(packed.map(|_| 0)),
-        roll: packed.unwrap_or(Roll { table, n: 0, h: 0 }),
+        roll: packed.unwrap_or(no_roll(table)),
     }
 }
 
@@ -182,8 +142,8 @@ pub fn monterculo_edit(
 {
     let edited = roll::edit::edit(roll, buf, dir, start, end, text);
     Rolled {
-        answer: Told::from(edited.map(|_| 0)),
-        roll: edited.unwrap_or(roll),
+        answer: Told::from(edited.answer.map(|()| 0)),
+        roll: edited.roll,
     }
 }
 

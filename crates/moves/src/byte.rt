@@ -1,7 +1,7 @@
 // What the symbols of a byte do to the state of a reading, which is one number (specs/Helpers/States, Moves).
 ghost use Rattle.std.specs.Prelude.{◌≡◌, List, ◌∷◌, ℕ, ◌+◌, ◌*◌, ◌≤◌, ◌<◌};
 ghost use Rattle.stopper.specs.Paper.Table.{base, stoppers};
-ghost use Rattle.moves.specs.Helpers.Moves.{Moves, Small, In, SymbolBefore, Longer, MovesByByte, bound_in, times_in, plus_in, stops_in};
+ghost use Rattle.moves.specs.Helpers.Moves.{Moves, Small, In, SymbolBefore, Longer, MovesByByte, bound_in, times_in, plus_in, stops_in, part_in, PartIn};
 
 use stopper::code::{GoodCode, Ranks, base_of, stoppers_at};
 use symbols::bits::per_byte;
@@ -152,6 +152,29 @@ pub fn moves_by_byte(ranks: Ranks) -> [u32; 256]
         size *= base;
     }
     t
+}
+
+// The bounds of moves in a row of their own; and the byte of each whose lowest bit is bit `low`. Loops over what is lent: an array's `map` takes the
+// moves by value and copies them several times.
+pub fn bounds_of(t: &[u32; 256]) -> [u16; 256]
+    ensures { PartIn bound_in t.now 256 result }
+{
+    let mut r = [0u16; 256];
+    for (b, e) in t.iter().enumerate() {
+        r[b] = bound_of(*e) as u16;
+    }
+    r
+}
+
+pub fn part_of(t: &[u32; 256], low: u32) -> [u8; 256]
+    requires { low < 32 }
+    ensures { PartIn (part_in low) t.now 256 result }
+{
+    let mut r = [0u8; 256];
+    for (b, e) in t.iter().enumerate() {
+        r[b] = ((*e >> low) % 256) as u8;
+    }
+    r
 }
 
 // The state after a byte.

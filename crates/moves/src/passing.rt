@@ -6,7 +6,7 @@ ghost use Rattle.reading.specs.Helpers.Codewords.{row_of, scanned};
 ghost use Rattle.moves.specs.Helpers.States.{open_from, Stuck};
 ghost use Rattle.moves.specs.Helpers.Moves.{Rows, Here};
 
-use crate::byte::{Parts, bound_of, ended, moved, moved_twice, moves_by_byte, plus_of, times_of};
+use crate::byte::{Parts, bounds_of, moved, moved_twice, moves_by_byte, part_of};
 use reading::codewords::BadWord;
 use reading::packed::Packed;
 use stopper::code::{GoodCode, Ranks, base_of};
@@ -115,10 +115,10 @@ fn by_bytes(packed: &Packed, whole: usize, way: Way) -> Way
 {
     let t = moves_by_byte(packed.ranks);
     let parts = Parts {
-        bound: &t.map(|e| bound_of(e) as u16),
-        times: &t.map(times_of),
-        plus: &t.map(plus_of),
-        stops: &t.map(|e| ended(e) as u8),
+        bound: &bounds_of(&t),
+        times: &part_of(&t, 8),
+        plus: &part_of(&t, 0),
+        stops: &part_of(&t, 25),
     };
     by_moves(packed, &parts, whole, way)
 }

@@ -9,6 +9,8 @@ use judge::judging::verdict;
 pub fn finish(searcher: Searcher) -> Result<(), Refusal>
     ensures { Finishing searcher result }
 {
-    kept(searcher)?;
+    if let Err(refusal) = kept(searcher) {
+        return Err(refusal);
+    }
     verdict(searcher.judge)
 }

@@ -1,10 +1,14 @@
 -- Two outcomes that an operation's contract allows for one input are equal, answer and every lent slice: of the contracts as the source
 -- states them.
-use mathlib.Core.Path.{◌≡◌, ◌∙◌, sym}
+use mathlib.Core.Path.{◌≡◌, ◌∙◌, sym, ap₂}
 use contract.Lifetimes.{Lfts}
 use borrow.Fn.Kinds.{Dens, res_t, ended_of}
 use denote.Triple.Clauses.{AtExit}
 use Rattle.ground.specs.Laws.Answers.{says_one}
+use Rattle.ground.specs.declared.refusal.Refusal.{Refusal}
+use Rattle.std.specs.Prelude.{Result}
+use Rattle.sound.specs.declared.records.Roll.{Roll}
+use Rattle.roll.specs.declared.edit.Edited.{Edited}
 use Rattle.roll.proofs.pack.pack.Kinds as pack-kinds
 use Rattle.roll.proofs.pack.pack.Reads as pack-reads
 use Rattle.roll.proofs.check.check.Kinds as check-kinds
@@ -52,4 +56,8 @@ search_tight κs a r₁ r₂ s₁ s₂ p q = (says_one r₁ r₂ (p.says ∙ sym
 -- the second and third parameters, the buffer and the directory, are lent
 pub edit_tight : (κs : Lfts 3) (a : Dens κs edit-kinds.ps) (r₁ r₂ : (res_t edit-kinds.r κs).Denot) (s₁ s₂ : AtExit (ended_of 3 edit-kinds.ps edit-kinds.r) κs)
     → edit-reads.Learnt κs a r₁ s₁ → edit-reads.Learnt κs a r₂ s₂ → (r₁ ≡ r₂) × (s₁.1.0.now ≡ s₂.1.0.now) × (s₁.1.1.0.now ≡ s₂.1.1.0.now)
-edit_tight κs a r₁ r₂ s₁ s₂ p q = (says_one r₁ r₂ (p.says ∙ sym q.says), p.leaves ∙ sym q.leaves, p.directory ∙ sym q.directory)
+edit_tight κs a r₁ r₂ s₁ s₂ p q = (
+  ap₂ {C = Edited} (λ (x : Result (Unit {0}) Refusal) (y : Roll). record { answer = x; roll = y }) (says_one r₁.answer r₂.answer (p.says ∙ sym q.says)) (p.roll ∙ sym q.roll),
+  p.leaves ∙ sym q.leaves,
+  p.directory ∙ sym q.directory,
+)

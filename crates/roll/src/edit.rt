@@ -6,7 +6,7 @@ ghost use Rattle.sound.specs.Paper.Roll.{Sound};
 ghost use Rattle.store.specs.Helpers.Measured.{Spelled};
 ghost use Rattle.store.specs.Helpers.Replacing.{Located};
 ghost use Rattle.roll.specs.Paper.Operations.{Editing};
-ghost use Rattle.roll.specs.Helpers.Refused.{DirectoryChecked};
+ghost use Rattle.roll.specs.Helpers.Refused.{DirectoryChecked, Changing};
 
 use crate::check::check;
 use ground::refusal::Refusal;
@@ -18,6 +18,12 @@ use store::replacement::Replacement;
 use store::words::Words;
 use symbols::size::room_of;
 use texts::entries::entries_for;
+
+#[derive(Clone, Copy)]
+pub struct Edited {
+    pub answer: Result<(), Refusal>,
+    pub roll: Roll,
+}
 
 // That a roll is sound and its directory right; refused as check does, or with 9.
 fn check_directory(roll: Roll, buf: &[u8], dir: &[u32]) -> Result<(), Refusal>
@@ -35,7 +41,7 @@ fn check_directory(roll: Roll, buf: &[u8], dir: &[u32]) -> Result<(), Refusal>
 fn put_in(roll: Roll, new: &Replacement, buf: &mut [u8], dir: &mut [u32]) -> Result<Roll, Refusal>
     requires { let n = new.now in Located roll buf.old dir.old n.run × Spelled roll.table n.words.now.lengths n.words.now.symbols n.text.now n.taken
         × (n.run.first + n.taken ≤ room roll.table.code.k (length buf.old)) }
-    ensures { let n = new.now in Editing roll buf.old dir.old n.run.start n.run.end n.text.now result buf.new dir.new }
+    ensures { let n = new.now in Changing roll buf.old dir.old n.run.start n.run.end n.text.now result buf.new dir.new }
 {
     let Replacement {
         text,
@@ -69,7 +75,7 @@ fn change(
     text: &[u8],
 ) -> Result<Roll, Refusal>
     requires { Sound roll buf.old × Right roll buf.old dir.old × (start ≤ end) × (end ≤ roll.n) }
-    ensures { Editing roll buf.old dir.old start end text.now result buf.new dir.new }
+    ensures { Changing roll buf.old dir.old start end text.now result buf.new dir.new }
 {
     let now: &[u8] = buf;
     let sound = SoundRoll { roll, buf: now };
@@ -98,7 +104,8 @@ fn change(
     }
 }
 
-pub fn edit(
+// The record after an edit, or its refusal.
+fn record_after(
     roll: Roll,
     buf: &mut [u8],
     dir: &mut [u32],
@@ -106,11 +113,34 @@ pub fn edit(
     end: usize,
     text: &[u8],
 ) -> Result<Roll, Refusal>
-    ensures { Editing roll buf.old dir.old start end text.now result buf.new dir.new }
+    ensures { Changing roll buf.old dir.old start end text.now result buf.new dir.new }
 {
     check_directory(roll, buf, dir)?;
     if end < start || (roll.n as usize) < end {
         return Err(Refusal::BadRange);
     }
     change(roll, buf, dir, start, end, text)
+}
+
+// A refused edit answers the record that came in.
+pub fn edit(
+    roll: Roll,
+    buf: &mut [u8],
+    dir: &mut [u32],
+    start: usize,
+    end: usize,
+    text: &[u8],
+) -> Edited
+    ensures { Editing roll buf.old dir.old start end text.now result buf.new dir.new }
+{
+    match record_after(roll, buf, dir, start, end, text) {
+        Ok(after) => Edited {
+            answer: Ok(()),
+            roll: after,
+        },
+        Err(refusal) => Edited {
+            answer: Err(refusal),
+            roll,
+        },
+    }
 }

@@ -1,5 +1,6 @@
 // The codeword of a character.
-ghost use Rattle.stopper.specs.Paper.Operations.{Coding};
+ghost use Rattle.std.specs.Prelude.{◌≡◌, []};
+ghost use Rattle.stopper.specs.Paper.Operations.{Coding, codeword_for};
 
 use crate::code::{GoodCode, LONGEST};
 use crate::table::{Table, good_table, rank_of};
@@ -12,6 +13,16 @@ use ground::refusal::Refusal;
 pub struct Codeword {
     pub length: usize,
     pub symbols: [u8; LONGEST],
+}
+
+// What stands beside a refusal where a codeword is answered too: no symbols.
+pub fn no_word() -> Codeword
+    ensures { result ≡ codeword_for [] }
+{
+    Codeword {
+        length: 0,
+        symbols: [0; LONGEST],
+    }
 }
 
 pub fn codeword_of(table: Table, character: u8) -> Result<Codeword, Refusal>

@@ -134,9 +134,9 @@ fn pass_all(
     row: &[u8; AT_ONCE],
     from: usize,
     to: usize,
-    text: &mut [u8; AT_ONCE],
+    text: &mut [u8],
 ) -> Result<usize, usize>
-    requires { Passes row.now from to }
+    requires { Passes row.now from to text.old }
     ensures { let a = alphabet.now in PassedAll a.ranks.good.code a.ranks.sigma a.places.now row.now from to result text.new }
 {
     let Alphabet { ranks, places } = *alphabet;
@@ -177,9 +177,9 @@ fn pass(
     piece: &[u8],
     from: usize,
     upto: usize,
-    text: &mut [u8; AT_ONCE],
+    text: &mut [u8],
 ) -> Option<Passed>
-    requires { (from ≤ upto) × (upto ≤ length (symbols_of alphabet.now.ranks.good.code.k piece.now)) }
+    requires { (from ≤ upto) × (upto ≤ length (symbols_of alphabet.now.ranks.good.code.k piece.now)) × (length text.old ≡ 256) }
     ensures { let a = alphabet.now in PassedSome a.ranks.good.code a.ranks.sigma a.places.now r piece.now from upto result text.new }
 {
     if !begins(r) {
@@ -214,9 +214,9 @@ pub fn read_stretch(
     piece: &[u8],
     at: usize,
     upto: usize,
-    text: &mut [u8; AT_ONCE],
+    text: &mut [u8],
 ) -> Option<Stretch>
-    requires { Reads alphabet.now.ranks.good.code.k r piece.now at upto }
+    requires { Reads alphabet.now.ranks.good.code.k r piece.now at upto text.old }
     ensures { let a = alphabet.now in ReadStretch a.ranks.good.code a.ranks.sigma a.places.now r piece.now at upto result text.new }
 {
     if let Some(passed) = pass(alphabet, r, piece, at, upto, text) {

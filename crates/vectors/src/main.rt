@@ -1,5 +1,5 @@
 // Runs worked cases through the public operations and prints what they answer and what they leave in lent memory. Where a value stands beside a refusal
-// too, it is the C door's.
+// too, it is the C door's, and for a choice the library's.
 //
 // Standard input is cases as `casebook` has them: each is the number of an operation and its arguments; 0 ends. They come in parts of 262,144
 // bytes, and no case goes over the end of a part: a comment fills it up.
@@ -9,7 +9,8 @@
 use casebook::given::{Cases, read_full};
 use casebook::printed::{answered, done, end, list, rises, roll_out, runs, table_out, told};
 use casebook::rooms::{buffer, text_room};
-use monterculo::{monterculo_choose, monterculo_codeword_of, monterculo_edit, monterculo_pack};
+use choosing::choose::no_choice;
+use monterculo::{monterculo_codeword_of, monterculo_edit, monterculo_pack};
 use sound::records::Roll;
 use std::io::{self, Write};
 use stopper::code::LONGEST;
@@ -298,12 +299,11 @@ fn choose_case(printer: &mut impl Write, cases: &mut Cases) -> io::Result<()> {
     let mut row = [0; 300];
     let counts = cases.numbers(&mut row);
     printer.write_all(b"choose")?;
-    let outcome = monterculo_choose(k, counts);
-    let answer = outcome.answer;
-    told(printer, answer.number, answer.value)?;
-    let total = if answer.number == 0 { answer.value } else { 0 };
-    write!(printer, " total {total}")?;
-    table_out(printer, outcome.table)?;
+    let chosen = choosing::choose::choose(k, counts);
+    done(printer, chosen.map(|_| ()))?;
+    let choice = chosen.unwrap_or(no_choice(k));
+    write!(printer, " total {}", choice.total)?;
+    table_out(printer, choice.table)?;
     end(printer)
 }
 

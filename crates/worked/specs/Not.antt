@@ -2,10 +2,12 @@
 use Rattle.std.specs.Prelude.{◌≡◌, List, [], ◌∷◌, ℕ, get_or, replicate, Result, Ok, Err}
 use Rattle.std.proofs.Common.{sym, ap, ◌∙◌, arith}
 use Rattle.ground.specs.Paper.Refusals.{Outcome, accepted, refused}
+use Rattle.ground.specs.Paper.Answers.{outcome_of}
 use Rattle.ground.specs.declared.refusal.Refusal.{Refusal}
 use Rattle.ground.specs.declared.refusal.Refusal.TheVariants.{NoRoom, BadPattern, ShortDirectory}
 use Rattle.sound.specs.declared.records.Roll.{Roll}
 use Rattle.roll.specs.Paper.Operations.{Searching, Packing, Checking, Unpacking, Making, ReadingOne, Editing}
+use Rattle.roll.specs.declared.edit.Edited.{Edited}
 use Rattle.worked.specs.Cases.{abra, packed_abra, lines, rolled, computed}
 
 -- an accepted outcome is no refusal
@@ -130,68 +132,68 @@ pub roll_of : {x y : Roll} → ◌≡◌ {A = Outcome Roll} (accepted x) (accept
 roll_of e = cc
 
 -- an edit that refuses everything: dd in place of c fits
-pub edit_not_refusing : {e : Refusal} {after dir_after : List ℕ} → Editing packed packed_abra (0 ∷ []) 4 5 (100 ∷ 100 ∷ []) (Err e) after dir_after → ⊥
+pub edit_not_refusing : {e : Edited} {f : Refusal} {after dir_after : List ℕ} → Editing packed packed_abra (0 ∷ []) 4 5 (100 ∷ 100 ∷ []) e after dir_after → e.answer ≡ Err f → ⊥
 unfolding abra packed_abra computed
-edit_not_refusing p = apart (sym p.says)
+edit_not_refusing p q = apart (sym p.says ∙ ap outcome_of q)
 
 -- the buffer left as it was, whatever is answered: dd in place of c
-pub edit_not_untouched : {e : Result Roll Refusal} {dir_after : List ℕ} → Editing packed packed_abra (0 ∷ []) 4 5 (100 ∷ 100 ∷ []) e packed_abra dir_after → ⊥
+pub edit_not_untouched : {e : Edited} {dir_after : List ℕ} → Editing packed packed_abra (0 ∷ []) 4 5 (100 ∷ 100 ∷ []) e packed_abra dir_after → ⊥
 unfolding abra packed_abra computed
 edit_not_untouched p = let e = at 1 p.leaves in omega arith
 
 -- the record left as it was: there are 12 characters then
-pub edit_not_record : {after dir_after : List ℕ} → Editing packed packed_abra (0 ∷ []) 4 5 (100 ∷ 100 ∷ []) (Ok packed) after dir_after → ⊥
+pub edit_not_record : {e : Edited} {after dir_after : List ℕ} → Editing packed packed_abra (0 ∷ []) 4 5 (100 ∷ 100 ∷ []) e after dir_after → e.roll ≡ packed → ⊥
 unfolding abra packed_abra computed
-edit_not_record p = let e = ap (λ (r : Roll). r.n) (roll_of p.says) in omega arith
+edit_not_record p q = let e = ap (λ (r : Roll). r.n) (sym q ∙ p.roll) in omega arith
 
 -- the same outcome for every edit: dd in place of c, and cad dropped, leave other bytes
-pub edit_not_constant : {e : Result Roll Refusal} {after dir_after : List ℕ} → Editing packed packed_abra (0 ∷ []) 4 5 (100 ∷ 100 ∷ []) e after dir_after
+pub edit_not_constant : {e : Edited} {after dir_after : List ℕ} → Editing packed packed_abra (0 ∷ []) 4 5 (100 ∷ 100 ∷ []) e after dir_after
     → Editing packed packed_abra (0 ∷ []) 4 7 [] e after dir_after → ⊥
 unfolding abra packed_abra computed
 edit_not_constant p q = let e = at 1 (sym p.leaves ∙ q.leaves) in omega arith
 
 -- the tail moved by a whole byte where the length changes by one symbol: a put before all, and the old byte 0 is byte 1
-pub edit_not_bytes : {e : Result Roll Refusal} {x : ℕ} {rest dir_after : List ℕ} → Editing packed packed_abra (0 ∷ []) 0 0 (97 ∷ []) e (x ∷ 24 ∷ rest) dir_after → ⊥
+pub edit_not_bytes : {e : Edited} {x : ℕ} {rest dir_after : List ℕ} → Editing packed packed_abra (0 ∷ []) 0 0 (97 ∷ []) e (x ∷ 24 ∷ rest) dir_after → ⊥
 unfolding abra packed_abra computed
 edit_not_bytes p = let e = at 1 p.leaves in omega arith
 
 -- digits left behind the new end: cad dropped, and byte 2 is 70 as before
-pub edit_not_left : {e : Result Roll Refusal} {x y : ℕ} {rest dir_after : List ℕ} → Editing packed packed_abra (0 ∷ []) 4 7 [] e (x ∷ y ∷ 70 ∷ rest) dir_after → ⊥
+pub edit_not_left : {e : Edited} {x y : ℕ} {rest dir_after : List ℕ} → Editing packed packed_abra (0 ∷ []) 4 7 [] e (x ∷ y ∷ 70 ∷ rest) dir_after → ⊥
 unfolding abra packed_abra computed
 edit_not_left p = let e = at 2 p.leaves in omega arith
 
 -- the directory left as it was: with a in place of c, character 32 starts at symbol 32
-pub edit_not_directory : {e : Result Roll Refusal} {after : List ℕ} → Editing longer packed_longer (0 ∷ 33 ∷ []) 0 1 (97 ∷ []) e after (0 ∷ 33 ∷ []) → ⊥
+pub edit_not_directory : {e : Edited} {after : List ℕ} → Editing longer packed_longer (0 ∷ 33 ∷ []) 0 1 (97 ∷ []) e after (0 ∷ 33 ∷ []) → ⊥
 unfolding abra computed
 edit_not_directory p = let e = at 1 p.directory in omega arith
 
 -- an entry left that is used no longer: with c dropped, 32 characters have one
-pub edit_not_entry : {e : Result Roll Refusal} {after : List ℕ} → Editing longer packed_longer (0 ∷ 33 ∷ []) 0 1 [] e after (0 ∷ 33 ∷ []) → ⊥
+pub edit_not_entry : {e : Edited} {after : List ℕ} → Editing longer packed_longer (0 ∷ 33 ∷ []) 0 1 [] e after (0 ∷ 33 ∷ []) → ⊥
 unfolding abra computed
 edit_not_entry p = let e = at 1 p.directory in omega arith
 
 -- the byte before the run written with a zero: c starts in byte 1, and byte 0 stays
-pub edit_not_before : {e : Result Roll Refusal} {rest dir_after : List ℕ} → Editing packed packed_abra (0 ∷ []) 4 5 (100 ∷ 100 ∷ []) e (0 ∷ rest) dir_after → ⊥
+pub edit_not_before : {e : Edited} {rest dir_after : List ℕ} → Editing packed packed_abra (0 ∷ []) 4 5 (100 ∷ 100 ∷ []) e (0 ∷ rest) dir_after → ⊥
 unfolding abra packed_abra computed
 edit_not_before p = let e = first_of p.leaves in omega arith
 
 -- 12 asked before 4: 32 times a fill 8 bytes and one entry, and one more has neither room nor an entry
-pub edit_not_12_first : {after dir_after : List ℕ} {v : ℕ}
-    → Editing (rolled abra 32 32) (replicate 8 0) (0 ∷ []) 32 32 (97 ∷ []) (Err (ShortDirectory v)) after dir_after → ⊥
+pub edit_not_12_first : {e : Edited} {after dir_after : List ℕ} {v : ℕ}
+    → Editing (rolled abra 32 32) (replicate 8 0) (0 ∷ []) 32 32 (97 ∷ []) e after dir_after → e.answer ≡ Err (ShortDirectory v) → ⊥
 unfolding abra computed
-edit_not_12_first p = let e = number_of p.says in omega arith
+edit_not_12_first p q = let e = number_of (sym (ap outcome_of q) ∙ p.says) in omega arith
 
 -- 12 not asked: with a byte more there is room, and still no entry
-pub edit_not_unlisted : {q : Roll} {after dir_after : List ℕ}
-    → Editing (rolled abra 32 32) (replicate 9 0) (0 ∷ []) 32 32 (97 ∷ []) (Ok q) after dir_after → ⊥
+pub edit_not_unlisted : {e : Edited} {after dir_after : List ℕ}
+    → Editing (rolled abra 32 32) (replicate 9 0) (0 ∷ []) 32 32 (97 ∷ []) e after dir_after → e.answer ≡ Ok tt → ⊥
 unfolding abra computed
-edit_not_unlisted p = apart p.says
+edit_not_unlisted p q = apart (sym (ap outcome_of q) ∙ p.says)
 
 pub value_of : {A : Type 0} {n m v w : ℕ} → ◌≡◌ {A = Outcome A} (refused n v) (refused m w) → v ≡ w
 value_of e = cc
 
 -- 4 with a number in the new text, and not in the edited one: it is 32
-pub edit_not_piece : {after dir_after : List ℕ}
-    → Editing (rolled abra 32 32) (replicate 8 0) (0 ∷ []) 32 32 (97 ∷ []) (Err (NoRoom 0)) after dir_after → ⊥
+pub edit_not_piece : {e : Edited} {after dir_after : List ℕ}
+    → Editing (rolled abra 32 32) (replicate 8 0) (0 ∷ []) 32 32 (97 ∷ []) e after dir_after → e.answer ≡ Err (NoRoom 0) → ⊥
 unfolding abra computed
-edit_not_piece p = let e = value_of p.says in omega arith
+edit_not_piece p q = let e = value_of (sym (ap outcome_of q) ∙ p.says) in omega arith

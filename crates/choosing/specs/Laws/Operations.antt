@@ -1,19 +1,19 @@
 -- The promises: a law for a refused call and one for an accepted call.
-use Rattle.std.specs.Prelude.{◌≡◌, refl, List, ℕ, ◌<◌, T, length, Ok, Err}
+use Rattle.std.specs.Prelude.{◌≡◌, refl, List, ℕ, ◌<◌, T, length, Result, Ok, Err}
+use Rattle.std.specs.Result.{result_unwrap_or}
 use Rattle.std.proofs.Math.Path.{sym}
 use Rattle.std.proofs.Common.{ap, ap₂, ◌∙◌}
 use Rattle.ground.specs.Paper.Refusals.{refused}
 use Rattle.ground.specs.Paper.Rows.{tab, padded}
 use Rattle.ground.specs.Paper.Answers.{number_of, value_of}
-use Rattle.ground.specs.Laws.Answers.{ok_accepted}
+use Rattle.ground.specs.Laws.Answers.{ok_accepted, err_refused}
 use Rattle.ground.specs.Laws.Refusals.{Accepted, accepted_leaves}
 use Rattle.ground.specs.Laws.Rows.{tab_at}
 use Rattle.ground.specs.declared.refusal.Refusal.{Refusal}
 use Rattle.stopper.specs.Paper.Table.{good_width}
 use Rattle.stopper.specs.declared.code.Code.{Code}
-use Rattle.stopper.specs.declared.table.Table.{Table}
 use Rattle.choosing.specs.Paper.Choosing.{counts_of, counted, total, chosen, chosen_table}
-use Rattle.choosing.specs.Paper.Operations.{count_says, Counting, choose_says, choice_of, Choosing}
+use Rattle.choosing.specs.Paper.Operations.{count_says, Counting, choose_says, no_choice, choose_table, choose_total, choice_of, Choosing}
 use Rattle.choosing.specs.Helpers.Answers.{count_in, ranking_of, best_of}
 use Rattle.choosing.specs.Laws.Choosing.{ranked_ext, chosen_ext, fewest_ext}
 use Rattle.choosing.specs.Laws.Accepting.{chooses_is}
@@ -72,3 +72,15 @@ module _ {k : ℕ} {counts : List ℕ} {c : Choice} (p : Choosing k counts (Ok c
 
   pub chosen_total : c.total ≡ total (chosen k (counted counts)) (counted counts)
   chosen_total = ap (λ (x : Choice). x.total) answered.1 ∙ accepted_leaves answered.0 _ _
+
+-- what is answered, or `no_choice` beside a refusal
+module _ {k : ℕ} {counts : List ℕ} where
+  pub choosing_choice : {r : Result Choice Refusal} → Choosing k counts r → result_unwrap_or r (no_choice k) ≡ choice_of k counts
+  choosing_choice {r = Ok c} p = (answered p).1
+  choosing_choice {r = Err e} p = rw (err_refused (choice_of k counts) p.says refl)
+
+  pub choosing_table : {r : Result Choice Refusal} → Choosing k counts r → (result_unwrap_or r (no_choice k)).table ≡ choose_table k counts
+  choosing_table p = ap (λ (x : Choice). x.table) (choosing_choice p)
+
+  pub choosing_total : {r : Result Choice Refusal} → Choosing k counts r → (result_unwrap_or r (no_choice k)).total ≡ choose_total k counts
+  choosing_total p = ap (λ (x : Choice). x.total) (choosing_choice p)

@@ -40,6 +40,9 @@ choose_rows k counts =
 abbrev pub no_table : ℕ → Table
 no_table k = table_of (even_code k 0) []
 
+abbrev pub no_choice : ℕ → Choice
+no_choice k = record { table = no_table k; total = 0 }
+
 unfoldable pub choose_says : ℕ → List ℕ → Outcome (Unit {0})
 choose_says k counts = judged (choose_rows k counts) tt
 

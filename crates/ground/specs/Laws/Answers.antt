@@ -1,8 +1,9 @@
 -- An answer is what it says: two that say the same are equal.
 use Rattle.std.specs.Prelude.{◌≡◌, refl, cond, eqb, ℕ, Result, Ok, Err}
+use Rattle.std.specs.Result.{result_unwrap_or}
 use Rattle.std.proofs.Common.{sym, ap, ap₂, ◌∙◌, inl, inr, arith}
-use Rattle.ground.specs.Paper.Refusals.{Outcome, accepted, refused, ◌then◌}
-use Rattle.ground.specs.Laws.Refusals.{Accepted, accepted_parts, refused_parts}
+use Rattle.ground.specs.Paper.Refusals.{Outcome, accepted, refused, ◌then◌, kept}
+use Rattle.ground.specs.Laws.Refusals.{Accepted, accepted_parts, refused_parts, refused_keeps}
 use Rattle.ground.specs.Paper.Answers.{number_of, value_of, outcome_of}
 use Rattle.ground.specs.declared.refusal.Refusal.{Refusal}
 use Rattle.ground.specs.declared.refusal.Refusal.TheVariants.{BadTable, BadCounts, NotInTable, NoRoom, BadSymbolCount, BadCodeword, BadCharacterCount, BadUnused, BadEntry, BadRange, BadPattern, ShortDirectory, ShortOutput, ShortHits, BadLine}
@@ -71,3 +72,10 @@ module _ {A : Type 0} {o : Outcome (Unit {0})} {r : Result A Refusal} (x : A) (s
 
   pub err_refused : {e : Refusal} → r ≡ Err e → o ≡ refused (number_of e) (value_of e)
   err_refused {e} p = elim (refused_parts o (says_as {b = Err e} says p)) [ inl q ↦ q | inr q ↦ (let w = q.1 in let z : ◌≡◌ {A = ℕ} 0 1 = cc in absurd (omega arith)) ]
+
+-- ---- what is answered, or what is put beside a refusal
+
+pub beside_kept : {A : Type 0} (o : Outcome (Unit {0})) (r : Result A Refusal) (before after : A) → outcome_of r ≡ (o then accepted (kept o before after))
+    → result_unwrap_or r before ≡ kept o before after
+beside_kept o (Ok answer) before after says = (ok_accepted (kept o before after) says refl).1
+beside_kept o (Err refusal) before after says = sym (refused_keeps (err_refused (kept o before after) says refl) before after)

@@ -1,5 +1,6 @@
 -- The promises: a law for a refused call and one for an accepted call.
 use Rattle.std.specs.Prelude.{◌≡◌, refl, ◌≢◌, true, false, not, ◌&&◌, ◌||◌, T, eqb, take, Result, Ok, Err}
+use Rattle.std.specs.Result.{result_unwrap_or}
 use Rattle.std.proofs.Math.Path.{sym, ap}
 use Rattle.std.proofs.Common.{◌∙◌, arith, nltb→le, leb→le, take-append-drop}
 use Rattle.std.proofs.Math.Bool.{Bool}
@@ -12,7 +13,7 @@ use Rattle.std.proofs.Math.ListN.{length, drop, get_or}
 use Rattle.ground.specs.Paper.Limit.{limit}
 use Rattle.ground.specs.Paper.Refusals.{refuse, accepted, refused, judged}
 use Rattle.ground.specs.Paper.Answers.{number_of, value_of, outcome_of}
-use Rattle.ground.specs.Laws.Answers.{err_refused}
+use Rattle.ground.specs.Laws.Answers.{err_refused, beside_kept}
 use Rattle.ground.specs.Laws.Refusals.{NoneApplies, accepted_none}
 use Rattle.ground.specs.declared.refusal.Refusal.{Refusal}
 use Rattle.stopper.specs.Paper.Table.{good_table}
@@ -62,6 +63,10 @@ module _ {r : Roll} {pattern : List ℕ} where
   -- what stands beside a refusal
   pub start_beside : {e : Refusal} → Starting r pattern (Err e) → start_searcher r pattern ≡ searcher_for r []
   start_beside {e} s = rw (err_refused (start_searcher r pattern) s.says {e = e} refl)
+
+  -- what is answered, or `no_searcher` beside a refusal
+  pub starting_searcher : {s : Result Searcher Refusal} → Starting r pattern s → result_unwrap_or s (searcher_for r []) ≡ start_searcher r pattern
+  starting_searcher {s} p = beside_kept (start_says r pattern) s _ _ p.says
 
 module _ (r : Roll) (pattern : List ℕ) where
   pub start_1 : good_table r.table ≡ false → start_says r pattern ≡ refused 1 0

@@ -1,5 +1,6 @@
 -- The promises: a law for a refused call and one for an accepted call.
-use Rattle.std.specs.Prelude.{◌≡◌, refl, ◌≢◌, true, false, not, List, [], ◌∷◌, ◌++◌, ℕ, ◌-◌, ◌≤◌, ◌<◌, T, ltb, length, drop, Ok, Err}
+use Rattle.std.specs.Prelude.{◌≡◌, refl, ◌≢◌, true, false, not, List, [], ◌∷◌, ◌++◌, ℕ, ◌-◌, ◌≤◌, ◌<◌, T, ltb, length, drop, Result, Ok, Err}
+use Rattle.std.specs.Result.{result_unwrap_or}
 use Rattle.std.proofs.Math.Path.{sym}
 use Rattle.std.proofs.Math.Logic.{⊎_elim}
 use Rattle.std.proofs.Common.{le_of_eq, ap, arith}
@@ -7,7 +8,8 @@ use borrow.Author.Tests.{lt-ltb, le-ltb, eq-eqb, ne_eqb, not-false}
 use Rattle.ground.specs.Paper.Refusals.{refuse, refused, judged}
 use Rattle.ground.specs.Paper.Runs.{run}
 use Rattle.ground.specs.Paper.Rows.{all_zero}
-use Rattle.ground.specs.Laws.Refusals.{Accepted, accepted_none, accepted_parts, refused_row, refused_parts}
+use Rattle.ground.specs.Laws.Answers.{ok_accepted, err_refused, beside_kept}
+use Rattle.ground.specs.Laws.Refusals.{Accepted, accepted_none, accepted_parts, refused_row, refused_parts, refused_keeps}
 use Rattle.ground.specs.Laws.Tests.{true_yes}
 use Rattle.ground.specs.Paper.Answers.{number_of, value_of}
 use Rattle.ground.specs.declared.refusal.Refusal.{Refusal}
@@ -29,8 +31,8 @@ use Rattle.sound.specs.Laws.Sound.{table_reads}
 use Rattle.sound.specs.declared.records.Roll.{Roll}
 use Rattle.store.specs.Paper.Fitting.{first_over}
 use Rattle.store.specs.Paper.Stored.{packed_into, bytes_after, directory_after}
-use Rattle.roll.specs.Paper.Operations.{pack_says, Packing, fit_says, check_says, Checking, unpack_says, Unpacking, make_says, Making, search_rows, search_says, Searching, edit_says, Editing}
-use Rattle.roll.specs.Helpers.Refused.{PatternChecked, DirectoryChecked}
+use Rattle.roll.specs.Paper.Operations.{pack_says, no_roll, pack_roll, Packing, fit_says, check_says, Checking, unpack_says, Unpacking, make_says, Making, search_rows, search_says, Searching, edit_says, edit_roll, Editing}
+use Rattle.roll.specs.Helpers.Refused.{PatternChecked, DirectoryChecked, Changing}
 use Rattle.roll.specs.Laws.Accepting.{fits_is, accepted_sound, Packs, packs_accepted, Unpacks, unpacks_accepted, makes_is, searches_is, right_accepted, accepted_right}
 
 -- ---- pack
@@ -42,6 +44,10 @@ module _ {t : Table} {text buf : List ℕ} where
   pub pack_yes : {q : Roll} {after : List ℕ} → Packs t text buf → q ≡ record_of t text → after ≡ packed_into t.code.k (symbols_for t text) buf
       → Packing t text buf (Ok q) after
   pack_yes u p q = let e = packs_accepted t text buf u in record { says = rw (e, p); leaves = rw e q }
+
+  -- what is answered, or `no_roll` beside a refusal
+  pub packing_roll : {r : Result Roll Refusal} {after : List ℕ} → Packing t text buf r after → result_unwrap_or r (no_roll t) ≡ pack_roll t text buf
+  packing_roll {r} p = beside_kept (pack_says t text buf) r _ _ p.says
 
 -- ---- what check and read one both ask first
 
@@ -125,10 +131,24 @@ module _ {r : Roll} {buf pattern slice : List ℕ} where
 pub directory_sound : {r : Roll} {buf dir : List ℕ} → DirectoryChecked r buf dir (Ok tt) → Sound r buf × Right r buf dir
 directory_sound {r} {buf} {dir} d = accepted_right r buf dir (sym d.says)
 
--- a refused edit leaves all as it was
+-- a refused change leaves all as it was
+pub change_refused : {r : Roll} {buf dir : List ℕ} {start end : ℕ} {text : List ℕ} {e : Refusal} → edit_says r buf dir start end text ≡ refused (number_of e) (value_of e)
+    → Changing r buf dir start end text (Err e) buf dir
+change_refused e = record { says = rw e; leaves = rw e; directory = rw e }
+
+-- an edit answers the record after a change; a refused one answers the record that came in
+module _ {r : Roll} {buf dir : List ℕ} {start end : ℕ} {text : List ℕ} {after dir_after : List ℕ} where
+  pub edit_changed : {q : Roll} → Changing r buf dir start end text (Ok q) after dir_after → Editing r buf dir start end text (record { answer = Ok tt; roll = q }) after dir_after
+  edit_changed p = let (a, q) = ok_accepted (edit_roll r buf dir start end text) p.says refl in record { says = sym a; roll = q; leaves = p.leaves; directory = p.directory }
+
+  pub edit_unchanged : {e : Refusal} → Changing r buf dir start end text (Err e) after dir_after → Editing r buf dir start end text (record { answer = Err e; roll = r }) after dir_after
+  edit_unchanged p =
+      let o = err_refused (edit_roll r buf dir start end text) p.says refl in
+      record { says = sym o; roll = sym (refused_keeps o _ _); leaves = p.leaves; directory = p.directory }
+
 pub edit_refused : {r : Roll} {buf dir : List ℕ} {start end : ℕ} {text : List ℕ} {e : Refusal} → edit_says r buf dir start end text ≡ refused (number_of e) (value_of e)
-    → Editing r buf dir start end text (Err e) buf dir
-edit_refused e = record { says = rw e; leaves = rw e; directory = rw e }
+    → Editing r buf dir start end text (record { answer = Err e; roll = r }) buf dir
+edit_refused e = edit_unchanged (change_refused e)
 
 module _ {r : Roll} {buf : List ℕ} (dir : List ℕ) (start end : ℕ) (text : List ℕ) (s : Sound r buf) (right : Right r buf dir) (a : start ≤ end) (b : end ≤ r.n)
     (f : first_foreign (characters r.table) text ≡ length text) where
@@ -139,17 +159,25 @@ module _ {r : Roll} {buf : List ℕ} (dir : List ℕ) (start end : ℕ) (text : 
   abbrev full : ℕ
   full = first_over r.table.code (characters r.table) (room r.table.code.k (length buf)) new
 
-  pub edit_4 : {v : ℕ} → v ≡ full → v < length new → Editing r buf dir start end text (Err (NoRoom v)) buf dir
+  pub change_4 : {v : ℕ} → v ≡ full → v < length new → Changing r buf dir start end text (Err (NoRoom v)) buf dir
   unfolding edit_says
-  edit_4 {v = v} p h =
-      edit_refused {e = NoRoom v} (rw (p, right_accepted r buf dir s right, le-ltb _ _ a, le-ltb _ _ b, le-ltb _ _ (le_of_eq (sym f)), lt-ltb _ _ (rw p at h)))
+  change_4 {v = v} p h =
+      change_refused {e = NoRoom v} (rw (p, right_accepted r buf dir s right, le-ltb _ _ a, le-ltb _ _ b, le-ltb _ _ (le_of_eq (sym f)), lt-ltb _ _ (rw p at h)))
+
+  pub edit_4 : {v : ℕ} → v ≡ full → v < length new → Editing r buf dir start end text (record { answer = Err (NoRoom v); roll = r }) buf dir
+  edit_4 p h = edit_unchanged (change_4 p h)
 
   -- the last row decides
   pub edit_last : full ≡ length new → edit_says r buf dir start end text ≡ judged (refuse 12 (entries (length new)) (ltb (length dir) (entries (length new))) ∷ []) tt
   unfolding edit_says
   edit_last o = rw (right_accepted r buf dir s right, le-ltb _ _ a, le-ltb _ _ b, le-ltb _ _ (le_of_eq (sym f)), le-ltb _ _ (le_of_eq (sym o)))
 
+pub change_yes : {r : Roll} {buf dir : List ℕ} {start end : ℕ} {text : List ℕ} {q : Roll} {after dir_after : List ℕ} → let new = edited (text_of r buf) start end text in
+    Accepted (edit_says r buf dir start end text) → q ≡ record_of r.table new → after ≡ bytes_after r new buf → dir_after ≡ directory_after r new dir
+    → Changing r buf dir start end text (Ok q) after dir_after
+change_yes e p q o = record { says = rw (e, p); leaves = rw e q; directory = rw e o }
+
 pub edit_yes : {r : Roll} {buf dir : List ℕ} {start end : ℕ} {text : List ℕ} {q : Roll} {after dir_after : List ℕ} → let new = edited (text_of r buf) start end text in
     Accepted (edit_says r buf dir start end text) → q ≡ record_of r.table new → after ≡ bytes_after r new buf → dir_after ≡ directory_after r new dir
-    → Editing r buf dir start end text (Ok q) after dir_after
-edit_yes e p q o = record { says = rw (e, p); leaves = rw e q; directory = rw e o }
+    → Editing r buf dir start end text (record { answer = Ok tt; roll = q }) after dir_after
+edit_yes e p q o = edit_changed (change_yes e p q o)

@@ -20,6 +20,7 @@ use Rattle.sound.specs.Paper.Lengths.{lengths_of}
 use Rattle.sound.specs.declared.records.Roll.{Roll}
 use Rattle.store.specs.Paper.Fitting.{first_over}
 use Rattle.store.specs.Paper.Stored.{packed_into, bytes_after, directory_after}
+use Rattle.roll.specs.declared.edit.Edited.{Edited}
 
 -- ---- pack: 1, 3, 4
 
@@ -184,7 +185,8 @@ edit_leaves r buf dir start end text = kept (edit_says r buf dir start end text)
 abbrev pub edit_directory : Roll → List ℕ → List ℕ → ℕ → ℕ → List ℕ → List ℕ
 edit_directory r buf dir start end text = kept (edit_says r buf dir start end text) dir (directory_after r (edited (text_of r buf) start end text) dir)
 
-pub record Editing (r : Roll) (buf dir : List ℕ) (start end : ℕ) (text : List ℕ) (e : Result Roll Refusal) (after dir_after : List ℕ) : Type 0 where
-  pub says : outcome_of e ≡ (edit_says r buf dir start end text then accepted (edit_roll r buf dir start end text))
+pub record Editing (r : Roll) (buf dir : List ℕ) (start end : ℕ) (text : List ℕ) (e : Edited) (after dir_after : List ℕ) : Type 0 where
+  pub says : outcome_of e.answer ≡ edit_says r buf dir start end text
+  pub roll : e.roll ≡ edit_roll r buf dir start end text
   pub leaves : after ≡ edit_leaves r buf dir start end text
   pub directory : dir_after ≡ edit_directory r buf dir start end text

@@ -1,5 +1,6 @@
 -- The promises: a law for a refused call and one for an accepted call.
-use Rattle.std.specs.Prelude.{◌≡◌, refl, Bool, true, false, cond, List, ◌++◌, ℕ, ◌≤◌, ◌<◌, T, drop, get_or, Some, None, Ok, Err}
+use Rattle.std.specs.Prelude.{◌≡◌, refl, Bool, true, false, cond, List, [], ◌++◌, ℕ, ◌≤◌, ◌<◌, T, drop, get_or, Some, None, Result, Ok, Err}
+use Rattle.std.specs.Result.{result_unwrap_or}
 use Rattle.std.proofs.Math.Path.{sym}
 use Rattle.std.proofs.Common.{subst, arith, ltb→lt}
 use borrow.Author.Tests.{le-leb}
@@ -9,10 +10,11 @@ use Rattle.ground.specs.Paper.Answers.{number_of, value_of}
 use Rattle.ground.specs.declared.refusal.Refusal.{Refusal}
 use Rattle.ground.specs.Paper.Rows.{zeros}
 use Rattle.ground.specs.Laws.Refusals.{Accepted}
+use Rattle.ground.specs.Laws.Answers.{beside_kept}
 use Rattle.ground.specs.Laws.Rows.{padded_over}
 use Rattle.stopper.specs.Paper.Code.{is_word, rank_of}
 use Rattle.stopper.specs.Paper.Table.{base, stoppers, has, characters, good_table, rank_in, word_of, length_of, longest}
-use Rattle.stopper.specs.Paper.Operations.{codeword_says, Coding, is_one, word_in, character_says}
+use Rattle.stopper.specs.Paper.Operations.{codeword_says, codeword_for, codeword_given, Coding, is_one, word_in, character_says}
 use Rattle.stopper.specs.Helpers.Answers.{ranked_as, ranked_in}
 use Rattle.stopper.specs.declared.code.Code.{Code}
 use Rattle.stopper.specs.declared.table.Table.{Table}
@@ -47,6 +49,10 @@ module _ {t : Table} {b : ℕ} where
       → Coding t b (Ok (record { length = n; symbols = l }))
   unfolding length_of
   codeword_yes {r} e p q o = record { says = rw (e, q, o, padded_over longest (word_of t.code r), p) }
+
+  -- what is answered, or `no_word` beside a refusal
+  pub coding_word : {r : Result Codeword Refusal} → Coding t b r → result_unwrap_or r (codeword_for []) ≡ codeword_given t b
+  coding_word {r} p = beside_kept (codeword_says t b) r _ _ p.says
 
 -- ---- character of a codeword
 

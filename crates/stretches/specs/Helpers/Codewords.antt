@@ -107,11 +107,12 @@ pub record LaidOut (k : ℕ) (piece : List ℕ) (first n : ℕ) (row : List ℕ)
   pub inside : first * per k + n ≤ length (symbols_of k piece)
   pub symbols : (i : ℕ) → i < n → get_or row i 0 ≡ get_or (symbols_of k piece) (first * per k + i) 0
 
-pub record Passes (row : List ℕ) (from to : ℕ) : Type 0 where
+pub record Passes (row : List ℕ) (from to : ℕ) (text : List ℕ) : Type 0 where
   pub order : from < to
   pub near : to ≤ 256
   pub inside : to ≤ length row
   pub small : (i : ℕ) → i < to → get_or row i 0 < 16
+  pub long : length text ≡ 256
 
 -- so many characters; or the place before which less can be tried
 pub record PassedAll (c : Code) (σ : ℕ) (places row : List ℕ) (from to : ℕ) (r : Result ℕ ℕ) (text : List ℕ) : Type 0 where
@@ -128,11 +129,12 @@ pub record PassedSome (c : Code) (σ : ℕ) (places : List ℕ) (state : Reader)
   pub few : IfSome r (λ p. p.characters ≤ 256)
   pub whole : IfSome r (λ p. Through c σ places opened (run (symbols_of c.k piece) from p.to) (take p.characters text) opened true)
 
-pub record Reads (k : ℕ) (r : Reader) (piece : List ℕ) (at upto : ℕ) : Type 0 where
+pub record Reads (k : ℕ) (r : Reader) (piece : List ℕ) (at upto : ℕ) (text : List ℕ) : Type 0 where
   pub small : Small r
   pub order : at < upto
   pub inside : upto ≤ length (symbols_of k piece)
   pub fits : upto < 2 ^ 32
+  pub long : length text ≡ 256
 
 -- a stretch; none where no codeword ends well from here on
 pub record ReadStretch (c : Code) (σ : ℕ) (places : List ℕ) (r : Reader) (piece : List ℕ) (at upto : ℕ) (x : Option Stretch) (text : List ℕ) : Type 0 where

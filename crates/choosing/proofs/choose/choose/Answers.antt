@@ -1,6 +1,7 @@
 -- `choosing::choose::choose` meets its contract: the operation's refusals in order, and its acceptance.
 use mathlib.Core.Path.{sym, ap, ◌∙◌}
 use native.Mathlib.Omega.{arith}
+use Rattle.std.proofs.Common.{rules}
 use borrow.Author.Tests.{ne_eqb}
 use Rattle.ground.specs.Laws.Tests.{true_yes}
 use Rattle.choosing.specs.Paper.Operations.{choose_says}
@@ -21,7 +22,7 @@ returns-then-counts-ne256 c = choose_refused (rw (sym c.good_width.ensures ∙ c
 
 pub best_of-best-requires : goal.best_of-best-requires
 best_of-best-requires c =
-    (true_yes _ (sym c.good_width.ensures ∙ c.if-not-good_width.false), c.ranking_of-ranking.ensures)
+    (true_yes _ (sym c.good_width.ensures ∙ c.if-not-good_width.false), search rules, c.ranking_of-ranking.ensures)
 
 pub overflow_cast-result : goal.overflow_cast-result
 overflow_cast-result c =

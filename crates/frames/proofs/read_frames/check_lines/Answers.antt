@@ -61,8 +61,8 @@ overflow_add-number c = omega (arith, c.loop-left.invariant.inside, c.if-rest-lo
 pub loop-left-preserved : goal.loop-left-preserved
 loop-left-preserved c = passed c.loop-left.invariant c.loop-left-test.true c.bytes_next-next.ensures c.if-rest-long.false (sym c.is_later.ensures ∙ c.if-not-is_later.false)
 
-pub returns-then-not-is_empty : goal.returns-then-not-is_empty
-returns-then-not-is_empty c = too_many c.loop-left.invariant (omega (arith, c.loop-left-test.false)) (sym c.is_empty.ensures ∙ c.if-not-is_empty.true)
+pub returns-then-is_empty : goal.returns-then-is_empty
+returns-then-is_empty c = over c.loop-left.invariant (omega (arith, c.loop-left-test.false)) (sym c.is_empty.ensures ∙ c.if-is_empty.true)
 
-pub returns : goal.returns
-returns c = over c.loop-left.invariant (omega (arith, c.loop-left-test.false)) (sym c.is_empty.ensures ∙ c.if-not-is_empty.false)
+pub returns-else-is_empty : goal.returns-else-is_empty
+returns-else-is_empty c = too_many c.loop-left.invariant (omega (arith, c.loop-left-test.false)) (sym c.is_empty.ensures ∙ c.if-is_empty.false)

@@ -78,13 +78,14 @@ module _ (s : Searcher) (piece : List ℕ) {all : ℕ} (slice : List ℕ) (f : F
       in_roll : p.read + i < h
       in_roll = omega (arith, upto_roll)
 
-      reads : Reads code.k r piece i upto
-      reads =
+      reads : {text : List ℕ} → length text ≡ 256 → Reads code.k r piece i upto text
+      reads long =
           record {
             small = z.small;
             order = here;
             inside = upto_piece;
             fits = omega (arith, upto_roll, h_fits);
+            long = long;
           }
 
       -- the stretch stays in the roll and in the piece, and has no more characters than symbols
@@ -151,7 +152,7 @@ overflow_sub-matcher c = omega (arith, pattern_some _ _ _ c.requires)
 
 pub invariant_of-matcher : goal.invariant_of-matcher
 invariant_of-matcher c =
-    record { good = c.requires.ready.pattern; places = c.mark_places.ensures; bit = whole_is _ _ _ c.requires }
+    record { some = pattern_some _ _ _ c.requires; most = pattern_most _ c.requires.ready.pattern; places = c.mark_places.ensures; bit = whole_is _ _ _ c.requires }
 
 pub loop-i-init : goal.loop-i-init
 loop-i-init c =
@@ -165,7 +166,7 @@ loop-i-init c =
     )
 
 pub read_stretch-requires : goal.read_stretch-requires
-read_stretch-requires c = reads _ _ _ c.requires c.min-upto.ensures c.loop-i-test.true c.loop-i.invariant.2
+read_stretch-requires c = reads _ _ _ c.requires c.min-upto.ensures c.loop-i-test.true c.loop-i.invariant.2 c.loop-i.invariant.1
 
 pub slice_bounds-name_hits-end : goal.slice_bounds-name_hits-end
 slice_bounds-name_hits-end c = sym (characters_length c.read_stretch.new.text c.in-Some.on.characters c.in-Some.ensures.long c.in-Some.ensures.few)

@@ -1,11 +1,9 @@
 -- `radio::matching::name_hits` meets its contract: the hits are those whose last characters are before place i.
-use Rattle.std.proofs.Common.{◌≡◌, List, [], ◌∷◌, ◌++◌, ℕ, suc, ◌+◌, ◌-◌, ◌*◌, ◌^◌, ◌≤◌, ◌<◌, T, length, take, get_or, set, refl, sym, ap, ap₂, ◌∙◌, arith, add-zero, le-leb, length-append, append-nil, pow_mono}
+use Rattle.std.proofs.Common.{◌≡◌, List, [], ◌∷◌, ◌++◌, ℕ, suc, ◌+◌, ◌-◌, ◌*◌, ◌^◌, ◌≤◌, ◌<◌, length, take, get_or, set, refl, sym, ap, ap₂, ◌∙◌, arith, add-zero, le-leb, length-append, append-nil, pow_mono}
 use Rattle.std.proofs.lemmas.Bool.{lt-leb}
 use Rattle.std.specs.Int.Bits.{bit_and}
 use Rattle.ground.specs.Laws.Runs.{over_none, over_more}
 use Rattle.radio.specs.Paper.Matching.{advanced, whole_bit, matches, matches_all, named}
-use Rattle.texts.specs.Paper.Hits.{good_pattern}
-use Rattle.texts.specs.Laws.Patterns.{pattern_least, pattern_most}
 use Rattle.radio.specs.Helpers.Masks.{masks_of}
 use Rattle.radio.specs.Helpers.Naming.{NamedIn}
 use Rattle.radio.specs.Laws.Matching.{grown_count, matches_low, hit_fits, hit_none, hit_rest, named_hit, named_none, matches_next, named_next}
@@ -55,11 +53,8 @@ module _ (pattern text : List ℕ) {count bits : ℕ} {slice : List ℕ} {hits o
 
 -- ---- what the advance gives
 
-module _ {masks : List ℕ} {whole : ℕ} (pattern : List ℕ) (good : T (good_pattern pattern)) (places : masks ≡ masks_of pattern) (bit : whole ≡ whole_bit pattern) (on character : ℕ) {b r : ℕ} (small : b < 256) (is : b ≡ character)
+module _ {masks : List ℕ} {whole : ℕ} (pattern : List ℕ) (some : 0 < length pattern) (places : masks ≡ masks_of pattern) (bit : whole ≡ whole_bit pattern) (on character : ℕ) {b r : ℕ} (small : b < 256) (is : b ≡ character)
     (given : r ≡ bit_and (2 * on + 1) (get_or masks b 0)) where
-  some : 0 < length pattern
-  some = pattern_least pattern good
-
   advance_is : r ≡ advanced pattern on character
   advance_is = given ∙ advanced_is pattern masks on b places small ∙ ap (advanced pattern on) is
 
@@ -89,17 +84,17 @@ loop-i-init c =
 pub advance-on-requires : goal.advance-on-requires
 advance-on-requires c =
     let m = c.args.matcher.now in
-    let most : length m.pattern.now - 1 ≤ 63 = omega (arith, pattern_most m.pattern.now m.good) in
+    let most : length m.pattern.now - 1 ≤ 63 = omega (arith, m.most) in
     omega (arith, c.loop-i.invariant.0, m.bit, pow_mono {j = 63} most)
 
 pub overflow_cast-length : goal.overflow_cast-length
 overflow_cast-length c =
-    let m = c.args.matcher.now in omega (arith, pattern_most m.pattern.now m.good)
+    let m = c.args.matcher.now in omega (arith, m.most)
 
 pub overflow_sub-slice : goal.overflow_sub-slice
 overflow_sub-slice c =
     let m = c.args.matcher.now in
-    omega (arith, pattern_most m.pattern.now m.good, fits m.pattern.now m.good m.places m.bit c.loop-i.on _ (omega arith) c.from.ensures c.advance-on.ensures (c.args.count + c.loop-i.i) c.loop-i.invariant.1 c.if-whole-on.true)
+    omega (arith, m.most, fits m.pattern.now m.some m.places m.bit c.loop-i.on _ (omega arith) c.from.ensures c.advance-on.ensures (c.args.count + c.loop-i.i) c.loop-i.invariant.1 c.if-whole-on.true)
 
 pub loop-i-preserved : goal.loop-i-preserved
 loop-i-preserved c =
@@ -108,18 +103,18 @@ loop-i-preserved c =
     let pattern : List ℕ = m.pattern.now in
     let (low, count, few, named) = c.loop-i.invariant in
     let small : c.from.result < 256 = omega arith in
-    let more : c.advance-on.result < 2 ^ (a.count + (c.loop-i.i + 1)) = grown pattern m.good m.places m.bit c.loop-i.on _ small c.from.ensures c.advance-on.ensures (a.count + c.loop-i.i) count (omega arith) in
+    let more : c.advance-on.result < 2 ^ (a.count + (c.loop-i.i + 1)) = grown pattern m.some m.places m.bit c.loop-i.on _ small c.from.ensures c.advance-on.ensures (a.count + c.loop-i.i) count (omega arith) in
     let place : c.loop-i.at < length a.slice.now = omega (arith, c.requires.room) in
-    let is = advance_is pattern m.good m.places m.bit c.loop-i.on _ small c.from.ensures c.advance-on.ensures in
+    let is = advance_is pattern m.some m.places m.bit c.loop-i.on _ small c.from.ensures c.advance-on.ensures in
     elim c.if-whole-on.branch [
       | then-whole-on w ↦
           let h : m.whole ≤ c.advance-on.result = w.if-whole-on.true in
           rw (w.on-is, w.at-is, w.slice-is) (
-            rest_low pattern m.good m.places m.bit c.loop-i.on _ small c.from.ensures c.advance-on.ensures h,
+            rest_low pattern m.some m.places m.bit c.loop-i.on _ small c.from.ensures c.advance-on.ensures h,
             omega arith,
             omega arith,
-            more_hit pattern a.text.now named c.loop-i-test.true is m.bit (pattern_least pattern m.good) (omega (arith, pattern_most pattern m.good)) place
-                (hit pattern m.good m.places m.bit c.loop-i.on _ small c.from.ensures c.advance-on.ensures h),
+            more_hit pattern a.text.now named c.loop-i-test.true is m.bit m.some (omega (arith, m.most)) place
+                (hit pattern m.some m.places m.bit c.loop-i.on _ small c.from.ensures c.advance-on.ensures h),
           )
       | else-whole-on w ↦
           let h : c.advance-on.result < m.whole = w.if-whole-on.false in
@@ -127,6 +122,6 @@ loop-i-preserved c =
             h,
             more,
             omega arith,
-            more_none pattern a.text.now named c.loop-i-test.true is (none pattern m.good m.places m.bit c.loop-i.on _ small c.from.ensures c.advance-on.ensures h),
+            more_none pattern a.text.now named c.loop-i-test.true is (none pattern m.some m.places m.bit c.loop-i.on _ small c.from.ensures c.advance-on.ensures h),
           )
     ]

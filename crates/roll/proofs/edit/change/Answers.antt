@@ -14,9 +14,10 @@ use Rattle.store.specs.Helpers.Replacing.{Located}
 use Rattle.store.specs.Laws.Changing.{first_room, over_text, over_text_few, over_text_within}
 use Rattle.store.specs.declared.measure.Misfit.{Misfit}
 use Rattle.store.specs.declared.measure.Misfit.TheVariants.{Foreign, Over}
-use Rattle.roll.specs.Paper.Operations.{edit_says, Editing}
+use Rattle.roll.specs.Paper.Operations.{edit_says}
+use Rattle.roll.specs.Helpers.Refused.{Changing}
 use Rattle.roll.specs.Laws.Accepting.{right_accepted}
-use Rattle.roll.specs.Laws.Operations.{edit_refused, edit_4}
+use Rattle.roll.specs.Laws.Operations.{change_refused, change_4}
 use Rattle.roll.proofs.edit.change.Goals as goal
 
 module _ {r : Roll} {buf dir : List ℕ} {start end first last : ℕ} (p : Located r buf dir (record { start = start; end = end; first = first; last = last })) (text : List ℕ) where
@@ -26,21 +27,21 @@ module _ {r : Roll} {buf dir : List ℕ} {start end first last : ℕ} (p : Locat
   measured lengths words x e m = subst (λ (n : ℕ). Measured r.table (n - first) text lengths words x) e m
 
   foreign : {n : ℕ} (lengths words : List ℕ) {v : ℕ} → n ≡ room r.table.code.k (length buf) → Measured r.table (n - first) text lengths words (Err (Foreign v))
-      → Editing r buf dir start end text (Err (NotInTable v)) buf dir
+      → Changing r buf dir start end text (Err (NotInTable v)) buf dir
   unfolding Measured edit_says
   foreign lengths words e m =
-      edit_refused (rw (m.0, right_accepted _ _ _ p.held.sound p.right, le-ltb _ _ p.ordered, le-ltb _ _ p.inside, lt-ltb _ _ (rw m.0 at m.1)))
+      change_refused (rw (m.0, right_accepted _ _ _ p.held.sound p.right, le-ltb _ _ p.ordered, le-ltb _ _ p.inside, lt-ltb _ _ (rw m.0 at m.1)))
 
   module _ {n : ℕ} (lengths words : List ℕ) (v : ℕ) (e : n ≡ room r.table.code.k (length buf)) (m : Measured r.table (n - first) text lengths words (Err (Over v))) where
     over_few : start + v ≤ 2 * limit_bound
     unfolding Measured
     over_few = let q = measured lengths words (Err (Over v)) e m in over_text_few p text q.1 q.2
 
-    over : Editing r buf dir start end text (Err (NoRoom (start + v))) buf dir
+    over : Changing r buf dir start end text (Err (NoRoom (start + v))) buf dir
     unfolding Measured
     over =
         let q = measured lengths words (Err (Over v)) e m in
-        edit_4 _ _ _ _ p.held.sound p.right p.ordered p.inside q.0 (over_text p text q.1 q.2) (over_text_within p text q.1 q.2)
+        change_4 _ _ _ _ p.held.sound p.right p.ordered p.inside q.0 (over_text p text q.1 q.2) (over_text_within p text q.1 q.2)
 
 -- the run, by where its ends start
 run : {r : Roll} {buf dir : List ℕ} {start end first last : ℕ} → Sound r buf × Right r buf dir × (start ≤ end) × (end ≤ r.n) → length r.table.places ≡ 256

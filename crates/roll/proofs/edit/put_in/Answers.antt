@@ -15,7 +15,7 @@ use Rattle.store.specs.Laws.Located.{run_inside, count_after}
 use Rattle.store.specs.Laws.Changing.{count_few, over_tail, over_tail_within, over_none}
 use Rattle.store.specs.declared.replace.Run.{Run}
 use Rattle.roll.specs.Paper.Operations.{edit_says}
-use Rattle.roll.specs.Laws.Operations.{edit_refused, edit_4, edit_last, edit_yes}
+use Rattle.roll.specs.Laws.Operations.{change_refused, change_4, edit_last, change_yes}
 use Rattle.roll.proofs.edit.put_in.Goals as goal
 
 module _ {r : Roll} {buf dir lengths words text : List ℕ} {run : Run} {taken : ℕ} (p : Located r buf dir run) (s : Spelled r.table lengths words text taken)
@@ -50,7 +50,7 @@ pub returns-then-left-roll : goal.returns-then-left-roll
 returns-then-left-roll c =
     let p = c.requires in
     let e = rest p.0 p.1 p.2 c.room_of.ensures in
-    edit_4 _ _ _ _ p.0.held.sound p.0.right p.0.ordered p.0.inside p.1.known
+    change_4 _ _ _ _ p.0.held.sound p.0.right p.0.ordered p.0.inside p.1.known
     (over_tail p.0 p.1 p.2 e c.if-left-roll.true c.first_over-over.ensures)
     (over_tail_within p.0 p.1 p.2 e c.if-left-roll.true c.first_over-over.ensures)
 
@@ -61,11 +61,11 @@ pub returns-then-dir-needed : goal.returns-then-dir-needed
 returns-then-dir-needed c =
     let p = c.requires in
     let e = needed p.0 p.1 p.2 c.entries_for-needed.ensures in
-    edit_refused (decided p.0 p.1 p.2 c.room_of.ensures c.if-left-roll.false ∙ rw (lt-ltb _ _ (rw e at c.if-dir-needed.true)) (ap (λ (v : ℕ). refused 12 v) (sym e)))
+    change_refused (decided p.0 p.1 p.2 c.room_of.ensures c.if-left-roll.false ∙ rw (lt-ltb _ _ (rw e at c.if-dir-needed.true)) (ap (λ (v : ℕ). refused 12 v) (sym e)))
 
 pub returns : goal.returns
 returns c =
     let p = c.requires in
     let e = needed p.0 p.1 p.2 c.entries_for-needed.ensures in
     let made = c.replace.ensures in
-    edit_yes (decided p.0 p.1 p.2 c.room_of.ensures c.if-left-roll.false ∙ rw (le-ltb _ _ (rw e at c.if-dir-needed.false))) made.«record» made.bytes made.directory
+    change_yes (decided p.0 p.1 p.2 c.room_of.ensures c.if-left-roll.false ∙ rw (le-ltb _ _ (rw e at c.if-dir-needed.false))) made.«record» made.bytes made.directory

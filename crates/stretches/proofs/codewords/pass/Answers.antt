@@ -39,6 +39,7 @@ pass_all-requires c =
       near = omega (arith, z.few);
       inside = omega (arith, z.few, z.long);
       small = λ i h. omega (arith, small_laid z i (omega arith), (code_base a.ranks.good.code a.ranks.good.good).1);
+      long = c.loop-to.invariant.0;
     }
 
 pub returns-in-Ok : goal.returns-in-Ok

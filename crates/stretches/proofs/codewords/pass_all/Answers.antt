@@ -82,7 +82,7 @@ overflow_sub-c c = most_stops (record { good = c.args.alphabet.now.ranks.good.go
 pub loop-i-init : goal.loop-i-init
 loop-i-init c =
     let a = c.args.alphabet.now in
-    (omega arith, omega arith, omega arith, rw sub_self (any_none a.ranks.good.code a.ranks.good.good a.ranks.sigma a.places.now c.args.text.now))
+    (omega arith, omega arith, c.requires.long, rw sub_self (any_none a.ranks.good.code a.ranks.good.good a.ranks.sigma a.places.now c.args.text.now))
 
 pub overflow_mul-rank : goal.overflow_mul-rank
 overflow_mul-rank c =

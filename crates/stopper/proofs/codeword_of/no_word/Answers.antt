@@ -1,7 +1,7 @@
--- `monterculo::no_word` meets its contract.
+-- `stopper::codeword_of::no_word` meets its contract.
 use Rattle.std.proofs.Common.{refl}
 use Rattle.ground.specs.Paper.Rows.{zeros, padded}
-use Rattle.monterculo.proofs.no_word.Goals as goal
+use Rattle.stopper.proofs.codeword_of.no_word.Goals as goal
 
 pub returns : goal.returns
 unfolding zeros padded

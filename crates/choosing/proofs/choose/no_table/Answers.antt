@@ -1,6 +1,6 @@
--- `monterculo::no_table` meets its contract.
+-- `choosing::choose::no_table` meets its contract.
 use Rattle.ground.specs.Paper.Rows.{zeros, padded}
-use Rattle.monterculo.proofs.no_table.Goals as goal
+use Rattle.choosing.proofs.choose.no_table.Goals as goal
 
 pub returns : goal.returns
 unfolding zeros padded

@@ -1,6 +1,6 @@
--- `monterculo::no_searcher` meets its contract.
+-- `radio::start::no_searcher` meets its contract.
 use Rattle.ground.specs.Paper.Rows.{zeros, padded}
-use Rattle.monterculo.proofs.no_searcher.Goals as goal
+use Rattle.radio.proofs.start.no_searcher.Goals as goal
 
 pub returns : goal.returns
 unfolding zeros padded
