@@ -33,9 +33,9 @@
  *   checksum of your own, and save record, buffer and directory together.
  * - The answered searcher is the one to go on with: keep it in place of the one that was handed in. A hit that feed names
  *   is one of the text read so far; whether the roll is sound is known once monterculo_finish accepts, and not before.
- * - The stack, in bytes and with the arguments: edit 29,000, pack 27,000, search_jumping 19,600, unpack 12,900, search
- *   10,800, feed 5,800, write_frames and make_directory 5,600, check 5,300, codeword_of 3,900, choose 2,300, read_frames
- *   1,700, start, read_one and character_of 1,400, finish 1,200, read_first 1,000, count and read_frame 100. No call takes
+ * - The stack, in bytes and with the arguments: edit 30,700, pack 26,800, search_jumping 21,000, unpack 13,900, search
+ *   12,200, feed 7,400, write_frames and make_directory 6,900, check 6,300, choose 2,300, read_frames 2,200, finish and
+ *   read_first 1,500, start, read_one, character_of and codeword_of 1,400, count and read_frame 100. No call takes
  *   memory from elsewhere. These figures and those of the faults were measured on the archive by tools/measure.c.
  *
  * Sizes to lend.
@@ -287,8 +287,8 @@ struct monterculo_answer monterculo_search(struct monterculo_roll roll, const ui
 
 /* The same search by another way: on every input, refused ones too, it answers and writes what monterculo_search does.
  * It jumps over most of the bytes. Take it for long rolls and patterns of four characters or more. Take the plain one
- * where stack is scarce, as this one takes twice as much. For a pattern of too few symbols to jump by (fewer than 4 with
- * k = 2, one with k = 4) the plain one serves inside.
+ * where stack is scarce: this one takes nearly twice as much. For a pattern of too few symbols to jump by (fewer than 4
+ * with k = 2, one with k = 4) the plain one serves inside.
  * Refused: check's 1, 5, 6, 7, 8, then 11 (0).
  * Writes, and value: as monterculo_search. */
 struct monterculo_answer monterculo_search_jumping(struct monterculo_roll roll, const uint8_t *buf, size_t buf_len,
