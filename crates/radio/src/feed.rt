@@ -5,7 +5,7 @@ ghost use Rattle.radio.specs.Helpers.Kept.{refused_fed};
 ghost use Rattle.radio.specs.Helpers.Following.{followed_none, Follows, Went};
 
 use crate::bounds::kept;
-use crate::matcher::Matcher;
+use crate::matcher::{GoodMatcher, Matcher};
 use crate::matching::{Named, mark_places, name_hits};
 use crate::records::Searcher;
 use ground::refusal::Refusal;
@@ -79,10 +79,12 @@ fn follow(searcher: Searcher, piece: &[u8], all: usize, slice: &mut [u32]) -> Fo
     let pattern = &searcher.pattern[..searcher.length as usize];
     let mut masks = [0u64; 256];
     mark_places(pattern, &mut masks);
-    let matcher = Matcher {
-        pattern,
-        masks: &masks,
-        whole: 1 << (pattern.len() - 1),
+    let good = GoodMatcher {
+        matcher: Matcher {
+            pattern,
+            masks: &masks,
+            whole: 1 << (pattern.len() - 1),
+        },
     };
     let mut text = [0u8; AT_ONCE];
     let mut named = Named {
@@ -98,7 +100,7 @@ fn follow(searcher: Searcher, piece: &[u8], all: usize, slice: &mut [u32]) -> Fo
         let Some(on) = read_stretch(&alphabet, r, piece, i, upto, &mut text) else {
             break;
         };
-        named = name_hits(&matcher, &text[..on.characters], count, named, slice);
+        named = name_hits(&good.matcher, &text[..on.characters], count, named, slice);
         i = on.to;
         r = on.reader;
         if on.ended {

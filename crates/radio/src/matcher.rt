@@ -1,6 +1,6 @@
 // A pattern made ready to be matched.
-ghost use Rattle.std.specs.Prelude.{◌≡◌, ◌≤◌, ◌<◌, length};
-ghost use Rattle.texts.specs.Paper.Hits.{most_pattern};
+ghost use Rattle.std.specs.Prelude.{◌≡◌, ◌≤◌, ◌<◌, T, length};
+ghost use Rattle.texts.specs.Paper.Hits.{good_pattern, most_pattern};
 ghost use Rattle.radio.specs.Paper.Matching.{whole_bit};
 ghost use Rattle.radio.specs.Helpers.Masks.{masks_of};
 
@@ -14,4 +14,11 @@ pub struct Matcher<'a> {
     pub ghost most: { length pattern.now ≤ most_pattern },
     pub ghost places: { masks.now ≡ masks_of pattern.now },
     pub ghost bit: { whole ≡ whole_bit pattern.now },
+}
+
+// A matcher as feed goes by: its pattern is good, so byte 10 is not in it.
+#[derive(Clone, Copy)]
+pub struct GoodMatcher<'a> {
+    pub matcher: Matcher<'a>,
+    pub ghost good: { T (good_pattern matcher.pattern.now) },
 }

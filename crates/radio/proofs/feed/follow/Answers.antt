@@ -147,11 +147,11 @@ pub mark_places-requires : goal.mark_places-requires
 unfolding zeros
 mark_places-requires c = (pattern_most _ c.requires.ready.pattern, refl)
 
-pub overflow_sub-matcher : goal.overflow_sub-matcher
-overflow_sub-matcher c = omega (arith, pattern_some _ _ _ c.requires)
+pub overflow_sub-good : goal.overflow_sub-good
+overflow_sub-good c = omega (arith, pattern_some _ _ _ c.requires)
 
-pub invariant_of-matcher : goal.invariant_of-matcher
-invariant_of-matcher c =
+pub invariant_of-good : goal.invariant_of-good
+invariant_of-good c =
     record { some = pattern_some _ _ _ c.requires; most = pattern_most _ c.requires.ready.pattern; places = c.mark_places.ensures; bit = whole_is _ _ _ c.requires }
 
 pub loop-i-init : goal.loop-i-init
