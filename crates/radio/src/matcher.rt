@@ -16,7 +16,7 @@ pub struct Matcher<'a> {
     pub ghost bit: { whole ≡ whole_bit pattern.now },
 }
 
-// A matcher as feed goes by: its pattern is good, so byte 10 is not in it.
+// The matcher that feed uses: its pattern is good, so byte 10 is not in it.
 #[derive(Clone, Copy)]
 pub struct GoodMatcher<'a> {
     pub matcher: Matcher<'a>,
